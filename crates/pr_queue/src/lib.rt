@@ -1,0 +1,131 @@
+//! A queue of 16 pieces of one size, which takes no memory once it is made.
+#![tactic(auto)]
+
+ghost use Rattle.std.specs.Prelude.{◌≡◌, ◌+◌, ◌<◌, ◌≤◌, ◌↔◌, [], ◌∷◌, ◌++◌, length, IsErr, IfOk, OnOk, OnErr};
+ghost use Rattle.pr_queue.specs.Pieces.{Pieces};
+
+use circular_buffer::HeapCircularBuffer;
+use std::alloc::{AllocError, Global};
+use std::marker::Model;
+use thiserror::Error;
+
+/// How many pieces a queue holds.
+const ROOM: usize = 16;
+
+/// As many pieces wait as a queue holds.
+#[derive(Debug, Drop, Error)]
+#[error("the queue is full")]
+pub struct Full;
+
+/// No piece waits.
+#[derive(Debug, Drop, Error)]
+#[error("the queue is empty")]
+pub struct Empty;
+
+/// Pieces of one size, first in, first out: seen by contracts as the size and the list of the pieces that wait.
+#[derive(Drop)]
+pub struct Queue {
+    ring: HeapCircularBuffer<u8>,
+    size: usize,
+    count: usize,
+}
+
+impl Model for Queue {
+    ghost use Rattle.std.specs.Prelude.{◌≡◌, ◌*◌, ◌<◌, ◌≤◌, length};
+    ghost use Rattle.pr_queue.specs.Pieces.{Pieces, pieces_of};
+
+    ghost Value = { Pieces };
+
+    ghost view = { λ q. record { size = q.size; waiting = pieces_of q.count q.size q.ring.items } };
+
+    ghost invariant = { λ q. (length q.ring.items ≡ q.count * q.size) × (q.count ≤ 16) × (q.ring.capacity ≡ 16 * q.size) × (0 < q.size) };
+}
+
+impl Queue {
+    /// An empty queue for 16 pieces of this many bytes, the only call that takes memory.
+    pub fn make(alloc: Global, bytes: usize) -> Result<Queue, AllocError>
+        requires low { 1 ≤ bytes }
+        requires high { bytes ≤ 1024 }
+        ensures { IfOk result (λ q. q ≡ record { size = bytes; waiting = [] }) }
+    {
+        let ring = HeapCircularBuffer::with_capacity(alloc, ROOM * bytes)?;
+        Ok(Queue {
+            ring,
+            size: bytes,
+            count: 0,
+        })
+    }
+
+    /// How many pieces wait: 16 at most.
+    pub fn len(&self) -> usize
+        ensures count { result ≡ length self.now.waiting }
+        ensures few { result ≤ 16 }
+    {
+        self.count
+    }
+
+    /// Appends a piece of the queue's size.
+    ///
+    /// # Errors
+    ///
+    /// `Full` exactly where 16 pieces wait; the queue is then as it was.
+    pub fn put(&mut self, piece: &[u8]) -> Result<(), Full>
+        requires { length piece.now ≡ self.old.size }
+        ensures full { IsErr result ↔ (length self.old.waiting ≡ 16) }
+        ensures room { OnOk result (length self.old.waiting < 16) }
+        ensures put { OnOk result (self.new ≡ record self.old { waiting = self.old.waiting ++ piece.now ∷ [] }) }
+        ensures same { OnErr result (self.new ≡ self.old) }
+        ensures size { self.new.size ≡ self.old.size }
+    {
+        if self.count == ROOM {
+            return Err(Full);
+        }
+        self.ring.fill_from_slice(piece);
+        self.count += 1;
+        Ok(())
+    }
+
+    /// Takes the front piece into a buffer of the queue's size.
+    ///
+    /// # Errors
+    ///
+    /// `Empty` exactly where no piece waits; the queue and the buffer are then as they were.
+    pub fn get(&mut self, into: &mut [u8]) -> Result<(), Empty>
+        requires { length into.old ≡ self.old.size }
+        ensures empty { IsErr result ↔ (self.old.waiting ≡ []) }
+        ensures some { OnOk result (0 < length self.old.waiting) }
+        ensures got { OnOk result (self.old ≡ record self.new { waiting = into.new ∷ self.new.waiting }) }
+        ensures same { OnErr result ((self.new ≡ self.old) × (into.new ≡ into.old)) }
+        ensures size { self.new.size ≡ self.old.size }
+    {
+        if self.count == 0 {
+            return Err(Empty);
+        }
+        self.ring.read_into(into);
+        self.count -= 1;
+        Ok(())
+    }
+}
+
+#[cfg(test)]
+mod tests {
+    use super::Queue;
+    use std::alloc::AllocError;
+    use std::rt::HostRuntime;
+
+    /// Pieces come out in the order in which they went in, over the ring's end too.
+    #[test]
+    fn first_in_first_out(rt: HostRuntime) -> Result<(), AllocError> {
+        let mut queue = Queue::make(rt.alloc(), 2)?;
+        let mut into = [7u8; 2];
+        assert!(rt; queue.get(&mut into).is_err() && into == [7, 7] && queue.len() == 0);
+        for k in 0..20u8 {
+            assert_eq!(rt; queue.put(&[k, 200 - k]).is_ok(), k < 16);
+        }
+        for k in 0..40u8 {
+            assert!(rt; queue.len() == 16 && queue.get(&mut into).is_ok() && into == [k, 200 - k]);
+            assert!(rt; queue.put(&[k + 16, 184 - k]).is_ok());
+        }
+        Ok(())
+    }
+}
