@@ -1,8 +1,8 @@
 //! What a pipeline of stages makes of a whole list of rows: definitions and their laws. Nothing here runs.
 //!
 //! A pipeline is a function from a stage's number to its step: the state that the stage begins with, and the state and
-//! the row that it makes of a state and a row. Each stage finishes the whole list before the next one sees any of it.
-//! The laws hold for states and rows of every type (`proofs/`); the functions below state them for lists of bytes.
+//! the row that it makes of a state and a row. A stage works through the complete list, and only then does the one above
+//! it begin. The laws hold for states and rows of every type (`proofs/`); the functions below state them for lists of bytes.
 #![tactic(auto)]
 
 ghost use Rattle.std.specs.Prelude.{ℕ, ◌≡◌, ◌+◌, List, ◌++◌, length, take};

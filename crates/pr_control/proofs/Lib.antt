@@ -1,0 +1,7 @@
+pub mod Round
+pub mod Laws
+pub mod Residence
+pub mod ResidentLaws
+pub mod TurnLaws
+pub mod StateRowLaws
+mod Examples

@@ -1,0 +1,4 @@
+pub mod Time
+pub mod Residents
+pub mod Counts
+pub mod StateRows
