@@ -1,0 +1,4 @@
+pub mod Places
+pub mod Schedules
+pub mod Stands
+pub mod Results

@@ -1,0 +1,15 @@
+//! A machine that runs many stages on a few stripes.
+//!
+//! What a machine does is said by the history of its calls: see `Stands`.
+#![tactic(auto)]
+
+mod loaded;
+mod machine;
+mod places;
+mod results;
+mod rooms;
+pub mod theorems;
+
+pub use loaded::Loaded;
+pub use machine::{Bare, Condition, Idle, InFull, LoadRefused, Machine, OutEmpty, Running};
+pub use pr_conf::Turn;

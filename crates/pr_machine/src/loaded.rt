@@ -1,0 +1,197 @@
+//! What a running machine is made of, and one cycle of it.
+
+ghost use Rattle.std.specs.Prelude.{ℕ, ◌≡◌, ◌≢◌, ◌++◌, ◌∷◌, [], ◌<◌, ◌≤◌, ◌-◌, ◌+◌, ◌^◌, Option, Some, None, List, is_some, length, vec_len, vec_capacity, true, false, if◌then◌else◌};
+ghost use Rattle.pr_account.specs.Account.{Cycle, stalled};
+ghost use Rattle.pr_control.specs.Time.{turned};
+ghost use Rattle.pr_conf.specs.Shape.{Shape};
+ghost use Rattle.pr_conf.specs.Configuration.{shape_of};
+ghost use Rattle.pr_conf.specs.Rules.{bytes_in};
+ghost use Rattle.pr_conf.specs.Through.{output_widths, steps_of};
+ghost use Rattle.pr_stands.specs.Cycle.{will_enter, bus_of, rest_of, pushed, HasRoom};
+ghost use Rattle.pr_stripe.specs.Rows.{entering as row_if};
+ghost use Rattle.pr_machine.specs.Places.{AreHere, AreBare, rows_of};
+ghost use Rattle.pr_machine.specs.Schedules.{IsScheduled};
+
+use crate::places::{Place, Schedule, is_stalled, pass};
+use crate::rooms::Room;
+use pr_conf::{Configuration, Turn};
+use pr_control::Plan;
+
+/// What a running machine is made of.
+#[derive(Drop)]
+pub struct Loaded<const N: usize, const P: usize> {
+    pub(crate) conf: Configuration<N, P>,
+    pub(crate) places: Vec<Place<N, P>>,
+    pub(crate) room: Room<N>,
+    pub(crate) plan: Plan,
+    pub(crate) entered: u64,
+    pub(crate) left: u64,
+    ghost two: { 2 ≤ vec_len places },
+    ghost small: { vec_len places ≤ 256 },
+    ghost plan_stages: { plan.stages ≡ vec_len conf.stages },
+    ghost plan_stripes: { plan.stripes ≡ vec_len places },
+    ghost here: { AreHere (vec_len conf.stages) places.items },
+    ghost rows: { length room.store ≡ vec_len conf.stages },
+    ghost input: { room.input.size ≡ bytes_in (shape_of conf).inputs },
+    ghost output: { room.output.size ≡ bytes_in (output_widths (shape_of conf)) },
+    ghost sample: { vec_len room.sample ≡ bytes_in (shape_of conf).inputs },
+    ghost buffer: { bytes_in (output_widths (shape_of conf)) ≤ vec_capacity room.result },
+    ghost entered_in: { entered ≤ plan.time },
+    ghost left_in: { left ≤ plan.time },
+}
+
+/// Takes the sample that enters into the room's buffer, and says whether one does. On a bubble the buffer is zero.
+fn enter<const N: usize>(room: &mut Room<N>, first: Option<usize>) -> bool
+    requires { vec_len room.old.sample ≡ room.old.input.size }
+    ensures bus { row_if result room.new.sample.items ≡ bus_of room.old.input.waiting first }
+    ensures rest { room.new.input.waiting ≡ rest_of room.old.input.waiting first }
+    ensures size { room.new.input.size ≡ room.old.input.size }
+    ensures length { vec_len room.new.sample ≡ vec_len room.old.sample }
+    ensures others { (room.new.store ≡ room.old.store) × (room.new.output ≡ room.old.output) × (room.new.result ≡ room.old.result) }
+{
+    room.sample.fill(0);
+    match first {
+        None => false,
+        Some(_) => room.input.get(&mut room.sample).is_ok(),
+    }
+}
+
+/// Puts the result that left into its queue.
+fn put_result<const N: usize>(room: &mut Room<N>, left: bool)
+    requires { left ≡ true → length room.old.result.items ≡ room.old.output.size }
+    ensures put { HasRoom room.old.output.waiting (row_if left room.old.result.items) → room.new.output.waiting ≡ pushed room.old.output.waiting (row_if left room.old.result.items) }
+    ensures size { room.new.output.size ≡ room.old.output.size }
+    ensures others { (room.new.store ≡ room.old.store) × (room.new.input ≡ room.old.input) × (room.new.result ≡ room.old.result) × (room.new.sample ≡ room.old.sample) }
+{
+    if left {
+        let _told = room.output.put(&room.result);
+    }
+}
+
+/// A number, where something has it.
+fn numbered(holds: bool, number: u64) -> Option<u64>
+    ensures { result ≡ (if holds then Some number else None) }
+{
+    if holds { Some(number) } else { None }
+}
+
+/// One, where it holds.
+fn counted(holds: bool) -> u64
+    ensures is { result ≡ (if holds then 1 else 0) }
+    ensures few { result ≤ 1 }
+{
+    if holds { 1 } else { 0 }
+}
+
+/// An event as (stage, stripe).
+fn configured(event: Option<(u32, u32)>) -> Option<(u32, u32)>
+    ensures { result ≡ turned event }
+{
+    match event {
+        None => None,
+        Some((stripe, stage)) => Some((stage, stripe)),
+    }
+}
+
+impl<const N: usize, const P: usize> Loaded<N, P> {
+    ghost use Rattle.pr_machine.specs.Stands.{PartsStand, History, account_of, next_turn};
+
+    /// The parts of a machine at cycle 0.
+    pub(crate) fn at_start(
+        conf: Configuration<N, P>,
+        places: Vec<Place<N, P>>,
+        room: Room<N>,
+    ) -> Self
+        requires two { 2 ≤ vec_len places }
+        requires small { vec_len places ≤ 256 }
+        requires bare { AreBare places.items }
+        requires states { (s : ℕ) → s < vec_len conf.stages → rows_of room.store s ≡ (steps_of N P (shape_of conf) s).init }
+        requires rows { length room.store ≡ vec_len conf.stages }
+        requires input { room.input ≡ record { size = bytes_in (shape_of conf).inputs; waiting = [] } }
+        requires output { room.output ≡ record { size = bytes_in (output_widths (shape_of conf)); waiting = [] } }
+        requires sample { vec_len room.sample ≡ bytes_in (shape_of conf).inputs }
+        requires buffer { bytes_in (output_widths (shape_of conf)) ≤ vec_capacity room.result }
+        ensures stands { PartsStand result (shape_of conf.entry) (length places.entry.items) [] }
+        ensures conf { result.conf ≡ conf.entry }
+    {
+        let plan = Plan::make(conf.stages() as u32, places.len() as u32);
+        Loaded {
+            conf,
+            places,
+            room,
+            plan,
+            entered: 0,
+            left: 0,
+        }
+    }
+
+    /// What the next cycle is to do.
+    pub(crate) fn schedule(&self) -> Schedule
+        ensures { IsScheduled (vec_len self.now.conf.stages) (vec_len self.now.places) self.now.plan.time result }
+    {
+        Schedule {
+            ring: self.plan.ring(),
+            first: self.plan.active(0),
+            last: self.plan.active(self.conf.stages() as u32 - 1),
+        }
+    }
+
+    /// Whether the next cycle is stalled.
+    pub(crate) fn is_held(&self, schedule: &Schedule) -> bool
+        requires { IsScheduled (vec_len self.now.conf.stages) (vec_len self.now.places) self.now.plan.time schedule.now }
+        ensures { (c : Shape) (p : ℕ) (h : History) → PartsStand self.now c p h → result ≡ stalled (length c.stages) p (account_of c p h) }
+    {
+        let entering = may_enter(schedule.first, self.room.input.len());
+        is_stalled(
+            &self.places,
+            self.conf.stages(),
+            entering,
+            schedule.last,
+            self.room.output.len(),
+        )
+    }
+
+    /// A cycle that is not stalled.
+    pub(crate) fn advance(&mut self, schedule: &Schedule) -> Turn
+        requires schedule { IsScheduled (vec_len self.old.conf.stages) (vec_len self.old.places) self.old.plan.time schedule.now }
+        requires time { self.old.plan.time < 2 ^ 63 }
+        ensures stands { (c : Shape) (p : ℕ) (h : History) → PartsStand self.old c p h → stalled (length c.stages) p (account_of c p h) ≡ false → PartsStand self.new c p (h ++ Cycle ∷ []) }
+        ensures turn { (c : Shape) (p : ℕ) (h : History) → PartsStand self.old c p h → result ≡ next_turn (length c.stages) p (account_of c p h) }
+        ensures advanced { result.advanced ≡ true }
+        ensures conf { self.new.conf ≡ self.old.conf }
+        ensures stripes { vec_len self.new.places ≡ vec_len self.old.places }
+        ensures time { self.new.plan.time ≡ self.old.plan.time + 1 }
+    {
+        let event = self.plan.next();
+        let entering = enter(&mut self.room, schedule.first);
+        let passed = pass(
+            &mut self.places,
+            &self.conf,
+            &mut self.room,
+            schedule,
+            event,
+            entering,
+        );
+        put_result(&mut self.room, passed.left);
+        let turn = Turn {
+            advanced: true,
+            configured: configured(event),
+            saved: passed.saved,
+            entered: numbered(entering, self.entered),
+            left: numbered(passed.left, self.left),
+        };
+        self.entered += counted(entering);
+        self.left += counted(passed.left);
+        turn
+    }
+}
+
+/// Whether a sample would enter.
+fn may_enter(first: Option<usize>, waiting: usize) -> bool
+    ensures { result ≡ will_enter waiting first }
+{
+    match first {
+        None => false,
+        Some(_) => 0 < waiting,
+    }
+}

@@ -1,0 +1,357 @@
+//! One cycle of a list of stripes, in place.
+
+ghost use Rattle.std.specs.Prelude.{ℕ, ◌≡◌, ◌≢◌, ◌+◌, ◌-◌, ◌<◌, ◌≤◌, ◌^◌, ◌&&◌, ◌==◌, Option, Some, None, IfSome, List, [], length, slice_index_or, vec_len, vec_capacity, true, is_some};
+ghost use Rattle.std.specs.Option.{option_map};
+ghost use Rattle.pr_control.specs.Time.{before, turned, IsInside};
+ghost use Rattle.pr_conf.specs.Configuration.{shape_of};
+ghost use Rattle.pr_conf.specs.Rules.{are_lawful_pes, site_of, bytes_in};
+ghost use Rattle.pr_conf.specs.Through.{steps_of, tapped, output_widths};
+ghost use Rattle.pr_stands.specs.Spots.{Spot, Held, shows, stage_in, stepped, saved};
+ghost use Rattle.pr_stands.specs.Cycle.{will_leave as leaving_by, leaves, AreStepped, IsRingStep, IsLineStep, IsTurned, IsPass, saved_by};
+ghost use Rattle.pr_stripe.specs.Rows.{shown};
+ghost use Rattle.pr_stripe.specs.Rows.{entering as row_if};
+ghost use Rattle.pr_machine.specs.Places.{seen, place_at, spots_of, rows_of, is_there, IsHere, AreHere};
+
+use crate::results::read_result;
+use crate::rooms::Room;
+use pr_conf::{Configuration, Stage};
+use pr_control::{Store, place_back, place_before};
+use pr_stripe::{Blank, Live, Row, Stripe};
+use std::mem;
+
+/// A place of a machine's list of stripes.
+#[derive(Drop)]
+pub enum Place<const N: usize, const P: usize> {
+    /// A stripe without a stage.
+    Blank(Stripe<N, P, Blank>),
+    /// A stripe with a stage.
+    Live(Stripe<N, P, Live>),
+    /// The stripe was taken out, within a call.
+    Away,
+}
+
+/// A stage of a configuration, which is lawful at its number.
+fn stage_at<const N: usize, const P: usize>(conf: &Configuration<N, P>, number: u32) -> &Stage<N>
+    requires { number < vec_len conf.now.stages }
+    ensures pes { slice_index_or (shape_of conf.now).stages number [] ≡ result.now.pes.items }
+    ensures lawful { are_lawful_pes (site_of N P (bytes_in (shape_of conf.now).inputs) number) result.now.pes.items ≡ true }
+{
+    &conf.stages[number as usize]
+}
+
+/// The row that a place shows.
+fn row_at<const N: usize, const P: usize>(place: &Place<N, P>) -> &Row<N, P>
+    requires { is_there place.now ≡ true }
+    ensures { shown result.now ≡ shows (seen place.now) }
+{
+    match place {
+        Place::Blank(stripe) => stripe.row(),
+        Place::Live(stripe) => stripe.row(),
+        Place::Away => unreachable!(),
+    }
+}
+
+/// What a place becomes in a cycle in which its stage computes.
+fn computed<const N: usize, const P: usize>(
+    was: Place<N, P>,
+    prev: &Place<N, P>,
+    conf: &Configuration<N, P>,
+    sample: &[u8],
+    valid: bool,
+) -> Place<N, P>
+    requires here { IsHere (vec_len conf.now.stages) was }
+    requires prev { is_there prev.now ≡ true }
+    requires sample { length sample.now ≡ bytes_in (shape_of conf.now).inputs }
+    ensures step { seen result ≡ stepped (steps_of N P (shape_of conf.now)) (row_if valid sample.now) (seen was.entry) (shows (seen prev.now)) }
+    ensures here { IsHere (vec_len conf.now.stages) result }
+{
+    match was {
+        Place::Live(mut stripe) => {
+            let number = stripe.stage_number();
+            let row = row_at(prev);
+            let valid = if number == 0 { valid } else { row.valid() };
+            stripe.compute(row, sample, valid, stage_at(conf, number));
+            Place::Live(stripe)
+        }
+        other => other,
+    }
+}
+
+/// What a place becomes when an event falls on it: its stage is saved, and another takes the stripe.
+fn renewed<const N: usize, const P: usize>(
+    was: Place<N, P>,
+    store: &mut Store<N>,
+    stage: u32,
+) -> Place<N, P>
+    requires here { IsHere (length store.old) was }
+    requires stage { stage < length store.old }
+    ensures save { (s : ℕ) → s < length store.old → rows_of store.new s ≡ saved (rows_of store.old) (seen was.entry) s }
+    ensures armed { seen result ≡ Held stage (rows_of store.new stage) None }
+    ensures size { length store.new ≡ length store.old }
+    ensures here { IsHere (length store.old) result }
+{
+    let blank = match was {
+        Place::Blank(stripe) => stripe,
+        Place::Live(stripe) => stripe.retire().save(store),
+        Place::Away => unreachable!(),
+    };
+    Place::Live(blank.arm(stage, store))
+}
+
+/// One place computes, and reads what the place `from` shows.
+#[tactic(auto, using(crate::proofs::Here::there))]
+fn step_at<const N: usize, const P: usize>(
+    places: &mut [Place<N, P>],
+    conf: &Configuration<N, P>,
+    at: usize,
+    from: usize,
+    sample: &[u8],
+    valid: bool,
+)
+    requires at { at < length places.old }
+    requires from { from < length places.old }
+    requires apart { at ≢ from }
+    requires here { AreHere (vec_len conf.now.stages) places.old }
+    requires sample { length sample.now ≡ bytes_in (shape_of conf.now).inputs }
+    ensures others { (j : ℕ) → j ≢ at → place_at places.new j ≡ place_at places.old j }
+    ensures step { spots_of places.new at ≡ stepped (steps_of N P (shape_of conf.now)) (row_if valid sample.now) (spots_of places.old at) (shows (spots_of places.old from)) }
+    ensures here { IsHere (vec_len conf.now.stages) (place_at places.new at) }
+{
+    let was = mem::replace(&mut places[at], Place::Away);
+    let now = computed(was, &places[from], conf, sample, valid);
+    places[at] = now;
+}
+
+/// The event of a cycle: the stripe of a place is emptied into the store, and armed.
+fn turn_over<const N: usize, const P: usize>(
+    places: &mut [Place<N, P>],
+    store: &mut Store<N>,
+    at: usize,
+    stage: u32,
+)
+    requires at { at < length places.old }
+    requires stage { stage < length store.old }
+    requires here { IsHere (length store.old) (place_at places.old at) }
+    ensures others { (j : ℕ) → j ≢ at → place_at places.new j ≡ place_at places.old j }
+    ensures save { (s : ℕ) → s < length store.old → rows_of store.new s ≡ saved (rows_of store.old) (spots_of places.old at) s }
+    ensures armed { spots_of places.new at ≡ Held stage (rows_of store.new stage) None }
+    ensures size { length store.new ≡ length store.old }
+    ensures here { IsHere (length store.old) (place_at places.new at) }
+{
+    let was = mem::replace(&mut places[at], Place::Away);
+    let now = renewed(was, store, stage);
+    places[at] = now;
+}
+
+/// Each place but `q` computes in place, from the one before `q` back to the one after it, so that each reads what the
+/// place before it showed at the start.
+fn step_ring<const N: usize, const P: usize>(
+    places: &mut [Place<N, P>],
+    conf: &Configuration<N, P>,
+    q: usize,
+    sample: &[u8],
+    valid: bool,
+)
+    requires at { q < length places.old }
+    requires two { 2 ≤ length places.old }
+    requires small { length places.old ≤ 256 }
+    requires here { AreHere (vec_len conf.now.stages) places.old }
+    requires sample { length sample.now ≡ bytes_in (shape_of conf.now).inputs }
+    ensures ring { IsRingStep (steps_of N P (shape_of conf.now)) (row_if valid sample.now) (length places.old) q (spots_of places.old) (spots_of places.new) }
+    ensures here { AreHere (vec_len conf.now.stages) places.new }
+{
+    let n = places.len();
+    for d in 0..n - 1 {
+        let at = place_back(n, q, d);
+        step_at(places, conf, at, place_before(n, at), sample, valid);
+    }
+}
+
+/// Each place computes, and the first one last: it holds stage 0, which reads no other place, or no stage.
+fn step_line<const N: usize, const P: usize>(
+    places: &mut [Place<N, P>],
+    conf: &Configuration<N, P>,
+    sample: &[u8],
+    valid: bool,
+)
+    requires two { 2 ≤ length places.old }
+    requires small { length places.old ≤ 256 }
+    requires here { AreHere (vec_len conf.now.stages) places.old }
+    requires sample { length sample.now ≡ bytes_in (shape_of conf.now).inputs }
+    ensures line { IsLineStep (steps_of N P (shape_of conf.now)) (row_if valid sample.now) (length places.old) (spots_of places.old) (spots_of places.new) }
+    ensures here { AreHere (vec_len conf.now.stages) places.new }
+{
+    step_ring(places, conf, 0, sample, valid);
+    step_at(places, conf, 0, places.len() - 1, sample, valid);
+}
+
+/// Each place computes, but that of the cycle's event where every cycle has one.
+fn compute<const N: usize, const P: usize>(
+    places: &mut [Place<N, P>],
+    conf: &Configuration<N, P>,
+    ring: Option<usize>,
+    sample: &[u8],
+    valid: bool,
+)
+    requires two { 2 ≤ length places.old }
+    requires small { length places.old ≤ 256 }
+    requires here { AreHere (vec_len conf.now.stages) places.old }
+    requires sample { length sample.now ≡ bytes_in (shape_of conf.now).inputs }
+    requires ring { IfSome ring (λ q. q < length places.old) }
+    ensures stepped { AreStepped (steps_of N P (shape_of conf.now)) (row_if valid sample.now) (length places.old) ring (spots_of places.old) (spots_of places.new) }
+    ensures here { AreHere (vec_len conf.now.stages) places.new }
+{
+    match ring {
+        None => step_line(places, conf, sample, valid),
+        Some(q) => step_ring(places, conf, q, sample, valid),
+    }
+}
+
+/// The stage in a place.
+fn stage_in_place<const N: usize, const P: usize>(place: &Place<N, P>) -> Option<u32>
+    ensures { result ≡ stage_in (seen place.now) }
+{
+    match place {
+        Place::Live(stripe) => Some(stripe.stage_number()),
+        Place::Blank(_) | Place::Away => None,
+    }
+}
+
+/// The event of a cycle, if there is one: the stage that was saved for it.
+fn turn<const N: usize, const P: usize>(
+    places: &mut [Place<N, P>],
+    store: &mut Store<N>,
+    event: Option<(u32, u32)>,
+) -> Option<u32>
+    requires here { AreHere (length store.old) places.old }
+    requires inside { IsInside (length store.old) (length places.old) event }
+    ensures saved { result ≡ saved_by (spots_of places.old) (turned event) }
+    ensures turned { IsTurned (length store.old) (turned event) (spots_of places.old) (spots_of places.new) (rows_of store.old) (rows_of store.new) }
+    ensures size { length store.new ≡ length store.old }
+    ensures here { AreHere (length store.old) places.new }
+{
+    match event {
+        None => None,
+        Some((at, stage)) => {
+            let saved = stage_in_place(&places[at as usize]);
+            turn_over(places, store, at as usize, stage);
+            saved
+        }
+    }
+}
+
+/// What one cycle is to do: the stripe of the event, where every cycle has one, and the stripes in which the first and
+/// the last stage compute.
+#[derive(Clone, Copy)]
+pub struct Schedule {
+    pub(crate) ring: Option<usize>,
+    pub(crate) first: Option<usize>,
+    pub(crate) last: Option<usize>,
+}
+
+/// What a cycle of the stripes did: whether a result left, and the stage that was saved.
+#[derive(Clone, Copy)]
+pub struct Passed {
+    pub(crate) left: bool,
+    pub(crate) saved: Option<u32>,
+}
+
+/// Whether the last stage would compute a valid row. A single stage reads what enters.
+#[tactic(auto, using(crate::proofs::Here::there))]
+fn will_leave<const N: usize, const P: usize>(
+    places: &[Place<N, P>],
+    stages: usize,
+    entering: bool,
+    last: Option<usize>,
+) -> bool
+    requires here { AreHere stages places.now }
+    requires last { IfSome last (λ i. i < length places.now) }
+    ensures { result ≡ leaving_by (length places.now) (spots_of places.now) (stages == 1) entering last }
+{
+    match last {
+        None => false,
+        Some(at) => {
+            if stages == 1 {
+                entering
+            } else {
+                row_at(&places[place_before(places.len(), at)]).valid()
+            }
+        }
+    }
+}
+
+/// Whether the last stage would compute a valid row while 16 results wait.
+pub(crate) fn is_stalled<const N: usize, const P: usize>(
+    places: &[Place<N, P>],
+    stages: usize,
+    entering: bool,
+    last: Option<usize>,
+    ready: usize,
+) -> bool
+    requires here { AreHere stages places.now }
+    requires last { IfSome last (λ i. i < length places.now) }
+    ensures { result ≡ (leaving_by (length places.now) (spots_of places.now) (stages == 1) entering last && ready == 16) }
+{
+    will_leave(places, stages, entering, last) && ready == 16
+}
+
+/// Reads the result that leaves, if one does.
+#[tactic(auto, using(crate::proofs::Here::there))]
+fn leaving<const N: usize, const P: usize>(
+    places: &[Place<N, P>],
+    conf: &Configuration<N, P>,
+    last: Option<usize>,
+    into: &mut Vec<u8>,
+) -> bool
+    requires here { AreHere (vec_len conf.now.stages) places.now }
+    requires last { IfSome last (λ i. i < length places.now) }
+    requires room { bytes_in (output_widths (shape_of conf.now)) ≤ vec_capacity into.old }
+    ensures result { row_if result into.new.items ≡ option_map (tapped N (shape_of conf.now)) (leaves (spots_of places.now) last) }
+    ensures length { result ≡ true → length into.new.items ≡ bytes_in (output_widths (shape_of conf.now)) }
+    ensures room { vec_capacity into.old ≤ vec_capacity into.new }
+{
+    match last {
+        None => false,
+        Some(at) => {
+            let row = row_at(&places[at]);
+            if !row.valid() {
+                return false;
+            }
+            read_result(conf, row, into);
+            true
+        }
+    }
+}
+
+/// A whole cycle of the stripes and the store, with the sample in the room's buffer where it enters. A result that
+/// leaves is in the room's buffer for it.
+pub(crate) fn pass<const N: usize, const P: usize>(
+    places: &mut [Place<N, P>],
+    conf: &Configuration<N, P>,
+    room: &mut Room<N>,
+    schedule: &Schedule,
+    event: Option<(u32, u32)>,
+    entering: bool,
+) -> Passed
+    requires two { 2 ≤ length places.old }
+    requires small { length places.old ≤ 256 }
+    requires here { AreHere (vec_len conf.now.stages) places.old }
+    requires rows { length room.old.store ≡ vec_len conf.now.stages }
+    requires sample { vec_len room.old.sample ≡ bytes_in (shape_of conf.now).inputs }
+    requires buffer { bytes_in (output_widths (shape_of conf.now)) ≤ vec_capacity room.old.result }
+    requires ring { IfSome schedule.now.ring (λ q. q < length places.old) }
+    requires last { IfSome schedule.now.last (λ i. i < length places.old) }
+    requires inside { IsInside (vec_len conf.now.stages) (length places.old) event }
+    ensures pass { IsPass (steps_of N P (shape_of conf.now)) (tapped N (shape_of conf.now)) (vec_len conf.now.stages) (length places.old) schedule.now.ring schedule.now.last event (row_if entering room.old.sample.items)
+        (spots_of places.old) (spots_of places.new) (rows_of room.old.store) (rows_of room.new.store) (row_if result.left room.new.result.items) result.saved }
+    ensures length { result.left ≡ true → length room.new.result.items ≡ bytes_in (output_widths (shape_of conf.now)) }
+    ensures rows { length room.new.store ≡ length room.old.store }
+    ensures buffer { vec_capacity room.old.result ≤ vec_capacity room.new.result }
+    ensures others { (room.new.input ≡ room.old.input) × (room.new.output ≡ room.old.output) × (room.new.sample ≡ room.old.sample) }
+    ensures here { AreHere (vec_len conf.now.stages) places.new }
+{
+    compute(places, conf, schedule.ring, &room.sample, entering);
+    let left = leaving(places, conf, schedule.last, &mut room.result);
+    let saved = turn(places, &mut room.store, event);
+    Passed { left, saved }
+}

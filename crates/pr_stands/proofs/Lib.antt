@@ -1,0 +1,9 @@
+pub mod InPlace
+pub mod Fits
+pub mod CycleLaws
+pub mod Entering
+pub mod StandsLaws
+pub mod EventLaws
+pub mod Numbered
+pub mod StandingLaws
+pub mod HistoryLaws
