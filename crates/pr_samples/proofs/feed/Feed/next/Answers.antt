@@ -1,0 +1,34 @@
+use Rattle.std.proofs.Common.{◌≡◌, [], ap, sym, ◌∙◌, arith, append-nil, inl, inr}
+use Rattle.pr_samples.specs.declared.tails.Tail.{Tail}
+use Rattle.pr_samples.specs.Feed.{pending_of, widths_of}
+use Rattle.pr_samples.specs.Scan.{taken_of, fresh, first_line}
+use Rattle.pr_samples.proofs.FedLemmas.{first_line-none, found_is_met, line_found}
+use Rattle.pr_samples.proofs.ReadingLemmas.{window-none, window-empty}
+use Rattle.pr_samples.proofs.Reading.{found_step}
+use Rattle.pr_samples.proofs.feed.Feed.next.Goals as goal
+
+pub returns-in-Some-clause-told : goal.returns-in-Some-clause-told
+returns-in-Some-clause-told g c = λ file tells reads.
+    let f = c.args.self.now in
+    let met = found_step f c.meet-met.new.self _ (taken_of c.in-Some.met c.meet-met.new.self.numbers.items) file reads c.meet-met.ensures.file c.meet-met.ensures.bytes (λ more. rw c.in-Some.is at (c.meet-met.ensures.first more)) in
+    rw c.meet-met.ensures.bytes.given at (c.settle.ensures.told file met)
+
+pub returns-in-Some-clause-missing : goal.returns-in-Some-clause-missing
+returns-in-Some-clause-missing g c = λ missing nothing.
+    let f = c.args.self.now in
+    let none : pending_of f ≡ [] = window-empty f.start f.end f.buffer.items (omega (arith, f.lines, nothing.0)) in
+    let is = rw (none, first_line-none) at (rw c.in-Some.is at (c.meet-met.ensures.first [])) in
+    absurd (found_is_met _ _ _ _ _ is)
+
+pub returns-then-is_open-clause-quiet : goal.returns-then-is_open-clause-quiet
+returns-then-is_open-clause-quiet g c = λ ready.
+    let f = c.args.self.now in
+    let f' = c.meet-met.new.self in
+    let is_open : f.tail ≡ Tail.Open = sym c.meet-met.ensures.bytes.tail ∙ c.is_open.ensures.0 c.if-is_open.true in
+    let spent : f'.start ≡ f'.end = rw c.in_default.is at c.meet-met.ensures.all in
+    let none : pending_of f' ≡ [] = window-none f'.start f'.end f'.buffer.items spent in
+    let is = rw (none, first_line-none) at (rw c.in_default.is at (c.meet-met.ensures.first [])) in
+    elim ready [
+      | inl line ↦ absurd (line_found (widths_of f) f.passed (pending_of f) _ _ line (ap (first_line (widths_of f) (fresh (widths_of f)) f.passed) (sym (append-nil (pending_of f))) ∙ sym is))
+      | inr tail ↦ absurd (tail is_open)
+    ]

@@ -1,0 +1,305 @@
+//! Samples that are read one after the other from a file of any size.
+ghost use Rattle.std.specs.Prelude.{◌≡◌, ◌≢◌, ℕ, ◌+◌, ◌-◌, ◌*◌, ◌^◌, ◌<◌, ◌≤◌, ◌⊎◌, ◌++◌, List, All, false, take, length, vec_len, Option, Some, None, IfOk, IfSome, IfNone, IsErr, string_bytes};
+ghost use Rattle.pr_edge.specs.Files.{IsMissing, HasReadCause, IsPart};
+ghost use Rattle.pr_samples.specs.declared.tails.Tail.{Tail};
+ghost use Rattle.pr_samples.specs.declared.scan.Met.{Met};
+ghost use Rattle.pr_samples.specs.Scan.{scan_of, first_line, begun, taken_of, met_first, whole_end, cut_end};
+ghost use Rattle.pr_samples.specs.Got.{is_sample, given_by};
+
+use crate::scan::{Cursor, Met, START, met_cut, met_whole, read_part};
+use crate::tails::Tail;
+use pr_base::{Cap, Num};
+use pr_edge::Shelf;
+use std::alloc::{AllocError, Global};
+
+/// The bytes of the buffer of a feed.
+const BUFFER: usize = 65_536;
+
+/// The bytes of a file that a feed reads at most.
+const LIMIT: u64 = 17_592_186_044_416;
+
+/// The samples that a feed gives at most.
+const MOST: u64 = 1_099_511_627_776;
+
+/// What a feed answers.
+#[derive(Clone, Copy, PartialEq, Eq, Debug)]
+pub enum Got {
+    /// The next sample.
+    Sample,
+    /// No line is left that is not blank.
+    End,
+    /// The line of this number, counted from 1, is not blank and no sample.
+    BadSample { line: u64 },
+    /// The file could not be read.
+    ReadFault,
+    /// The file, or its samples, passed this limit.
+    Limit(Cap),
+}
+
+/// A file of samples that is read from its beginning, with a buffer of a fixed size.
+#[derive(Drop)]
+pub struct Feed {
+    name: String,
+    widths: Vec<u8>,
+    numbers: Vec<Num>,
+    buffer: Vec<u8>,
+    start: usize,
+    end: usize,
+    place: u64,
+    tail: Tail,
+    passed: u64,
+    given: u64,
+    most: u64,
+    limit: u64,
+    ghost lawful: { All (λ w. w ≤ 128) widths.items },
+    ghost one_each: { vec_len numbers ≡ vec_len widths },
+    ghost size: { vec_len buffer ≡ 65536 },
+    ghost window: { start ≤ end },
+    ghost within: { end ≤ vec_len buffer },
+    ghost lines: { passed + (end - start) ≤ place },
+    ghost far: { place ≤ limit + 65536 },
+    ghost low: { limit ≤ 2 ^ 44 },
+    ghost few: { given ≤ most },
+    ghost open: { tail ≡ Tail.Open → place ≤ limit },
+}
+
+impl Feed {
+    ghost use Rattle.pr_samples.specs.Feed.{name_of, widths_of, limit_of, most_of, given_of, place_of, pending_of, reads_nothing, has_line, IsReady, SameFile, SameBytes, StandsFor, IsReadBy, IsMet, Tells, Gives, tail_after};
+
+    /// A feed over the file of this name, with an input of each of these widths.
+    pub fn make(alloc: Global, name: &str, widths: &[u8]) -> Result<Feed, AllocError>
+        requires { All (λ w. (1 ≤ w) × (w ≤ 128)) widths.now }
+        ensures name { IfOk result (λ f. name_of f ≡ name.now) }
+        ensures widths { IfOk result (λ f. widths_of f ≡ widths.now) }
+        ensures limit { IfOk result (λ f. limit_of f ≡ 2 ^ 44) }
+        ensures most { IfOk result (λ f. most_of f ≡ 2 ^ 40) }
+        ensures start { IfOk result (λ f. reads_nothing f × (given_of f ≡ 0)) }
+        ensures stands { IfOk result (λ f. (file : List ℕ) → StandsFor f file) }
+    {
+        Feed::make_within(alloc, name, widths, MOST)
+    }
+
+    /// A feed that gives at most so many samples.
+    pub fn make_within(
+        alloc: Global,
+        name: &str,
+        widths: &[u8],
+        most: u64,
+    ) -> Result<Feed, AllocError>
+        requires widths { All (λ w. (1 ≤ w) × (w ≤ 128)) widths.now }
+        requires most { most ≤ 2 ^ 40 }
+        ensures name { IfOk result (λ f. name_of f ≡ name.now) }
+        ensures widths { IfOk result (λ f. widths_of f ≡ widths.now) }
+        ensures limit { IfOk result (λ f. limit_of f ≡ 2 ^ 44) }
+        ensures most { IfOk result (λ f. most_of f ≡ most) }
+        ensures start { IfOk result (λ f. reads_nothing f × (given_of f ≡ 0)) }
+        ensures stands { IfOk result (λ f. (file : List ℕ) → StandsFor f file) }
+    {
+        Feed::make_bounded(alloc, name, widths, most, LIMIT)
+    }
+
+    /// A feed that gives at most so many samples from so many bytes.
+    fn make_bounded(
+        alloc: Global,
+        name: &str,
+        widths: &[u8],
+        most: u64,
+        limit: u64,
+    ) -> Result<Feed, AllocError>
+        requires widths { All (λ w. (1 ≤ w) × (w ≤ 128)) widths.now }
+        requires limit { limit ≤ 2 ^ 44 }
+        ensures name { IfOk result (λ f. name_of f ≡ name.now) }
+        ensures widths { IfOk result (λ f. widths_of f ≡ widths.now) }
+        ensures limit { IfOk result (λ f. limit_of f ≡ limit) }
+        ensures most { IfOk result (λ f. most_of f ≡ most) }
+        ensures start { IfOk result (λ f. reads_nothing f × (given_of f ≡ 0)) }
+        ensures stands { IfOk result (λ f. (file : List ℕ) → StandsFor f file) }
+    {
+        let name = String::from_str(alloc, name)?;
+        let kept = Vec::from_slice(alloc, widths)?;
+        let numbers = vec![in alloc; 0; widths.len()]?;
+        let buffer = vec![in alloc; 0; BUFFER]?;
+        Ok(Feed {
+            name,
+            widths: kept,
+            numbers,
+            buffer,
+            start: 0,
+            end: 0,
+            place: 0,
+            tail: Tail::Open,
+            passed: 0,
+            given: 0,
+            most,
+            limit,
+        })
+    }
+
+    /// The number of samples that it gave.
+    pub fn given(&self) -> u64
+        ensures { result ≡ given_of self.now }
+    {
+        self.given
+    }
+
+    /// Reads the bytes of the buffer up to the first line that is not blank.
+    fn meet(&mut self, cursor: Cursor) -> (Cursor, Option<Met>)
+        requires { cursor.done + begun cursor.phase ≤ length (widths_of self.old) }
+        ensures all { IfNone result.1 (self.new.start ≡ self.new.end) }
+        ensures met { IfSome result.1 (λ met. met ≢ Met.Skipped) }
+        ensures first { (more : List ℕ) →
+            met_first (widths_of self.old) result.1 self.new.numbers.items (scan_of (widths_of self.old) self.new.numbers.items result.0) self.new.passed (pending_of self.new ++ more)
+            ≡ first_line (widths_of self.old) (scan_of (widths_of self.old) self.old.numbers.items cursor) self.old.passed (pending_of self.old ++ more) }
+        ensures room { result.0.done + begun result.0.phase ≤ length (widths_of self.old) }
+        ensures file { SameFile self.old self.new }
+        ensures bytes { SameBytes self.old self.new }
+    {
+        let bytes = &self.buffer[self.start..self.end];
+        let part = read_part(&self.widths, &mut self.numbers, cursor, self.passed, bytes);
+        self.start += part.used;
+        self.passed = part.passed;
+        (part.cursor, part.met)
+    }
+
+    /// Takes up the bytes that a read put into the buffer.
+    fn advance(&mut self, count: usize)
+        requires count { count ≤ length self.old.buffer.items }
+        requires spent { self.old.start ≡ self.old.end }
+        requires open { self.old.tail ≡ Tail.Open }
+        ensures file { SameFile self.old self.new }
+        ensures given { self.new.given ≡ self.old.given }
+        ensures passed { self.new.passed ≡ self.old.passed }
+        ensures place { self.new.place ≡ self.old.place + count }
+        ensures tail { self.new.tail ≡ tail_after count self.old.limit self.new.place }
+        ensures pending { pending_of self.new ≡ take (self.old.limit - self.old.place) (take count self.old.buffer.items) }
+        ensures numbers { self.new.numbers ≡ self.old.numbers }
+    {
+        self.start = 0;
+        self.end = count;
+        self.place += count as u64;
+        if count == 0 {
+            self.tail = Tail::Ended;
+        } else if self.place > self.limit {
+            self.end -= (self.place - self.limit) as usize;
+            self.tail = Tail::Cut;
+        }
+    }
+
+    /// Answers the line that is over, of which the number is given.
+    fn settle(&mut self, met: Met, line: u64, into: &mut [Num]) -> Got
+        requires into { length into.old ≡ length (widths_of self.old) }
+        requires met { met ≢ Met.Skipped }
+        ensures told { (file : List ℕ) → IsMet self.old (taken_of met self.old.numbers.items) line file → Gives result (given_of self.old) self.new into.new file }
+        ensures given { given_of self.new ≡ given_of self.old + given_by result }
+        ensures into { (is_sample result ≡ false) → into.new ≡ into.old }
+        ensures fault { result ≢ Got.ReadFault }
+        ensures file { SameFile self.old self.new }
+        ensures place { place_of self.new ≡ place_of self.old }
+    {
+        match met {
+            Met::Skipped => Got::End,
+            Met::Lawful => {
+                if self.given == self.most {
+                    return Got::Limit(Cap::Samples);
+                }
+                self.given += 1;
+                into.copy_from_slice(&self.numbers);
+                Got::Sample
+            }
+            Met::Unlawful => Got::BadSample { line },
+            Met::CutShort => Got::Limit(Cap::SampleBytes),
+        }
+    }
+
+    /// Answers the last line, which was read up to the cursor.
+    fn finish(&mut self, cursor: Cursor, into: &mut [Num]) -> Got
+        requires into { length into.old ≡ length (widths_of self.old) }
+        requires room { cursor.done + begun cursor.phase ≤ length (widths_of self.old) }
+        requires spent { self.old.start ≡ self.old.end }
+        requires tail { self.old.tail ≢ Tail.Open }
+        ensures told { (file : List ℕ) → IsReadBy self.old (scan_of (widths_of self.old) self.old.numbers.items cursor) file → Gives result (given_of self.old) self.new into.new file }
+        ensures given { given_of self.new ≡ given_of self.old + given_by result }
+        ensures into { (is_sample result ≡ false) → into.new ≡ into.old }
+        ensures fault { result ≢ Got.ReadFault }
+        ensures file { SameFile self.old self.new }
+        ensures place { place_of self.new ≡ place_of self.old }
+    {
+        match self.tail {
+            Tail::Cut => {
+                let met = met_cut(&self.widths, cursor);
+                self.settle(met, self.passed + 1, into)
+            }
+            _ => match met_whole(&self.widths, &mut self.numbers, cursor) {
+                Met::Skipped => Got::End,
+                met => self.settle(met, self.passed + 1, into),
+            },
+        }
+    }
+
+    /// Reads on until a line is over that is not blank, and answers it.
+    fn read_on<S: Shelf>(&mut self, shelf: &mut S, cursor: Cursor, into: &mut [Num]) -> Got
+        requires into { length into.old ≡ length (widths_of self.old) }
+        requires room { cursor.done + begun cursor.phase ≤ length (widths_of self.old) }
+        requires spent { self.old.start ≡ self.old.end }
+        requires open { self.old.tail ≡ Tail.Open }
+        ensures told { (file : List ℕ) → Tells (S.told shelf.old) (name_of self.old) file → IsReadBy self.old (scan_of (widths_of self.old) self.old.numbers.items cursor) file → Gives result (given_of self.old) self.new into.new file }
+        ensures given { given_of self.new ≡ given_of self.old + given_by result }
+        ensures into { (is_sample result ≡ false) → into.new ≡ into.old }
+        ensures file { SameFile self.old self.new }
+        ensures cause { result ≡ Got.ReadFault → HasReadCause (S.told shelf.old) (name_of self.old) (S.faults shelf.old) (S.faults shelf.new) }
+        ensures missing { IsMissing (S.told shelf.old) (name_of self.old) → result ≡ Got.ReadFault }
+        ensures later { S.faults shelf.old ≤ S.faults shelf.new }
+        ensures same { S.told shelf.new ≡ S.told shelf.old }
+        ensures reached { S.reach shelf.old (name_of self.old) ≡ Some (place_of self.old) → S.reach shelf.new (name_of self.old) ≡ Some (place_of self.new) }
+        ensures others { (q : List ℕ) → q ≢ name_of self.old → S.reach shelf.new q ≡ S.reach shelf.old q }
+    {
+        let mut cursor = cursor;
+        while self.tail.is_open() {
+            match shelf.read_at(self.name.as_str(), self.place, &mut self.buffer) {
+                Err(_) => return Got::ReadFault,
+                Ok(count) => self.advance(count),
+            }
+            let (next, met) = self.meet(cursor);
+            cursor = next;
+            if let Some(met) = met {
+                return self.settle(met, self.passed, into);
+            }
+        }
+        self.finish(cursor, into)
+    }
+
+    /// Gives the next sample: the numbers of the next line that is not blank, one for each input.
+    ///
+    /// It reads the file only where no such line stands whole in the bytes that it read before. `into` is left as it
+    /// was where no sample is given. A feed that answered otherwise than with a sample has nothing more to give.
+    pub fn next<S: Shelf>(&mut self, shelf: &mut S, into: &mut [Num]) -> Got
+        requires { length into.old ≡ length (widths_of self.old) }
+
+        // Where the bytes of the file are told, and the feed has given its first samples.
+        ensures told { (file : List ℕ) → Tells (S.told shelf.old) (name_of self.old) file → StandsFor self.old file → Gives result (given_of self.old) self.new into.new file }
+        ensures given { given_of self.new ≡ given_of self.old + given_by result }
+        ensures into { (is_sample result ≡ false) → into.new ≡ into.old }
+        ensures file { SameFile self.old self.new }
+
+        ensures cause { result ≡ Got.ReadFault → HasReadCause (S.told shelf.old) (name_of self.old) (S.faults shelf.old) (S.faults shelf.new) }
+        ensures missing { IsMissing (S.told shelf.old) (name_of self.old) → reads_nothing self.old → result ≡ Got.ReadFault }
+        ensures quiet { IsReady self.old → (S.faults shelf.new ≡ S.faults shelf.old) × (result ≢ Got.ReadFault) }
+        ensures later { S.faults shelf.old ≤ S.faults shelf.new }
+
+        ensures same { S.told shelf.new ≡ S.told shelf.old }
+        ensures reached { S.reach shelf.old (name_of self.old) ≡ Some (place_of self.old) → S.reach shelf.new (name_of self.old) ≡ Some (place_of self.new) }
+        ensures others { (q : List ℕ) → q ≢ name_of self.old → S.reach shelf.new q ≡ S.reach shelf.old q }
+    {
+        let (cursor, met) = self.meet(START);
+        if let Some(met) = met {
+            return self.settle(met, self.passed, into);
+        }
+        if self.tail.is_open() {
+            return self.read_on(shelf, cursor, into);
+        }
+        self.finish(cursor, into)
+    }
+}
+
+#[cfg(test)]
+mod tests;

@@ -1,0 +1,15 @@
+//! Samples that are read line by line from a file of any size, lines of results, and stall texts.
+#![tactic(auto)]
+
+mod feed;
+mod laws;
+mod results;
+mod scan;
+mod stall;
+mod tails;
+
+pub use feed::{Feed, Got};
+pub use laws::cut_law;
+pub use results::put_result;
+pub use stall::{BadStall, Held, Stall};
+pub use tails::Tail;

@@ -1,0 +1,141 @@
+//! Lines of results.
+ghost use Rattle.std.specs.Prelude.{◌≡◌, ◌<◌, ◌+◌, ◌≤◌, ◌++◌, ◌∷◌, ◌==◌, List, ℕ, [], All, length, drop, sum_by, decimal, not, OnOk, OnErr, if◌then◌else◌};
+ghost use Rattle.arrayvec.specs.ArrayString.{array_string_len};
+ghost use Rattle.pr_base.specs.Numbers.{slices_of};
+ghost use Rattle.pr_base.specs.Rows.{row_numbers, row_line};
+ghost use Rattle.pr_edge.specs.Count.{Rose};
+ghost use Rattle.pr_edge.specs.Tape.{Tape, Appends, AppendsFront};
+ghost use Rattle.pr_samples.specs.Results.{rest_line, IsPut};
+
+use arrayvec::ArrayString;
+use itoa::Buffer;
+use pr_base::{Num, number, slices};
+use pr_edge::{Sink, WriteFault, write_all};
+
+/// The bytes that a number takes at most, with the blank before it and the LF after it.
+const NUMBER: usize = 42;
+
+/// The outputs whose line fits into the small buffer.
+const FEW: usize = 6;
+
+/// Appends a number, after a blank where it is not the first.
+fn put_number<const ROOM: usize>(text: &mut ArrayString<ROOM>, begun: bool, n: Num)
+    requires room { array_string_len text.old + 41 ≤ ROOM }
+    requires most { ROOM ≤ 4096 }
+    ensures bytes { text.new.bytes ≡ text.old.bytes ++ (if begun then 32 ∷ decimal n else decimal n) }
+    ensures len { array_string_len text.new ≤ array_string_len text.old + 41 }
+{
+    let mut buffer = Buffer::new();
+    if begun {
+        text.push_str(" ");
+    }
+    text.push_str(buffer.format(n));
+}
+
+/// Makes room for one number more: where it lacks, the bytes so far are written.
+fn make_room<K: Sink, const ROOM: usize>(
+    sink: &mut K,
+    text: &mut ArrayString<ROOM>,
+) -> Result<(), WriteFault>
+    requires least { 42 ≤ ROOM }
+    requires most { ROOM ≤ 4096 }
+    ensures put { (old : Tape) (rest line : List ℕ) → IsPut old (K.told sink.old) text.old.bytes rest line → OnOk result (IsPut old (K.told sink.new) text.new.bytes rest line) }
+    ensures front { (old : Tape) (rest line : List ℕ) → IsPut old (K.told sink.old) text.old.bytes rest line → OnErr result (AppendsFront old (K.told sink.new) line) }
+    ensures room { OnOk result (array_string_len text.new + 42 ≤ ROOM) }
+    ensures cause { OnErr result (Rose (K.faults sink.old) (K.faults sink.new)) }
+    ensures later { K.faults sink.old ≤ K.faults sink.new }
+{
+    if text.remaining_capacity() >= NUMBER {
+        return Ok(());
+    }
+    match write_all(sink, text.as_str().as_bytes()) {
+        Err(fault) => Err(fault),
+        Ok(()) => {
+            text.clear();
+            Ok(())
+        }
+    }
+}
+
+/// Writes a line, through a buffer with this much room.
+fn put_line<K: Sink, const ROOM: usize>(
+    sink: &mut K,
+    widths: &[u8],
+    bytes: &[u8],
+) -> Result<(), WriteFault>
+    requires least { 42 ≤ ROOM }
+    requires most { ROOM ≤ 4096 }
+    requires widths { All (λ w. (1 ≤ w) × (w ≤ 128)) widths.now }
+    requires bytes { length bytes.now ≡ sum_by slices_of widths.now }
+    ensures all { OnOk result (Appends (K.told sink.old) (K.told sink.new) (row_line (row_numbers widths.now bytes.now))) }
+    ensures front { OnErr result (AppendsFront (K.told sink.old) (K.told sink.new) (row_line (row_numbers widths.now bytes.now))) }
+    ensures cause { OnErr result (Rose (K.faults sink.old) (K.faults sink.new)) }
+    ensures later { K.faults sink.old ≤ K.faults sink.new }
+{
+    let mut text = ArrayString::<ROOM>::new();
+    let mut at = 0;
+    for i in 0..widths.len() {
+        if let Err(fault) = make_room(sink, &mut text) {
+            return Err(fault);
+        }
+        let end = at + slices(widths[i]);
+        put_number(&mut text, i > 0, number(&bytes[at..end]));
+        at = end;
+    }
+    text.push_str("\n");
+    write_all(sink, text.as_str().as_bytes())
+}
+
+/// Writes the line of one result: for each output in order the number of its bytes, in decimal, with a blank between
+/// two, and LF.
+///
+/// The bytes are those of all outputs, the least of each first. The sink is given the line in one piece, unless it has
+/// more than 64 outputs. Where the sink fails, the first bytes of the line were written.
+pub fn put_result<K: Sink>(sink: &mut K, widths: &[u8], bytes: &[u8]) -> Result<(), WriteFault>
+    requires widths { All (λ w. (1 ≤ w) × (w ≤ 128)) widths.now }
+    requires bytes { length bytes.now ≡ sum_by slices_of widths.now }
+    ensures all { OnOk result (Appends (K.told sink.old) (K.told sink.new) (row_line (row_numbers widths.now bytes.now))) }
+    ensures front { OnErr result (AppendsFront (K.told sink.old) (K.told sink.new) (row_line (row_numbers widths.now bytes.now))) }
+    ensures cause { OnErr result (Rose (K.faults sink.old) (K.faults sink.new)) }
+    ensures later { K.faults sink.old ≤ K.faults sink.new }
+{
+    if widths.len() <= FEW {
+        put_line::<K, 256>(sink, widths, bytes)
+    } else {
+        put_line::<K, 2688>(sink, widths, bytes)
+    }
+}
+
+#[cfg(test)]
+mod tests {
+    use super::*;
+    use pr_edge::MemSink;
+    use std::test::Fail;
+
+    #[test]
+    fn line_of_three_outputs(rt: HostRuntime) -> Result<(), Fail> {
+        let mut sink = MemSink::make(rt.alloc(), 100, Vec::new(rt.alloc()))?;
+        let mut bytes = [255; 19];
+        bytes[0] = 0;
+        bytes[2] = 0;
+        assert!(rt; put_result(&mut sink, &[16, 1, 128], &bytes).is_ok());
+        assert_eq!(rt;
+            sink.bytes(),
+            b"65280 0 340282366920938463463374607431768211455\n".as_slice()
+        );
+        Ok(())
+    }
+
+    #[test]
+    fn line_of_seventy_outputs(rt: HostRuntime) -> Result<(), Fail> {
+        let failing = vec![in rt.alloc(); 2u64]?;
+        let mut sink = MemSink::make(rt.alloc(), 10_000, failing)?;
+        assert!(rt; put_result(&mut sink, &[128; 70], &[255; 1120]).is_err());
+        assert!(rt;
+            sink.bytes()
+                .starts_with(b"340282366920938463463374607431768211455 ")
+        );
+        assert!(rt; sink.bytes().len() >= 2_560);
+        Ok(())
+    }
+}
