@@ -1,0 +1,10 @@
+pub mod TokensLemmas
+pub mod FormsLemmas
+pub mod NotesLemmas
+pub mod WordsLemmas
+pub mod SamplesLemmas
+pub mod ConfigureLemmas
+pub mod ResultsLemmas
+pub mod DriveLemmas
+pub mod ToolLemmas
+pub mod Completeness
