@@ -7,10 +7,10 @@ use outside::{FileShelf, OutSink};
 use pr_edge::Sink;
 use pr_tool::{Answer, Bench, Bounds, piperench, put_note};
 use std::alloc::Global;
+use std::env;
 use std::io::{self, BufWriter, ErrorKind, Write};
 use std::process::ExitCode;
 use std::rt::{Env, Files};
-use std::env;
 
 /// The words of the command line; else the answer to them.
 fn words_of<R: Env + AllocGlobal>(rt: &R) -> Result<Vec<String>, Answer> {
@@ -22,7 +22,11 @@ fn words_of<R: Env + AllocGlobal>(rt: &R) -> Result<Vec<String>, Answer> {
 }
 
 /// Runs the tool on the words, with results gathered on their way to standard output.
-fn answer_to<R: Files + Print + AllocGlobal, E: Sink>(rt: &R, words: &[String], note: &mut E) -> Answer {
+fn answer_to<R: Files + Print + AllocGlobal, E: Sink>(
+    rt: &R,
+    words: &[String],
+    note: &mut E,
+) -> Answer {
     let alloc = rt.alloc();
     let Ok(stream) = BufWriter::new(alloc, io::writer(rt)) else {
         put_note(note, &Bounds::BASE, &Answer::Memory);

@@ -6,3 +6,4 @@ pub mod Reading
 pub mod StallLemmas
 pub mod ResultLemmas
 pub mod CutLaw
+pub mod SampleLaws

@@ -1,13 +1,14 @@
 -- The steps of a feed.
 
-use Rattle.std.proofs.Common.{◌≡◌, ℕ, ◌+◌, ◌-◌, ◌<◌, List, [], ◌++◌, take, length, Some, None, inl, inr, max, if◌then◌else◌, ◌==◌, arith}
+use Rattle.std.proofs.Common.{◌≡◌, ℕ, ◌+◌, ◌-◌, ◌<◌, List, [], ◌++◌, take, drop, length, length-append, ap, sym, ◌∙◌, Some, None, inl, inr, max, if◌then◌else◌, ◌==◌, arith}
 use Rattle.std.proofs.lemmas.Bool.Decides.{eqb_tells}
+use Rattle.std.proofs.lemmas.List.{length-take, length-take-le, take_all, take-append-drop}
 use Rattle.pr_edge.specs.Files.{Told, OfFile, IsPart}
 use Rattle.pr_samples.specs.declared.tails.Tail.{Tail}
 use Rattle.pr_samples.specs.declared.feed.Feed.{Feed}
-use Rattle.pr_samples.specs.Fed.{Taken, fed_within}
+use Rattle.pr_samples.specs.Fed.{Taken, Fed, fed_text, fed_within}
 use Rattle.pr_samples.specs.Scan.{Scan, Found, first_line}
-use Rattle.pr_samples.specs.Feed.{SameFile, SameBytes, Tells, IsReadBy, IsMet, pending_of, tail_after}
+use Rattle.pr_samples.specs.Feed.{SameFile, SameBytes, Tells, IsReadBy, StandsFor, IsMet, pending_of, tail_after, fed, whole_samples}
 use Rattle.pr_samples.proofs.ReadingLemmas.{window-none, IsReading-read, IsReading-move, IsMeeting-found, IsReading-fault}
 
 -- how much is left to do at the end of the bytes that were read
@@ -56,3 +57,14 @@ fault_step f s file h is_open spent =
 -- a read from the reach on
 pub raised-here : (place count : ℕ) → (if count == 0 then place else max place (place + count)) ≡ place + count
 raised-here place count = elim (eqb_tells count 0) [ inl e ↦ rw e.0 (omega (arith, e.1)) | inr e ↦ rw e.0 (omega arith) ]
+
+-- a feed that may read on has given samples of whole lines alone
+pub open_gave_whole : (f : Feed) (file : List ℕ) → StandsFor f file → length (whole_samples f file) < f.given → f.tail ≡ Tail.Open → ⊥
+open_gave_whole f file h more is_open =
+    let all = take f.limit file in
+    let samples = (fed f file).samples in
+    let whole : take (length file) all ≡ take f.place all ++ drop f.place all = take_all (length file) all (simp length-take (omega arith)) ∙ sym (take-append-drop f.place all) in
+    let read = (rw is_open at h).rest Tail.Open (drop f.place all) tt in
+    let count = ap (λ text. length (fed_text f.widths.items f.most 0 Tail.Open text).samples) whole ∙ ap (λ (x : Fed). length x.samples) read in
+    let first : length (take f.given samples) ≡ f.given = length-take-le f.given samples h.counted in
+    omega (arith, more, count, first, length-append {A = List ℕ})

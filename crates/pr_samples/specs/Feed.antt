@@ -124,6 +124,10 @@ Tells (Some files) name file = files name ≡ Some file
 abbrev pub fed : Feed → List ℕ → Fed
 fed f file = fed_of f.widths.items f.limit f.most file
 
+-- the samples of the lines of the feed's file that stand with their LF
+abbrev pub whole_samples : Feed → List ℕ → List (List ℕ)
+whole_samples f file = (fed_within f.widths.items f.limit f.most file (length file)).samples
+
 -- all samples of the file were given, and they end so
 pub record IsOver (f : Feed) (file : List ℕ) (ending : Ending) : Type 0 where
   pub all : f.given ≡ length (fed f file).samples

@@ -137,7 +137,8 @@ impl Feed {
 
     /// The number of samples that it gave.
     pub fn given(&self) -> u64
-        ensures { result ≡ given_of self.now }
+        ensures given { result ≡ given_of self.now }
+        ensures most { result ≤ most_of self.now }
     {
         self.given
     }

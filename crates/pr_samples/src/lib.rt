@@ -9,7 +9,7 @@ mod stall;
 mod tails;
 
 pub use feed::{Feed, Got};
-pub use laws::cut_law;
+pub use laws::{cut_law, last_line_law, samples_law};
 pub use results::put_result;
 pub use stall::{BadStall, Held, Stall};
 pub use tails::Tail;

@@ -1,0 +1,16 @@
+pub mod WritingLemmas
+pub mod WordLemmas
+pub mod BreakLemmas
+pub mod ReadLemmas
+pub mod StageLemmas
+pub mod SoundLemmas
+pub mod SoundStages
+pub mod SoundShapes
+pub mod DecodeLemmas
+pub mod FileLemmas
+pub mod AgainLemmas
+pub mod AgainStages
+pub mod AgainShapes
+pub mod AgainFiles
+pub mod MarkLemmas
+pub mod AgainMarks

@@ -1,0 +1,5 @@
+pub mod Spelling
+pub mod Reading
+pub mod Rules
+pub mod Marks
+pub mod Outcome

@@ -1,0 +1,39 @@
+-- Checkpoints: a count of samples before a configuration in format 2.
+use Rattle.std.specs.Prelude.{◌≡◌, ◌≤◌, ℕ, ◌+◌, ◌*◌, ◌/◌, ◌%◌, ◌^◌, ◌==◌, Bool, true, nat_le, List, [], ◌∷◌, ◌++◌, slice_index, Option, None}
+use Rattle.pr_conf.specs.Shape.{Shape}
+use Rattle.pr_code.specs.Spelling.{format_2, bytes_of_words, words_of, are_widths_within}
+use Rattle.pr_code.specs.Reading.{words_of_bytes}
+use Rattle.pr_code.specs.Rules.{Rule, Broken, demand, first_broken, or_else, bad_from}
+
+-- the bytes `PICK`, and the count's high and low half
+abbrev pub mark_words : ℕ → List ℕ
+mark_words count = 0x5049434B ∷ (count / 2 ^ 32) ∷ (count % 2 ^ 32) ∷ []
+
+abbrev pub mark_of : ℕ → ℕ → ℕ → Shape → List ℕ
+mark_of N P count c = bytes_of_words (mark_words count ++ words_of N P c)
+
+-- the count of the second and the third word
+abbrev pub count_of : List ℕ → ℕ
+count_of words = slice_index words 1 * 2 ^ 32 + slice_index words 2
+
+-- rule 9 for the first word, and rule 10 for a count that is too high, which is found at the third
+abbrev pub mark_rules : List ℕ → List Rule
+mark_rules words =
+    (λ w. demand 9 (w == 0x5049434B))
+    ∷ (λ w. None)
+    ∷ (λ w. demand 10 (nat_le (slice_index words 1 * 2 ^ 32 + w) (2 ^ 40)))
+    ∷ []
+
+unfoldable pub bad_mark : ℕ → ℕ → List ℕ → Option Broken
+bad_mark N P bytes =
+    or_else (first_broken (mark_rules (words_of_bytes bytes)) 0 (words_of_bytes bytes)) (bad_from format_2 N P 3 bytes)
+
+-- the second word of a file for the wide fabric, 32 columns and 16 registers
+abbrev pub is_wide : List ℕ → Bool
+is_wide bytes = slice_index (words_of_bytes bytes) 1 == 0x200010
+
+-- a file of a checkpoint
+pub record IsMark (N P count : ℕ) (c : Shape) (bytes : List ℕ) : Type 0 where
+  pub count_fits : count ≤ 2 ^ 40
+  pub widths : are_widths_within 128 c ≡ true
+  pub spelled : bytes ≡ mark_of N P count c
