@@ -58,13 +58,12 @@ takes_after (suc n) = ap (λ (xs : History). Take ∷ xs) (takes_after n)
 takes_more : (n : ℕ) → takes_of (n + 1) ≡ takes_of n ++ Take ∷ []
 takes_more n = let e : n + 1 ≡ suc n = omega arith in ap takes_of e ∙ takes_after n
 
-
 -- some first bytes of a piece, after the bytes before it
 take_min : (k : ℕ) (xs : List ℕ) → take (min k (length xs)) xs ≡ take k xs
 take_min k xs = elim (cases_lt k (length xs)) [
-    inl less ↦ let e : min k (length xs) ≡ k = omega (arith, less) in ap (λ (n : ℕ). take n xs) e
+  | inl less ↦ let e : min k (length xs) ≡ k = omega (arith, less) in ap (λ (n : ℕ). take n xs) e
   | inr more ↦ let e : min k (length xs) ≡ length xs = omega (arith, more) in ap (λ (n : ℕ). take n xs) e ∙ take_all (length xs) xs (omega arith) ∙ sym (take_all k xs more)
-  ]
+]
 
 pub front_within : (t0 t1 t2 : Tape) (text piece more : List ℕ) (k : ℕ) {all : List ℕ} → Appends t0 t1 text → Appends t1 t2 (take k piece) → all ≡ text ++ (piece ++ more) → AppendsFront t0 t2 all
 front_within t0 t1 t2 text piece more k {all} h g e =
@@ -78,12 +77,12 @@ appends_nothing a = record { appended = nothing_appended a.bytes; told = still_t
 
 pub nothing_taken : (m : Base) (t : Tape) → Taken m m t t
 nothing_taken m t = record {
-    results = [];
-    split = refl;
-    stands = λ c p h s. rw (append-nil h) s;
-    kept = record { conf = refl; places = refl; store = refl; plan = refl; entered = refl; left = refl };
-    lines = appends_nothing t;
-  }
+  results = [];
+  split = refl;
+  stands = λ c p h s. rw (append-nil h) s;
+  kept = record { conf = refl; places = refl; store = refl; plan = refl; entered = refl; left = refl };
+  lines = appends_nothing t;
+}
 
 kept_on : (a b c : Base) → IsKept a b → IsKept b c → IsKept a c
 kept_on a b c h g = record { conf = g.conf ∙ h.conf; places = g.places ∙ h.places; store = g.store ∙ h.store; plan = g.plan ∙ h.plan; entered = g.entered ∙ h.entered; left = g.left ∙ h.left }
@@ -126,10 +125,10 @@ has_room a = nat_lt (length a.offered - length a.entries) 16
 pub stands_on : (m m' : Base) (c : Shape) (p : ℕ) (a : Account (List ℕ)) (e : Event (List ℕ)) → StandsAs m c p a → ((c : Shape) (p : ℕ) (h : History) → Stands m c p h → Stands m' c p (h ++ e ∷ []))
     → StandsAs m' c p (after (length c.stages) p a e)
 stands_on m m' c p a e s on = record {
-    history = s.history ++ e ∷ [];
-    stands = on c p s.history s.stands;
-    account = account_push (length c.stages) p s.history e ∙ ap (λ (b : Account (List ℕ)). after (length c.stages) p b e) s.account;
-  }
+  history = s.history ++ e ∷ [];
+  stands = on c p s.history s.stands;
+  account = account_push (length c.stages) p s.history e ∙ ap (λ (b : Account (List ℕ)). after (length c.stages) p b e) s.account;
+}
 
 pub offers_none : (m : Base) (c : Shape) (p : ℕ) (a : Account (List ℕ)) (rest : List (List ℕ)) → rest ≡ [] → StandsAs m c p a → OffersNext m c p a rest rest
 offers_none m c p a rest none s = rw none (record { stands = s; more = refl })
@@ -143,8 +142,8 @@ offers_one m m' c p a x rest ok s on reply =
     let same : ok ≡ has_room a = replies_same ok (has_room a) told in
     let stands = stands_on m m' c p a (Offer x) s on in
     rw same (elim (has_room a) as (λ b. has_room a ≡ b → OffersNext m' c p a (x ∷ rest) (if b then rest else x ∷ rest)) [
-      true ↦ λ e. record { stands = rw e stands; more = rw e refl }
-    | false ↦ λ e. record { stands = rw e (rw e at stands); more = rw e refl }
+      | true ↦ λ e. record { stands = rw e stands; more = rw e refl }
+      | false ↦ λ e. record { stands = rw e (rw e at stands); more = rw e refl }
     ] refl)
 
 -- ---- samples by their numbers
@@ -168,9 +167,9 @@ pub record Offered (v p : ℕ) (a : Account (List ℕ)) (rest : List (List ℕ))
 offered_next : (v p : ℕ) (a : Account (List ℕ)) (rest : List (List ℕ)) → Offered v p a rest (account_from v p a (offer_next a rest))
 offered_next v p a [] = record { taken = refl; total = refl }
 offered_next v p a (x ∷ rest) = elim (has_room a) as (λ b. has_room a ≡ b → Offered v p a (x ∷ rest) (account_from v p a (offer_next a (x ∷ rest)))) [
-    true ↦ λ e. record { taken = rw (e, e) refl; total = rw (e, e) (append_assoc a.offered (x ∷ []) rest) }
+  | true ↦ λ e. record { taken = rw (e, e) refl; total = rw (e, e) (append_assoc a.offered (x ∷ []) rest) }
   | false ↦ λ e. record { taken = rw e refl; total = rw e refl }
-  ] refl
+] refl
 
 cycle_taken : (v p : ℕ) (a : Account (List ℕ)) → (after v p a Cycle).taken ≡ a.taken
 cycle_taken v p a = elim (stalled v p a) as (λ b. (if b then a else record a { entries = entered v p a; time = a.time + 1 }).taken ≡ a.taken) [ true ↦ refl | false ↦ refl ]
@@ -209,7 +208,7 @@ lines_left c p a rest all m law s total =
     let l = left v a in
     let results = results_of 16 8 c all in
     let wait : waiting_results m ≡ drop a.taken (take l results) = waiting_is m c p a s
-      ∙ ap (drop a.taken) (first_results c a.offered rest l (left_inside v p a law) ∙ ap (λ (xs : List (List ℕ)). take l (results_of 16 8 c xs)) total) in
+    ∙ ap (drop a.taken) (first_results c a.offered rest l (left_inside v p a law) ∙ ap (λ (xs : List (List ℕ)). take l (results_of 16 8 c xs)) total) in
     sym (written_append (take a.taken results) (waiting_results m))
     ∙ ap (λ (xs : List (List ℕ)). written (take a.taken results ++ xs)) wait
     ∙ ap written (take_and_drop a.taken l results law.taken)
@@ -235,21 +234,22 @@ turn_driven m m1 m2 m3 c p all more f t0 t1 t2 some d o takes_on cycle_on lines 
     let n : length (waiting_results m1) ≡ left v a - a.taken = ap length (waiting_is m1 c p a s) ∙ length_waiting c v p a refl law in
     let h = s.history ++ takes_of (length (waiting_results m1)) in
     let now : account_of c p (h ++ Cycle ∷ []) ≡ account_from v p a (take_all_and_cycle v a) =
-      ap (account_of c p) (append_assoc s.history (takes_of (length (waiting_results m1))) (Cycle ∷ []))
-      ∙ account-append v p s.history (takes_of (length (waiting_results m1)) ++ Cycle ∷ [])
-      ∙ ap (λ (b : Account (List ℕ)). account_from v p b (takes_of (length (waiting_results m1)) ++ Cycle ∷ [])) s.account
-      ∙ ap (λ (k : ℕ). account_from v p a (takes_of k ++ Cycle ∷ [])) n in
+    ap (account_of c p) (append_assoc s.history (takes_of (length (waiting_results m1))) (Cycle ∷ []))
+    ∙ account-append v p s.history (takes_of (length (waiting_results m1)) ++ Cycle ∷ [])
+    ∙ ap (λ (b : Account (List ℕ)). account_from v p b (takes_of (length (waiting_results m1)) ++ Cycle ∷ [])) s.account
+    ∙ ap (λ (k : ℕ). account_from v p a (takes_of k ++ Cycle ∷ [])) n in
     let turned : account_from v p a (take_all_and_cycle v a) ≡ (free_turn v p f).account = sym (from_append v p f.account (offer_next f.account f.rest) (take_all_and_cycle v a)) in
     let taken : (free_turn v p f).account.taken ≡ left v a = ap (λ (b : Account (List ℕ)). b.taken) (sym turned ∙ taken_and_cycle v p a law) ∙ cycle_taken v p (record a { taken = left v a }) in
     let next = turned_times v p 1 f some d.law in
-    let total : a.offered ++ rest_after f.account f.rest ≡ all = off.total ∙ d.total in
-    ( record {
+    let total : a.offered ++ rest_after f.account f.rest ≡ all = off.total ∙ d.total in (
+      record {
         stands = record { history = h ++ Cycle ∷ []; stands = cycle_on c p h (takes_on c p s.history s.stands); account = now ∙ turned };
         law = next.law;
         total = next.total ∙ d.total;
         lines = rw (taken, ← lines_left c p a (rest_after f.account f.rest) all m1 law s total, off.taken) (Appends-append t0 t1 t2 (written (take f.account.taken (results_of 16 8 c all))) (written (waiting_results m1)) d.lines lines);
-      }
-    , o.more )
+      },
+      o.more,
+    )
 
 pub account_nil : (v p : ℕ) → account {R = List ℕ} v p [] ≡ start
 unfolding account
@@ -261,11 +261,11 @@ drain_within v p n k resident long = let test : nat_le v p ≡ true = grind (ari
 -- the beginning
 pub begun : (m : Base) (c : Shape) (p : ℕ) (all : List (List ℕ)) (t : Tape) → 0 < length c.stages → Stands m c p [] → Driving m c p all (record { account = start; rest = all }) t t
 begun m c p all t some s = record {
-    stands = record { history = []; stands = s; account = account_nil (length c.stages) p };
-    law = lawful_start (length c.stages) p;
-    total = refl;
-    lines = appends_nothing t;
-  }
+  stands = record { history = []; stands = s; account = account_nil (length c.stages) p };
+  law = lawful_start (length c.stages) p;
+  total = refl;
+  lines = appends_nothing t;
+}
 
 -- the end: all lines are those of all results
 pub all_driven : (m : Base) (c : Shape) (p k : ℕ) (all : List (List ℕ)) (t0 t1 t2 : Tape) → 0 < length c.stages → 2 ≤ p → length c.stages ≤ p → length all + length c.stages ≤ k
@@ -287,9 +287,9 @@ front_driven m c p a rest all t0 t1 t2 law s total lines (k, front) =
     let l = left (length c.stages) a in
     let results = results_of 16 8 c all in
     let whole : written results ≡ written (take a.taken results) ++ (written (waiting_results m) ++ written (drop l results)) =
-      ap written (sym (take-append-drop l results)) ∙ written_append (take l results) (drop l results)
-      ∙ ap (λ (x : List ℕ). x ++ written (drop l results)) (sym (lines_left c p a rest all m law s total))
-      ∙ append_assoc (written (take a.taken results)) (written (waiting_results m)) (written (drop l results)) in
+    ap written (sym (take-append-drop l results)) ∙ written_append (take l results) (drop l results)
+    ∙ ap (λ (x : List ℕ). x ++ written (drop l results)) (sym (lines_left c p a rest all m law s total))
+    ∙ append_assoc (written (take a.taken results)) (written (waiting_results m)) (written (drop l results)) in
     front_within t0 t1 t2 (written (take a.taken results)) (written (waiting_results m)) (written (drop l results)) k lines front whole
 
 pub next_sample : (samples : Samples) (given : ℕ) (x : List ℕ) → given < samples.count → x ≡ get_or (samples_of samples) given [] → drop given (samples_of samples) ≡ x ∷ drop (given + 1) (samples_of samples)

@@ -212,13 +212,13 @@ logic_results program samples h lawful =
     let n = program.inputs in
     two_stages (steps_of 16 8 c 0) (steps_of 16 8 c 1) (tapped 16 c) _ (IsSample n)
     (λ s0 s1 x is.
-      let shown = row_map 16 8 true (input_pes 16 0 n) s0 x in
-      let count = is.count in
-      let small = λ (k : ℕ) (lt : k < n). All-get_or IsByte x k 0 (omega (arith, lt, count)) is.bytes in
-      let left = input_shown n program.left s0 x h.left h.few (small program.left h.left) in
-      let right = input_shown n program.right s0 x h.right h.few (small program.right h.right) in
-      ap (λ (y : ℕ). y ∷ []) (operator_shown program.operator program.left program.right s1 shown (length_inputs n s0 x)
-        (rw left (small program.left h.left)) (rw right (small program.right h.right))
-      ∙ ap (λ (y : ℕ). applied program.operator y (get_or shown program.right 0)) left
-      ∙ ap (λ (y : ℕ). applied program.operator (get_or x program.left 0) y) right))
+    let shown = row_map 16 8 true (input_pes 16 0 n) s0 x in
+    let count = is.count in
+    let small = λ (k : ℕ) (lt : k < n). All-get_or IsByte x k 0 (omega (arith, lt, count)) is.bytes in
+    let left = input_shown n program.left s0 x h.left h.few (small program.left h.left) in
+    let right = input_shown n program.right s0 x h.right h.few (small program.right h.right) in
+    ap (λ (y : ℕ). y ∷ []) (operator_shown program.operator program.left program.right s1 shown (length_inputs n s0 x)
+    (rw left (small program.left h.left)) (rw right (small program.right h.right))
+    ∙ ap (λ (y : ℕ). applied program.operator y (get_or shown program.right 0)) left
+    ∙ ap (λ (y : ℕ). applied program.operator (get_or x program.left 0) y) right))
     _ _ samples lawful

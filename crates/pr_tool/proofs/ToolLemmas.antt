@@ -36,9 +36,9 @@ use Rattle.pr_tool.proofs.SamplesLemmas.{written_fields, fields_left, bytes_rows
 pub too_long : (told : Told) (name : List ℕ) (limit : ℕ) → OfFile told name (λ file. limit < length file) → (IsMissing told name → ⊥) → (text : List ℕ) × IsText told name text × (limit < length text)
 too_long None name limit h there = let zeros : List ℕ = replicate (limit + 1) 0 in (zeros, tt, omega (arith, length-replicate {A = ℕ} (limit + 1) 0))
 too_long (Some files) name limit h there = elim (files name) as (λ o. files name ≡ o → IfSome o (λ file. limit < length file) → (text : List ℕ) × (files name ≡ Some text) × (limit < length text)) [
-    None ↦ λ e k. absurd (there e)
+  | None ↦ λ e k. absurd (there e)
   | Some file ↦ λ e k. (file, e, k)
-  ] refl h
+] refl h
 
 -- a machine that was just loaded is ready
 pub ready : (m : Base) (program : LogicProgram) (samples : Samples) → Stands m (logic_shape program) 16 [] → samples.inputs ≡ program.inputs → samples.count ≤ 16777216 → IsReady m samples
@@ -75,15 +75,15 @@ number_at [] [] name e = refl
 number_at [] (x ∷ row) name e = absurd (omega (arith, e))
 number_at (n ∷ names) [] name e = absurd (omega (arith, e))
 number_at (n ∷ names) (x ∷ row) name e = elim (is_named name n) as (λ b. (cond b x (number_of names row name)) ≡ get_or (x ∷ row) (cond (not b) (1 + position_or_len (is_named name) names) 0) 0) [
-    true ↦ refl
+  | true ↦ refl
   | false ↦ let s : 1 + position_or_len (is_named name) names ≡ suc (position_or_len (is_named name) names) = omega arith in rw s (number_at names row name (omega (arith, e)))
-  ]
+]
 
 place_is : (names : List (List ℕ)) (name : List ℕ) (i : ℕ) → place_in names name ≡ Some i → position_or_len (is_named name) names ≡ i
 place_is names name i e = elim (nat_lt (position_or_len (is_named name) names) (length names)) as (λ b. (cond b (Some (position_or_len (is_named name) names)) None) ≡ Some i → position_or_len (is_named name) names ≡ i) [
-    true ↦ λ h. cc
+  | true ↦ λ h. cc
   | false ↦ λ h. absurd (cc)
-  ] e
+] e
 
 pub same_out : (q : Program) (program : LogicProgram) (rows : List (List ℕ)) → IsLogicOf q program → All (IsSample (length q.inputs)) rows → out_of q rows ≡ logic_rows program rows
 same_out q program [] h lawful = refl
@@ -119,9 +119,10 @@ answered told asked first second program samples sb sn ob on old new a e logic r
     let inputs : program.inputs ≡ length logic.q.inputs = logic.logic.inputs in
     let lawful = rw inputs at rows.rows in
     let is : IsRun told asked logic.q (samples_of samples) = record {
-      samples_name = second; samples_text = rows.text;
+      samples_name = second;
+      samples_text = rows.text;
       first = record { program_name = first; program_text = logic.text; order = e; program_file = logic.file; program = logic.is };
-      samples_file = rows.file; samples = lawful;
+      samples_file = rows.file;
+      samples = lawful;
     } in
     answer_by told asked logic.q program samples sb sn ob on old new is (same_out logic.q program (samples_of samples) logic.logic lawful.lawful) a run
-

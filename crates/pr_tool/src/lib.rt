@@ -48,9 +48,7 @@ mod tests {
         ]?;
         let mut shelf = MemShelf::make(alloc, files, Vec::new(alloc))?;
         let mut bench = Bench::Nothing;
-        Ok(piperench(
-            alloc, &words, &mut shelf, out, note, &mut bench,
-        ))
+        Ok(piperench(alloc, &words, &mut shelf, out, note, &mut bench))
     }
 
     /// A mode, a program, samples, and the answer, the results and the note that they come to.

@@ -126,11 +126,7 @@ fn read_file<S: Shelf>(
 }
 
 /// The program of a file.
-fn read_program<S: Shelf>(
-    alloc: Global,
-    shelf: &mut S,
-    name: &str,
-) -> Result<LogicProgram, Answer>
+fn read_program<S: Shelf>(alloc: Global, shelf: &mut S, name: &str) -> Result<LogicProgram, Answer>
     ensures program { IfOk result (HasLogic (S.told shelf.old) name.now) }
     ensures refused { IfErr result (IsProgramRefusal (S.told shelf.old) name.now (S.faults shelf.old) (S.faults shelf.new)) }
     ensures later { S.faults shelf.old ≤ S.faults shelf.new }
@@ -172,10 +168,7 @@ fn read_samples<S: Shelf>(
 }
 
 /// A machine of 16 stripes that was just loaded with the configuration of the program.
-fn machine_for(
-    alloc: Global,
-    program: &LogicProgram,
-) -> Result<Machine<16, 8, Running>, AllocError>
+fn machine_for(alloc: Global, program: &LogicProgram) -> Result<Machine<16, 8, Running>, AllocError>
     requires { HasInputs program.now }
     ensures { IfOk result (λ m. Stands m (logic_shape program.now) 16 []) }
 {
