@@ -1,0 +1,11 @@
+pub mod Spelling
+pub mod Tokens
+pub mod Word
+pub mod Grammar
+pub mod Machine
+pub mod Tree
+pub mod Is
+pub mod Shape
+pub mod Load
+pub mod Syntax
+pub mod Printed

@@ -1,0 +1,14 @@
+pub mod Laws
+pub mod Sound
+pub mod Look
+pub mod Complete
+pub mod Plain
+pub mod Typed
+pub mod Derived
+pub mod Takes
+pub mod Steps
+pub mod Begins
+pub mod Lists
+pub mod Main
+pub mod Deep
+pub mod Endings

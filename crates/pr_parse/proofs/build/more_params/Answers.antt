@@ -1,0 +1,6 @@
+use Rattle.pr_lang.specs.Shape.{param_shape}
+use Rattle.pr_parse.proofs.Lists.{comma_listed-more}
+use Rattle.pr_parse.proofs.build.more_params.Goals as goal
+
+pub returns-clause-ok : goal.returns-clause-ok
+returns-clause-ok c = comma_listed-more param_shape c.args.list.items _ c.args.param c.requires c.in_ok-push.ensures.items

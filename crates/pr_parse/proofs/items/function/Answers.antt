@@ -1,0 +1,45 @@
+use Rattle.std.proofs.Common.{[], ◌∷◌, refl, sym, ap, ◌∙◌, true, false, arith}
+use Rattle.std.proofs.lemmas.Result.{err_from_is_err_and, IfOk-weaker}
+use Rattle.pr_lang.specs.declared.tokens.Keyword.TheVariants.{Input, Output, Const, Fn, Return, Let, Rec, By, For, Within, Cat}
+use Rattle.pr_lang.specs.declared.tokens.Symbol.TheVariants.{Colon, Semi, Assign, OpenRound, CloseRound, OpenSquare, CloseSquare, OpenCurly, CloseCurly, Comma, Dots, At, Ask, Tilde}
+use Rattle.pr_lang.specs.declared.tokens.Kind.TheVariants as kind
+use Rattle.pr_lang.specs.Word.{any_name, any_number, the_end, this_keyword, this_symbol, one_of}
+use Rattle.pr_lang.specs.Grammar.{Listed, Params, Exprs, Entries}
+use Rattle.pr_lang.specs.Tree as tree
+use Rattle.pr_parse.specs.Fronts.{led_value, led_name}
+use Rattle.pr_parse.proofs.Begins.{begins_then_item, begins_then_stmt, begins_then_param, begins_then_expr, begins_then_fixed, begins_fixed}
+use Rattle.pr_parse.proofs.Steps.{begun, open_rule, open_then, first, second, there, absent, again, no_more, made, took, not_there, read, front, failed, front_failed, passed_on, by_test, by_token, by_one, by_none, by_none_one, operator, operated, maybe_list, maybe_list_fails}
+use Rattle.pr_parse.proofs.items.function.Goals as goal
+
+pub returns-in_err-name-clause-err : goal.returns-in_err-name-clause-err
+returns-in_err-name-clause-err c = let p = err_from_is_err_and c.from_residual.result c.from_residual.ensures.1 in rw (p.1, p.2) (front_failed (led_name (kind.Word Fn)) c.in_err-name.field-0.0 _ c.in_err-name.ensures.err begun)
+
+pub returns-in_err-after-clause-err : goal.returns-in_err-after-clause-err
+returns-in_err-after-clause-err c = let p = err_from_is_err_and c.from_residual-in_err-after.result c.from_residual-in_err-after.ensures.1 in rw (p.1, p.2) (not_there c.in_err-after.field-0.0 (c.in_err-after.ensures.err c.args.text.now) (open_then (front (led_name (kind.Word Fn)) _ c.in_ok-name.ensures.ok begun)))
+
+pub returns-in_err-params-clause-err : goal.returns-in_err-params-clause-err
+returns-in_err-params-clause-err c = let p = err_from_is_err_and c.from_residual-in_err-params.result c.from_residual-in_err-params.ensures.1 in rw (p.1, p.2) (failed c.in_err-params.field-0.0 c.in_err-params.ensures.err (open_then (took (c.in_ok-after.ensures.ok c.args.text.now) refl (open_then (front (led_name (kind.Word Fn)) _ c.in_ok-name.ensures.ok begun)))))
+
+pub returns-in_err-after-2-clause-err : goal.returns-in_err-after-2-clause-err
+returns-in_err-after-2-clause-err c = let p = err_from_is_err_and c.from_residual-in_err-after-2.result c.from_residual-in_err-after-2.ensures.1 in rw (p.1, p.2) (not_there c.in_err-after-2.field-0.0 (c.in_err-after-2.ensures.err c.args.text.now) (open_then (read c.in_ok-params.ensures.ok (open_then (took (c.in_ok-after.ensures.ok c.args.text.now) refl (open_then (front (led_name (kind.Word Fn)) _ c.in_ok-name.ensures.ok begun)))))))
+
+pub returns-in_err-width-clause-err : goal.returns-in_err-width-clause-err
+returns-in_err-width-clause-err c = let p = err_from_is_err_and c.from_residual-in_err-width.result c.from_residual-in_err-width.ensures.1 in rw (p.1, p.2) (failed c.in_err-width.field-0.0 c.in_err-width.ensures.err (open_then (took (c.in_ok-after-2.ensures.ok c.args.text.now) refl (open_then (read c.in_ok-params.ensures.ok (open_then (took (c.in_ok-after.ensures.ok c.args.text.now) refl (open_then (front (led_name (kind.Word Fn)) _ c.in_ok-name.ensures.ok begun)))))))))
+
+pub returns-in_err-after-3-clause-err : goal.returns-in_err-after-3-clause-err
+returns-in_err-after-3-clause-err c = let p = err_from_is_err_and c.from_residual-in_err-after-3.result c.from_residual-in_err-after-3.ensures.1 in rw (p.1, p.2) (not_there c.in_err-after-3.field-0.0 (c.in_err-after-3.ensures.err c.args.text.now) (open_then (read c.in_ok-width.ensures.ok (open_then (took (c.in_ok-after-2.ensures.ok c.args.text.now) refl (open_then (read c.in_ok-params.ensures.ok (open_then (took (c.in_ok-after.ensures.ok c.args.text.now) refl (open_then (front (led_name (kind.Word Fn)) _ c.in_ok-name.ensures.ok begun)))))))))))
+
+pub returns-in_err-body-clause-err : goal.returns-in_err-body-clause-err
+returns-in_err-body-clause-err c = let p = err_from_is_err_and c.from_residual-in_err-body.result c.from_residual-in_err-body.ensures.1 in rw (p.1, p.2) (failed c.in_err-body.field-0.0 c.in_err-body.ensures.err (open_then (took (c.in_ok-after-3.ensures.ok c.args.text.now) refl (open_then (read c.in_ok-width.ensures.ok (open_then (took (c.in_ok-after-2.ensures.ok c.args.text.now) refl (open_then (read c.in_ok-params.ensures.ok (open_then (took (c.in_ok-after.ensures.ok c.args.text.now) refl (open_then (front (led_name (kind.Word Fn)) _ c.in_ok-name.ensures.ok begun)))))))))))))
+
+pub returns-in_err-result-clause-err : goal.returns-in_err-result-clause-err
+returns-in_err-result-clause-err c = let p = err_from_is_err_and c.from_residual-in_err-result.result c.from_residual-in_err-result.ensures.1 in rw (p.1, p.2) (front_failed (led_value (kind.Word Return)) c.in_err-result.field-0.0 _ c.in_err-result.ensures.err (read c.in_ok-body.ensures.ok (open_then (took (c.in_ok-after-3.ensures.ok c.args.text.now) refl (open_then (read c.in_ok-width.ensures.ok (open_then (took (c.in_ok-after-2.ensures.ok c.args.text.now) refl (open_then (read c.in_ok-params.ensures.ok (open_then (took (c.in_ok-after.ensures.ok c.args.text.now) refl (open_then (front (led_name (kind.Word Fn)) _ c.in_ok-name.ensures.ok begun))))))))))))))
+
+pub returns-in_err-rest-clause-err : goal.returns-in_err-rest-clause-err
+returns-in_err-rest-clause-err c = let p = err_from_is_err_and c.from_residual-in_err-rest.result c.from_residual-in_err-rest.ensures.1 in rw (p.1, p.2) (not_there c.in_err-rest.field-0.0 (c.in_err-rest.ensures.err c.args.text.now) (open_then (front (led_value (kind.Word Return)) _ c.in_ok-result.ensures.ok (read c.in_ok-body.ensures.ok (open_then (took (c.in_ok-after-3.ensures.ok c.args.text.now) refl (open_then (read c.in_ok-width.ensures.ok (open_then (took (c.in_ok-after-2.ensures.ok c.args.text.now) refl (open_then (read c.in_ok-params.ensures.ok (open_then (took (c.in_ok-after.ensures.ok c.args.text.now) refl (open_then (front (led_name (kind.Word Fn)) _ c.in_ok-name.ensures.ok begun))))))))))))))))
+
+pub returns-clause-ok : goal.returns-clause-ok
+returns-clause-ok c = made _ (λ ts. refl) (took (c.in_ok-rest.ensures.ok c.args.text.now) refl (open_then (front (led_value (kind.Word Return)) _ c.in_ok-result.ensures.ok (read c.in_ok-body.ensures.ok (open_then (took (c.in_ok-after-3.ensures.ok c.args.text.now) refl (open_then (read c.in_ok-width.ensures.ok (open_then (took (c.in_ok-after-2.ensures.ok c.args.text.now) refl (open_then (read c.in_ok-params.ensures.ok (open_then (took (c.in_ok-after.ensures.ok c.args.text.now) refl (open_then (front (led_name (kind.Word Fn)) _ c.in_ok-name.ensures.ok begun))))))))))))))))
+
+pub returns-clause-shorter : goal.returns-clause-shorter
+returns-clause-shorter c = omega (arith, c.in_ok-name.ensures.shorter, c.in_ok-after.ensures.shorter, c.in_ok-params.ensures.ok.within, c.in_ok-after-2.ensures.shorter, c.in_ok-width.ensures.ok.within, c.in_ok-after-3.ensures.shorter, c.in_ok-body.ensures.ok.within, c.in_ok-result.ensures.shorter, c.in_ok-rest.ensures.shorter)

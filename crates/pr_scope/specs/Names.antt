@@ -1,0 +1,68 @@
+-- What names stand for where they are visible.
+use Rattle.std.specs.Prelude.{ℕ, Bool, true, false, not, ◌&&◌, ◌||◌, nat_eq, List, Option, Some, None, is_none, option_map, Vec, bytes_eq, codes, Result, Ok}
+use Rattle.std.specs.Ordering.{nat_cmp}
+use Rattle.std.specs.Cmp.Lexicographic.{slice_cmp}
+use Rattle.std.specs.Map.{update}
+use Rattle.std.specs.BTreeMap.{BTreeMap, get_by}
+use Rattle.std.specs.BTreeSet.{contains_by}
+use Rattle.std.specs.declared.alloc.Global.{Global}
+use Rattle.pr_scope.specs.declared.rules.Rule.TheVariants.{Introduced}
+use Rattle.pr_scope.specs.declared.rules.Offence.{Offence}
+use Rattle.pr_scope.specs.declared.names.Static.{Static}
+use Rattle.pr_scope.specs.declared.names.Static.TheVariants.{Function}
+use Rattle.pr_scope.specs.declared.names.Statics.{Statics}
+use Rattle.pr_scope.specs.declared.streams.Places.{Places}
+use Rattle.pr_scope.specs.declared.streams.Streams.{Streams}
+use Rattle.pr_scope.specs.Outcomes.{provided}
+
+-- the constants, tables, indices and functions that are visible
+abbrev pub Known : Type 0
+Known = List ℕ → Option Static
+
+-- The streams that are visible: for each name the instances that are assigned. An instance is the name alone, or the
+-- name with an index.
+abbrev pub Streaming : Type 0
+Streaming = List ℕ → Option (Option ℕ → Bool)
+
+abbrev pub bind : {X : Type 0} → List ℕ → X → (List ℕ → Option X) → List ℕ → Option X
+bind name x f = λ q. update bytes_eq f name (Some x) q
+
+abbrev pub unbind : {X : Type 0} → List ℕ → (List ℕ → Option X) → List ℕ → Option X
+unbind name f = λ q. update bytes_eq f name None q
+
+-- before the first item only `signed` is visible
+unfoldable pub built_in : Known
+built_in = bind (codes "signed") (Function (record { item = None; params = 1; turns = 0; depth = 0; past = false })) (λ _. None)
+
+abbrev pub same_place : Option ℕ → Option ℕ → Bool
+same_place None None = true
+same_place (Some m) (Some n) = nat_eq m n
+same_place _ _ = false
+
+abbrev pub held : Option (Option ℕ → Bool) → Option ℕ → Bool
+held None place = false
+held (Some places) place = places place
+
+abbrev pub is_free : List ℕ → Known → Streaming → Bool
+is_free name known streams = is_none (known name) && is_none (streams name)
+
+-- a name becomes a stream, or gets another instance
+abbrev pub with_place : List ℕ → Option ℕ → Streaming → Streaming
+with_place name place streams = bind name (λ q. same_place place q || held (streams name) q) streams
+
+abbrev pub assign : List ℕ → Option ℕ → Known → Streaming → Result Streaming Offence
+assign name place known streams = provided (is_none (known name) && not (held (streams name) place)) Introduced (Ok (with_place name place streams))
+
+-- what the code keeps
+abbrev pub at_name : {X : Type 0} → BTreeMap (Vec ℕ Global) X → List ℕ → Option X
+at_name m name = get_by (λ k. slice_cmp nat_cmp name k.items) m
+
+abbrev pub known_in : Statics → Known
+known_in s name = at_name s.map name
+
+abbrev pub has_place : Places → Option ℕ → Bool
+has_place p None = p.alone
+has_place p (Some n) = contains_by (nat_cmp n) p.indexed
+
+abbrev pub streams_in : Streams → Streaming
+streams_in s name = option_map has_place (at_name s.map name)

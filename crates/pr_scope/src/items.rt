@@ -1,0 +1,357 @@
+//! The walk over an item.
+ghost use Rattle.std.specs.Prelude.{◌≡◌, ◌<◌, IfOk, None, OnOk, map};
+ghost use Rattle.pr_scope.specs.Outcomes.{Gives, all_of};
+ghost use Rattle.pr_scope.specs.Names.{known_in, streams_in};
+ghost use Rattle.pr_scope.specs.Constants.{constant_of};
+ghost use Rattle.pr_scope.specs.Walk.{body_walk, callee_of, constant_change, function_change, have_widths, input_change, input_ready, introduced, item_change, output_change, output_ready, params_from, step_change, table_change, world_of};
+
+use crate::constants::constant;
+use crate::counts::{Count, count_one};
+use crate::expressions::{Scene, has_past, walk};
+use crate::names::{Callee, Static, Statics, Table};
+use crate::rules::{Offence, Rule, Stop};
+use crate::statements::{
+    Ready, any_stmt_past, assign_stream, complete, has_width, is_new, walk_stmt, walk_stmts,
+};
+use crate::streams::Streams;
+use pr_lang::{Expr, Fixed, Item, Name, Param, Stmt};
+use std::alloc::Global;
+
+/// What the items so far have made.
+#[derive(Drop)]
+pub struct Made {
+    pub statics: Statics,
+    pub streams: Streams,
+    pub count: Count,
+    pub inputs: Vec<u8>,
+    pub has_output: bool,
+}
+
+fn before_input(count: Count, width: u64) -> Result<Ready, Offence>
+    ensures value { result ≡ input_ready width count }
+    ensures grows { IfOk result (λ r. count.turns < r.count.turns) }
+    ensures byte { OnOk result (width < 256) }
+{
+    let count = count_one(count, 0)?;
+    if !has_width(Some(width)) {
+        return Err(Offence::Breaks(Rule::Bounds));
+    }
+    Ok(Ready { place: None, count })
+}
+
+fn before_output(
+    statics: &Statics,
+    streams: &Streams,
+    count: Count,
+    width: Option<u64>,
+    value: &Expr,
+) -> Result<Ready, Offence>
+    ensures value { result ≡ output_ready width value.now (known_in statics.now) (streams_in streams.now) count }
+    ensures grows { IfOk result (λ r. count.turns < r.count.turns) }
+{
+    let count = count_one(count, 0)?;
+    if !has_width(width) {
+        return Err(Offence::Breaks(Rule::Bounds));
+    }
+    let scene = Scene {
+        own: None,
+        inside: false,
+    };
+    let count = walk(statics, streams, &scene, count, value)?;
+    Ok(Ready { place: None, count })
+}
+
+/// A name that stands for no stream is introduced.
+fn introduce(
+    alloc: Global,
+    statics: &mut Statics,
+    streams: &Streams,
+    name: &Name,
+    what: Static,
+) -> Result<(), Stop>
+    ensures { Gives result (λ _. known_in statics.new) (introduced name.now what (known_in statics.old) (streams_in streams.now)) }
+{
+    if !is_new(statics, streams, name) {
+        return Err(Stop::Offends(Offence::Breaks(Rule::Introduced)));
+    }
+    match statics.set(alloc, name, what) {
+        Err(error) => Err(Stop::Memory(error)),
+        Ok(()) => Ok(()),
+    }
+}
+
+/// The entries of a table, from left to right.
+fn entries_of(alloc: Global, statics: &Statics, values: &[Fixed]) -> Result<Vec<u64>, Stop>
+    ensures { Gives result (λ v. v.items) (all_of (map (λ f. constant_of f (known_in statics.now)) values.now)) }
+{
+    let mut entries = Vec::new(alloc);
+    for value in values {
+        let number = match constant(statics, value) {
+            Err(offence) => return Err(Stop::Offends(offence)),
+            Ok(number) => number,
+        };
+        match entries.push(number) {
+            Err(failed) => return Err(Stop::Memory(failed.into())),
+            Ok(()) => {}
+        }
+    }
+    Ok(entries)
+}
+
+/// The streams of a function's parameters.
+fn locals_of(alloc: Global, statics: &Statics, params: &[Param]) -> Result<Streams, Stop>
+    ensures { Gives result (λ s. streams_in s) (params_from params.now (known_in statics.now) (λ _. None)) }
+{
+    let mut streams = Streams::new(alloc);
+    for param in params {
+        match assign_stream(alloc, statics, &mut streams, &param.name, None) {
+            Err(stop) => return Err(stop),
+            Ok(()) => {}
+        }
+    }
+    Ok(streams)
+}
+
+fn params_have_widths(params: &[Param]) -> bool
+    ensures { result ≡ have_widths params.now }
+{
+    for param in params {
+        if !has_width(param.width) {
+            return false;
+        }
+    }
+    true
+}
+
+/// The count of a function's body, which begins at 0.
+fn walk_body(
+    alloc: Global,
+    statics: &mut Statics,
+    locals: Streams,
+    body: &[Stmt],
+    value: &Expr,
+) -> Result<Count, Stop>
+    ensures walk { Gives result (λ c. c) (body_walk body.now value.now (known_in statics.old) (streams_in locals)) }
+    ensures same { OnOk result (known_in statics.new ≡ known_in statics.old) }
+{
+    let mut streams = locals;
+    let begin = Count {
+        turns: 0,
+        deepest: 0,
+    };
+    let count = match walk_stmts(alloc, statics, &mut streams, true, begin, body) {
+        Err(stop) => return Err(stop),
+        Ok(count) => count,
+    };
+    let scene = Scene {
+        own: None,
+        inside: true,
+    };
+    match walk(statics, &streams, &scene, count, value) {
+        Err(offence) => Err(Stop::Offends(offence)),
+        Ok(count) => Ok(count),
+    }
+}
+
+/// What callers see of a function, whose body is walked.
+fn define(
+    alloc: Global,
+    statics: &mut Statics,
+    number: u32,
+    params: &[Param],
+    width: Option<u64>,
+    body: &[Stmt],
+    value: &Expr,
+) -> Result<Callee, Stop>
+    ensures walk { Gives result (λ f. f) (callee_of number params.now width body.now value.now (known_in statics.old)) }
+    ensures same { OnOk result (known_in statics.new ≡ known_in statics.old) }
+{
+    let past = any_stmt_past(statics, body) || has_past(statics, value);
+    let locals = match locals_of(alloc, statics, params) {
+        Err(stop) => return Err(stop),
+        Ok(locals) => locals,
+    };
+    if !(params_have_widths(params) && has_width(width)) {
+        return Err(Stop::Offends(Offence::Breaks(Rule::Bounds)));
+    }
+    match walk_body(alloc, statics, locals, body, value) {
+        Err(stop) => Err(stop),
+        Ok(count) => Ok(Callee {
+            item: Some(number),
+            params: params.len(),
+            turns: count.turns,
+            depth: u32::from(count.deepest) + 1,
+            past,
+        }),
+    }
+}
+
+fn input(alloc: Global, made: &mut Made, name: &Name, width: u64) -> Result<(), Stop>
+    ensures walk { Gives result (λ _. world_of made.new) (input_change name.now width (world_of made.old)) }
+    ensures grows { OnOk result (made.old.count.turns < made.new.count.turns) }
+{
+    let ready = match before_input(made.count, width) {
+        Err(offence) => return Err(Stop::Offends(offence)),
+        Ok(ready) => ready,
+    };
+    match complete(alloc, &made.statics, &mut made.streams, name, ready) {
+        Err(stop) => return Err(stop),
+        Ok(count) => made.count = count,
+    }
+    match made.inputs.push(width as u8) {
+        Err(failed) => Err(Stop::Memory(failed.into())),
+        Ok(()) => Ok(()),
+    }
+}
+
+fn output(
+    alloc: Global,
+    made: &mut Made,
+    name: &Name,
+    width: Option<u64>,
+    value: &Expr,
+) -> Result<(), Stop>
+    ensures walk { Gives result (λ _. world_of made.new) (output_change name.now width value.now (world_of made.old)) }
+    ensures grows { OnOk result (made.old.count.turns < made.new.count.turns) }
+{
+    let ready = match before_output(&made.statics, &made.streams, made.count, width, value) {
+        Err(offence) => return Err(Stop::Offends(offence)),
+        Ok(ready) => ready,
+    };
+    match complete(alloc, &made.statics, &mut made.streams, name, ready) {
+        Err(stop) => Err(stop),
+        Ok(count) => {
+            made.count = count;
+            made.has_output = true;
+            Ok(())
+        }
+    }
+}
+
+fn constant_item(alloc: Global, made: &mut Made, name: &Name, value: &Fixed) -> Result<(), Stop>
+    ensures walk { Gives result (λ _. world_of made.new) (constant_change name.now value.now (world_of made.old)) }
+    ensures grows { OnOk result (made.old.count.turns < made.new.count.turns) }
+{
+    let count = match count_one(made.count, 0) {
+        Err(offence) => return Err(Stop::Offends(offence)),
+        Ok(count) => count,
+    };
+    let number = match constant(&made.statics, value) {
+        Err(offence) => return Err(Stop::Offends(offence)),
+        Ok(number) => number,
+    };
+    match introduce(
+        alloc,
+        &mut made.statics,
+        &made.streams,
+        name,
+        Static::Constant(number),
+    ) {
+        Err(stop) => Err(stop),
+        Ok(()) => {
+            made.count = count;
+            Ok(())
+        }
+    }
+}
+
+fn table_item(alloc: Global, made: &mut Made, name: &Name, values: &[Fixed]) -> Result<(), Stop>
+    ensures walk { Gives result (λ _. world_of made.new) (table_change name.now values.now (world_of made.old)) }
+    ensures grows { OnOk result (made.old.count.turns < made.new.count.turns) }
+{
+    let count = match count_one(made.count, 0) {
+        Err(offence) => return Err(Stop::Offends(offence)),
+        Ok(count) => count,
+    };
+    let entries = match entries_of(alloc, &made.statics, values) {
+        Err(stop) => return Err(stop),
+        Ok(entries) => Table::new(entries),
+    };
+    match introduce(
+        alloc,
+        &mut made.statics,
+        &made.streams,
+        name,
+        Static::Table(entries),
+    ) {
+        Err(stop) => Err(stop),
+        Ok(()) => {
+            made.count = count;
+            Ok(())
+        }
+    }
+}
+
+fn function_item(
+    alloc: Global,
+    made: &mut Made,
+    number: u32,
+    name: &Name,
+    params: &[Param],
+    width: Option<u64>,
+    body: &[Stmt],
+    value: &Expr,
+) -> Result<(), Stop>
+    ensures walk { Gives result (λ _. world_of made.new) (function_change number name.now params.now width body.now value.now (world_of made.old)) }
+    ensures grows { OnOk result (made.old.count.turns < made.new.count.turns) }
+{
+    let count = match count_one(made.count, 0) {
+        Err(offence) => return Err(Stop::Offends(offence)),
+        Ok(count) => count,
+    };
+    if !is_new(&made.statics, &made.streams, name) {
+        return Err(Stop::Offends(Offence::Breaks(Rule::Introduced)));
+    }
+    let callee = match define(alloc, &mut made.statics, number, params, width, body, value) {
+        Err(stop) => return Err(stop),
+        Ok(callee) => callee,
+    };
+    match made.statics.set(alloc, name, Static::Function(callee)) {
+        Err(error) => Err(Stop::Memory(error)),
+        Ok(()) => {
+            made.count = count;
+            Ok(())
+        }
+    }
+}
+
+fn step(alloc: Global, made: &mut Made, stmt: &Stmt) -> Result<(), Stop>
+    ensures walk { Gives result (λ _. world_of made.new) (step_change stmt.now (world_of made.old)) }
+    ensures grows { OnOk result (made.old.count.turns < made.new.count.turns) }
+{
+    match walk_stmt(
+        alloc,
+        &mut made.statics,
+        &mut made.streams,
+        false,
+        made.count,
+        stmt,
+    ) {
+        Err(stop) => Err(stop),
+        Ok(count) => {
+            made.count = count;
+            Ok(())
+        }
+    }
+}
+
+/// What the items have made after this one, which has this number.
+pub fn walk_item(alloc: Global, made: &mut Made, number: u32, item: &Item) -> Result<(), Stop>
+    ensures walk { Gives result (λ _. world_of made.new) (item_change number item.now (world_of made.old)) }
+    ensures grows { OnOk result (made.old.count.turns < made.new.count.turns) }
+{
+    match item {
+        Item::Input { name, width } => input(alloc, made, name, *width),
+        Item::Output { name, width, value } => output(alloc, made, name, *width, value),
+        Item::Const { name, value } => constant_item(alloc, made, name, value),
+        Item::Table { name, values } => table_item(alloc, made, name, values),
+        Item::Function {
+            name,
+            params,
+            width,
+            body,
+            result,
+        } => { function_item(alloc, made, number, name, params, *width, body, result) }
+        Item::Step(stmt) => step(alloc, made, stmt),
+    }
+}
