@@ -178,6 +178,7 @@ mod tests {
         let missing = read_all(rt.alloc(), &mut shelf, "nowhere", 10);
         assert!(rt; matches!(missing, Err(ReadAll::ReadFault)));
         assert_eq!(rt; shelf.faults, 1);
+        fs::remove_file(&rt, "there")?;
         Ok(())
     }
 

@@ -130,7 +130,8 @@ fn damaged_words_with_maps_are_refused(rt: HostRuntime) -> Result<(), Fail> {
     let table = [
         (9, 0x00000007, Some((6, 19))),
         (9, 0x00010003, Some((8, 9))),
-        (4, 0x00000041, Some((4, 5))),
+        (4, 0x00000041, None),
+        (4, 0x00000080, Some((4, 5))),
         (4, 0x00000081, Some((4, 4))),
         (0, 0x50495033, Some((2, 0))),
     ];

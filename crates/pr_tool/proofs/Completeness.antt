@@ -1,21 +1,18 @@
 -- Where nothing fails, the results are written.
-use Rattle.std.proofs.Common.{◌≡◌, ◌⊎◌, ℕ, ◌+◌, ◌<◌, ◌≤◌, ◌++◌, ◌∷◌, [], List, length, take, drop, Option, Some, None, inl, inr, refl, sym, ap, ◌∙◌, arith, All, length-append, append-nil}
+use Rattle.std.proofs.Common.{◌≡◌, ◌⊎◌, ℕ, ◌≤◌, ◌++◌, ◌∷◌, [], List, length, take, drop, Option, Some, None, inl, inr, refl, sym, ap, ◌∙◌, arith, All, length-append, append-nil}
 use Rattle.std.specs.List.{concat}
 use Rattle.std.proofs.Math.Seq.{take-append_seam, drop-append_seam}
 use Rattle.std.proofs.lemmas.List.Elements.{All-head, All-tail}
 use Rattle.pr_base.specs.Rows.{written}
 use Rattle.pr_edge.specs.Count.{Rose, IsSteady}
-use Rattle.pr_edge.specs.Files.{Told, IsMissing}
-use Rattle.pr_edge.specs.Tape.{Tape, Appends, AppendsFront}
+use Rattle.pr_edge.specs.Files.{Told}
+use Rattle.pr_edge.specs.Tape.{Tape, Appends}
 use Rattle.pr_tool.specs.declared.answers.Answer.{Answer}
-use Rattle.pr_tool.specs.declared.answers.Answer.TheVariants as Answer
-use Rattle.pr_tool.specs.declared.tokens.Token.{Token}
 use Rattle.pr_tool.specs.declared.tokens.Logic.{Logic}
 use Rattle.pr_tool.specs.Words.{Order, Wrong, Later, Run}
-use Rattle.pr_tool.specs.Tokens.{tokens_of}
-use Rattle.pr_tool.specs.Forms.{Program, IsProgram, AreTokensOf, input_tokens, output_tokens, out_of}
-use Rattle.pr_tool.specs.Samples.{AreSamples, IsSample, IsByte}
-use Rattle.pr_tool.specs.Verdict.{IsText, HasProgram, IsRun, HasOtherProgram, HasOtherSamples, IsNotYet, HasNoProgram, HasNoSamples, IsUnreadable, IsAnswered}
+use Rattle.pr_tool.specs.Forms.{Program, IsProgram, input_tokens, output_tokens, out_of}
+use Rattle.pr_tool.specs.Samples.{AreSamples, IsSample}
+use Rattle.pr_tool.specs.Verdict.{HasProgram, IsRun, IsNotYet, IsUnreadable, IsAnswered}
 use Rattle.pr_tool.proofs.FormsLemmas.{others_of}
 use Rattle.pr_tool.proofs.SamplesLemmas.{written_fields, fields_left, bytes_rows, no_fields, fields, column_after}
 

@@ -1,19 +1,17 @@
 -- The configuration of a program keeps the rules of the fabric, and its results are the program's output.
-use Rattle.std.proofs.Common.{◌≡◌, ℕ, zero, suc, ◌+◌, ◌-◌, ◌*◌, ◌/◌, ◌%◌, ◌^◌, ◌<◌, ◌≤◌, ◌&&◌, ◌==◌, Bool, true, false, List, [], ◌∷◌, ◌++◌, length, get_or, take, drop, map, replicate, nat_lt, nat_le, refl, sym, ap, ◌∙◌, arith, append_assoc, add-one, if◌then◌else◌}
-use Rattle.std.specs.List.{list_all, sum_by}
+use Rattle.std.proofs.Common.{◌≡◌, ℕ, zero, suc, ◌+◌, ◌-◌, ◌<◌, ◌==◌, true, false, List, [], ◌∷◌, ◌++◌, length, replicate, nat_lt, nat_le, refl, ap, arith, append_assoc, if◌then◌else◌}
+use Rattle.std.specs.List.{list_all}
 use Rattle.std.proofs.lemmas.Bool.{lt-ltb}
 use Rattle.std.proofs.lemmas.Bool.Decides.{nat_tests}
 use Rattle.std.proofs.lemmas.List.{length-replicate}
 use Rattle.std.proofs.lemmas.List.Sums.{sum_by-cons}
 use Rattle.pr_base.specs.Numbers.{slices_of}
 use Rattle.pr_conf.specs.declared.pes.Pe.{Pe}
-use Rattle.pr_conf.specs.declared.pes.Source.TheVariants as Source
 use Rattle.pr_conf.specs.declared.stages.Site.{Site}
-use Rattle.pr_conf.specs.Shape.{Shape}
-use Rattle.pr_conf.specs.Rules.{IsLawful, is_lawful_pe, are_lawful_pes, are_lawful_inputs, bytes_in, is_lawful_width, site_of}
+use Rattle.pr_conf.specs.Rules.{IsLawful, is_lawful_pe, are_lawful_pes, bytes_in, is_lawful_width, site_of}
 use Rattle.pr_tool.specs.declared.tokens.Logic.{Logic}
 use Rattle.pr_tool.specs.declared.parse.LogicProgram.{LogicProgram}
-use Rattle.pr_tool.specs.Configured.{lookup_pe, input_pe, idle_pe, operator_pe, input_pes, operator_pes, logic_shape, HasInputs}
+use Rattle.pr_tool.specs.Configured.{input_pe, idle_pe, input_pes, operator_pes, logic_shape, HasInputs}
 
 -- one more column
 pub input_pes_more : (made : List Pe) (col inputs : ℕ) → col < 16 → (made ++ (if nat_lt col inputs then input_pe col else idle_pe) ∷ []) ++ input_pes (16 - (col + 1)) (col + 1) inputs ≡ made ++ input_pes (16 - col) col inputs

@@ -1,7 +1,7 @@
 -- A machine that is driven through samples.
 use Rattle.std.proofs.Common.{◌≡◌, ℕ, zero, suc, ◌+◌, ◌-◌, ◌*◌, ◌<◌, ◌≤◌, List, [], ◌∷◌, ◌++◌, length, take, drop, replicate, refl, sym, ap, ◌∙◌, arith, add-one, drop-cons, append_assoc, append-nil, length-append, min, Option, Some, None, IsSome, IfSome, inl, inr, Bool, true, false, Result, Ok, Err, OnOk, OnErr, nat_lt, nat_le, get_or, if◌then◌else◌}
 use Rattle.std.proofs.Math.Seq.{take-append-add}
-use Rattle.std.proofs.lemmas.List.{take-append-le, take_all, take-take, take-append-drop, drop-drop, drop_all, length-take-le, length-drop}
+use Rattle.std.proofs.lemmas.List.{take-append-le, take_all, take-take, take-append-drop, drop-drop, length-take-le, length-drop}
 use Rattle.std.proofs.lemmas.Grind.{flat_map-append}
 use Rattle.std.proofs.lemmas.Bool.{cases_lt}
 use Rattle.pr_edge.specs.Tape.{IsAppended}
@@ -9,11 +9,10 @@ use Rattle.pr_edge.proofs.Appending.{Appends-append}
 use Rattle.pr_base.specs.Rows.{written, row_line}
 use Rattle.pr_edge.specs.Tape.{Tape, Appends, AppendsFront}
 use Rattle.pr_account.specs.Account.{Account, Event, Offer, Take, Cycle, after, account_from, account, left, start, stalled, entered, IsLawful}
-use Rattle.pr_account.specs.Drain.{Feeding, offer_next, rest_after, take_all_and_cycle, free_turn, free_turns, remaining, IsDrained}
+use Rattle.pr_account.specs.Drain.{Feeding, offer_next, rest_after, take_all_and_cycle, free_turn, free_turns}
 use Rattle.pr_account.proofs.AccountLaws.{account_push, account-append, from_append, lawful_from, lawful_start}
 use Rattle.pr_account.proofs.DrainLaws.{takes, turned_times, free_turns-add, drained}
 use Rattle.pr_account.proofs.ReplyLaws.{left_inside, length-through}
-use Rattle.pr_flow.specs.Rows.{Step, through}
 use Rattle.pr_flow.proofs.ResumeLaws.{take-through}
 use Rattle.pr_conf.specs.Shape.{Shape}
 use Rattle.pr_machine.specs.Stands.{Stands, History, waiting_results, IsKept, offer_reply, reply_of, account_of, time_of}

@@ -1,12 +1,12 @@
 -- The tokens of a program of the first form.
-use Rattle.std.proofs.Common.{◌≡◌, ℕ, zero, suc, ◌+◌, ◌<◌, ◌≤◌, ◌&&◌, Bool, true, false, not, List, [], ◌∷◌, ◌++◌, length, refl, sym, ap, ◌∙◌, arith, append_assoc, append-nil, length-append, position, map, true≢false, IsSome, Some, None, is_some, inl, inr, Option, IfSome, IfNone, nat_lt}
+use Rattle.std.proofs.Common.{◌≡◌, ℕ, ◌<◌, ◌≤◌, ◌&&◌, Bool, true, false, not, List, [], ◌∷◌, ◌++◌, length, refl, sym, ap, ◌∙◌, arith, append_assoc, append-nil, length-append, position, map, true≢false, Some, None, inl, inr, Option, IfSome, IfNone, nat_lt}
 use Rattle.std.specs.List.{prefix_len}
 use Rattle.std.proofs.lemmas.Bool.{lt-ltb}
 use Rattle.std.proofs.lemmas.List.{length-map}
 use Rattle.pr_tool.specs.declared.tokens.Token.{Token}
 use Rattle.pr_tool.specs.declared.tokens.Logic.{Logic}
 use Rattle.pr_tool.specs.declared.parse.LogicProgram.{LogicProgram}
-use Rattle.pr_tool.specs.Forms.{Program, input_tokens, output_tokens, place_in, has_name, are_new, AreTokensOf}
+use Rattle.pr_tool.specs.Forms.{Program, input_tokens, output_tokens, has_name, are_new, AreTokensOf}
 use Rattle.pr_tool.specs.Parsed.{IsPlaced, IsUnplaced, IsLogicOf}
 
 -- the statements of two lists of names

@@ -1,5 +1,5 @@
 -- What the configuration of a program makes of its samples.
-use Rattle.std.proofs.Common.{◌≡◌, ℕ, zero, suc, ◌+◌, ◌-◌, ◌*◌, ◌/◌, ◌%◌, ◌^◌, ◌<◌, ◌≤◌, ◌==◌, Bool, true, false, List, [], ◌∷◌, ◌++◌, length, get_or, take, drop, map, replicate, nat_lt, min, max, bit_and, bit_or, bit_xor, refl, sym, ap, ◌∙◌, arith, if◌then◌else◌, All, inl, inr, length-append}
+use Rattle.std.proofs.Common.{◌≡◌, ℕ, zero, suc, ◌+◌, ◌-◌, ◌*◌, ◌%◌, ◌^◌, ◌<◌, ◌≤◌, ◌==◌, Bool, true, false, List, [], ◌∷◌, length, get_or, take, drop, map, nat_lt, min, max, bit_and, bit_or, bit_xor, refl, sym, ap, ◌∙◌, arith, All, inl, inr, length-append}
 use Rattle.std.specs.Int.{bit_at}
 use Rattle.std.proofs.Math.Nat.{mod-eq_of_lt}
 use Rattle.std.proofs.lemmas.Bool.{cases_lt, lt-ltb}
@@ -7,11 +7,11 @@ use Rattle.std.proofs.lemmas.Bool.Decides.{nat_tests}
 use Rattle.std.proofs.lemmas.Nat.{mod-pow-add, and_mask, or_lt, xor_lt}
 use Rattle.std.specs.Int.Bits.{and_lt}
 use Rattle.std.proofs.lemmas.Nat.Bits.{bit_at_and, bit_at_or, bit_at_xor, bit_at-lt}
-use Rattle.std.proofs.lemmas.List.{get_or_append_left, get_or-append-add, get_or-drop, get_or-replicate, length-replicate, length-take-le, length-drop}
+use Rattle.std.proofs.lemmas.List.{get_or_append_left, get_or-append-add, length-take-le, length-drop}
 use Rattle.pr_base.specs.Pe.{Made, of_bits, looked_up}
 use Rattle.pr_conf.specs.declared.pes.Pe.{Pe}
 use Rattle.pr_base.specs.Pe.{shifted}
-use Rattle.pr_conf.specs.StageMap.{made_from, pe_made, source_byte, source_bit, output_at, passed, passed_bytes, register_of, registers_to, row_map, step_of}
+use Rattle.pr_conf.specs.StageMap.{made_from, pe_made, source_byte, source_bit, output_at, passed, passed_bytes, registers_to, row_map, step_of}
 use Rattle.pr_conf.specs.Through.{steps_of, tapped, results_of}
 use Rattle.pr_flow.specs.Rows.{Step, rows, rows_over}
 use Rattle.pr_stripe.specs.Elements.{is_free, bare_sight}
@@ -21,10 +21,8 @@ use Rattle.pr_tool.specs.declared.parse.LogicProgram.{LogicProgram}
 use Rattle.pr_stripe.proofs.ColumnLaws.{length-made_from, made_at, output_is}
 use Rattle.pr_stripe.proofs.FreeLaws.{free_output}
 use Rattle.pr_tool.specs.declared.tokens.Logic.{Logic}
-use Rattle.pr_tool.specs.declared.tokens.Logic.TheVariants as Logic
 use Rattle.pr_tool.specs.Forms.{applied}
-use Rattle.pr_tool.specs.Configured.{lookup_pe, input_pe, idle_pe, operator_pe, table_of, input_pes, operator_pes, logic_shape, HasInputs}
-use Rattle.pr_tool.proofs.ConfigureLemmas.{length-input_pes}
+use Rattle.pr_tool.specs.Configured.{input_pe, idle_pe, operator_pe, table_of, input_pes, operator_pes, logic_shape, HasInputs}
 
 -- ---- looking bits up
 of_bits_by : (n : ℕ) (f g : ℕ → ℕ) → ((k : ℕ) → k < n → f k ≡ g k) → of_bits n f ≡ of_bits n g

@@ -1,7 +1,7 @@
 -- The words of a text.
-use Rattle.std.proofs.Common.{◌≡◌, ℕ, zero, suc, ◌+◌, ◌-◌, ◌<◌, ◌≤◌, Bool, true, false, List, [], ◌∷◌, ◌++◌, length, get_or, drop, take, refl, sym, ◌∙◌, append-nil, arith, ◌&&◌, ◌||◌, ◌==◌, if◌then◌else◌}
+use Rattle.std.proofs.Common.{◌≡◌, ℕ, zero, suc, ◌+◌, ◌<◌, ◌≤◌, true, false, List, [], ◌∷◌, ◌++◌, length, get_or, drop, take, refl, sym, ◌∙◌, append-nil, arith, ◌==◌, if◌then◌else◌}
 use Rattle.std.proofs.lemmas.Bool.Decides.{nat_tests}
-use Rattle.pr_tool.specs.Tokens.{is_letter, is_word_byte, is_blank, joined, words_of, tokens_of}
+use Rattle.pr_tool.specs.Tokens.{is_word_byte, is_blank, joined, words_of, tokens_of}
 use Rattle.pr_tool.specs.declared.tokens.Token.{Token}
 
 -- no byte of a word is a blank

@@ -1,36 +1,31 @@
 -- From the parts of a run to the answer.
-use Rattle.std.proofs.Common.{◌≡◌, ◌⊎◌, ℕ, zero, suc, ◌+◌, ◌-◌, ◌*◌, ◌<◌, ◌≤◌, ◌++◌, ◌∷◌, [], List, length, map, replicate, take, drop, get_or, Option, Some, None, IfSome, Bool, true, false, inl, inr, refl, sym, ap, ◌∙◌, arith, All, length-append, cond, nat_lt, min, not}
-use Rattle.std.specs.List.{position, position_or_len, prefix_len, concat, join_with_byte}
+use Rattle.std.proofs.Common.{◌≡◌, ℕ, suc, ◌+◌, ◌<◌, ◌≤◌, ◌∷◌, [], List, length, map, replicate, get_or, Some, None, IfSome, true, false, refl, sym, ap, ◌∙◌, arith, All, length-append, cond, nat_lt, not}
+use Rattle.std.specs.List.{position_or_len, join_with_byte}
 use Rattle.std.specs.Fmt.{decimal}
-use Rattle.std.proofs.lemmas.List.{length-replicate, take-append-le, drop_all, take_all}
+use Rattle.std.proofs.lemmas.List.{length-replicate}
 use Rattle.std.proofs.lemmas.List.Elements.{All-head, All-tail}
 use Rattle.pr_base.specs.Rows.{written, row_line}
-use Rattle.pr_edge.specs.Count.{Rose, IsSteady}
 use Rattle.pr_edge.specs.Files.{Told, OfFile, IsMissing}
-use Rattle.pr_edge.specs.Tape.{Tape, Appends, AppendsFront}
+use Rattle.pr_edge.specs.Tape.{Tape}
 use Rattle.pr_conf.specs.Shape.{Shape}
 use Rattle.pr_conf.specs.Rules.{bytes_in}
 use Rattle.pr_conf.specs.Through.{results_of, output_widths}
 use Rattle.pr_account.specs.Account.{Account}
 use Rattle.pr_machine.specs.Stands.{Stands, conf_of}
 use Rattle.pr_tool.specs.declared.answers.Answer.{Answer}
-use Rattle.pr_tool.specs.declared.answers.Answer.TheVariants as Answer
 use Rattle.pr_tool.specs.declared.parse.LogicProgram.{LogicProgram}
 use Rattle.pr_tool.specs.declared.samples.Samples.{Samples}
-use Rattle.pr_tool.specs.declared.tokens.Token.{Token}
-use Rattle.pr_tool.specs.Words.{Order, Wrong, Later, Run}
-use Rattle.pr_tool.specs.Forms.{Program, IsProgram, AreTokensOf, input_tokens, output_tokens, place_in, is_named, number_of, applied, out_of}
+use Rattle.pr_tool.specs.Words.{Order, Run}
+use Rattle.pr_tool.specs.Forms.{Program, place_in, is_named, number_of, out_of}
 use Rattle.pr_tool.specs.Parsed.{IsLogicOf}
-use Rattle.pr_tool.specs.Samples.{AreSamples, IsSample, IsByte}
+use Rattle.pr_tool.specs.Samples.{IsSample}
 use Rattle.pr_tool.specs.Configured.{logic_shape, HasInputs}
 use Rattle.pr_tool.specs.Driven.{Base, IsReady, samples_of}
-use Rattle.pr_tool.specs.Verdict.{IsText, HasProgram, IsRun, HasOtherProgram, HasOtherSamples, IsNotYet, HasNoProgram, HasNoSamples, IsUnreadable, IsAnswered}
+use Rattle.pr_tool.specs.Verdict.{IsText, IsRun, IsAnswered}
 use Rattle.pr_tool.specs.Reading.{HasLogic, HasRows, logic_rows, IsRunAnswer}
 use Rattle.pr_tool.proofs.ConfigureLemmas.{bytes_in-inputs}
 use Rattle.pr_tool.proofs.ResultsLemmas.{logic_results}
 use Rattle.pr_tool.proofs.DriveLemmas.{account_nil}
-use Rattle.pr_tool.proofs.FormsLemmas.{others_of}
-use Rattle.pr_tool.proofs.SamplesLemmas.{written_fields, fields_left, bytes_rows, no_fields, fields}
 
 -- a file that is longer than it may be
 pub too_long : (told : Told) (name : List ℕ) (limit : ℕ) → OfFile told name (λ file. limit < length file) → (IsMissing told name → ⊥) → (text : List ℕ) × IsText told name text × (limit < length text)

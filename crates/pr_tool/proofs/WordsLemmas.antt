@@ -1,10 +1,10 @@
 -- Words that ask for nothing lawful.
-use Rattle.std.proofs.Common.{◌≡◌, ℕ, Bool, true, false, List, [], ◌∷◌, codes, nat_eq, ◌<◌, length, get_or, arith, string_bytes, String, Global, refl, sym, true≢false, ◌∙◌, ap}
+use Rattle.std.proofs.Common.{◌≡◌, ℕ, true, false, List, [], ◌∷◌, codes, nat_eq, ◌<◌, length, get_or, arith, string_bytes, String, Global, refl, sym, true≢false, ◌∙◌, ap}
 use Rattle.std.specs.Cmp.Lexicographic.{pointwise}
 use Rattle.std.proofs.lemmas.Slice.Eq.{slice_eq-Decides}
 use Rattle.std.proofs.lemmas.Bool.Decides.{Decides-eqb}
 use Rattle.std.proofs.lemmas.Bool.{false_from_ne_true}
-use Rattle.pr_tool.specs.Words.{is_mode, order_of, texts_of, later_or_wrong, Wrong}
+use Rattle.pr_tool.specs.Words.{is_mode, order_of, texts_of, Wrong}
 
 run_is_mode : is_mode (codes "run") ≡ true
 unfolding is_mode

@@ -1,9 +1,7 @@
 -- The status of each answer.
 use Rattle.std.specs.Prelude.{ℕ}
 use Rattle.pr_tool.specs.declared.answers.Answer.{Answer}
-use Rattle.pr_tool.specs.declared.answers.Answer.TheVariants as Answer
 use Rattle.pr_tool.specs.declared.answers.Cause.{Cause}
-use Rattle.pr_tool.specs.declared.answers.Cause.TheVariants as Cause
 
 abbrev pub cause_status : Cause → ℕ
 cause_status (Cause.Syntax token) = 3

@@ -4,13 +4,11 @@ use Rattle.pr_base.specs.declared.choices.Mode.TheVariants as Mode
 use Rattle.pr_base.specs.declared.choices.Carry.TheVariants as Carry
 use Rattle.pr_base.specs.declared.choices.Next.TheVariants as Next
 use Rattle.pr_conf.specs.declared.pes.Source.{Source}
-use Rattle.pr_conf.specs.declared.pes.Source.TheVariants as Source
 use Rattle.pr_conf.specs.declared.pes.Bit.TheVariants as Bit
 use Rattle.pr_conf.specs.declared.pes.Pe.{Pe}
 use Rattle.pr_conf.specs.declared.outputs.Tap.TheVariants as Tap
 use Rattle.pr_conf.specs.Shape.{Shape}
 use Rattle.pr_tool.specs.declared.tokens.Logic.{Logic}
-use Rattle.pr_tool.specs.declared.tokens.Logic.TheVariants as Logic
 use Rattle.pr_tool.specs.declared.parse.LogicProgram.{LogicProgram}
 
 -- a processing element that looks up the bits of A and B, and keeps its state

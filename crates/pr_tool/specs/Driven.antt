@@ -1,5 +1,5 @@
 -- A machine that is driven through samples.
-use Rattle.std.specs.Prelude.{◌≡◌, ◌<◌, ◌≤◌, ℕ, List, [], length, drop}
+use Rattle.std.specs.Prelude.{◌≡◌, ◌<◌, ◌≤◌, ℕ, List, [], length}
 use Rattle.pr_machine.specs.declared.machine.Machine.{Machine}
 use Rattle.pr_machine.specs.declared.machine.Running.{Running}
 use Rattle.pr_machine.specs.declared.loaded.Loaded.{Loaded}

@@ -2,9 +2,7 @@
 use Rattle.std.specs.Prelude.{◌≡◌, ◌≤◌, ◌&&◌, ℕ, Bool, true, not, Option, is_some, List, [], ◌∷◌, ◌++◌, length, map, nat_eq, position, bit_and, bit_or, bit_xor, if◌then◌else◌}
 use Rattle.std.specs.Cmp.Lexicographic.{pointwise}
 use Rattle.pr_tool.specs.declared.tokens.Token.{Token}
-use Rattle.pr_tool.specs.declared.tokens.Token.TheVariants as Token
 use Rattle.pr_tool.specs.declared.tokens.Logic.{Logic}
-use Rattle.pr_tool.specs.declared.tokens.Logic.TheVariants as Logic
 use Rattle.pr_tool.specs.Tokens.{tokens_of}
 
 -- inputs of 8 bits, and one output: an operator on two of them

@@ -1,11 +1,10 @@
 -- What the parts of a run come to.
-use Rattle.std.specs.Prelude.{◌≡◌, ◌⊎◌, ◌<◌, ◌≤◌, ◌∷◌, [], ℕ, List, length, map, slice_index, IsErr}
+use Rattle.std.specs.Prelude.{◌≡◌, ◌<◌, ◌∷◌, [], ℕ, List, length, map, slice_index}
 use Rattle.pr_base.specs.Rows.{written}
 use Rattle.pr_edge.specs.Count.{Rose}
-use Rattle.pr_edge.specs.Files.{Told, OfFile, IsMissing, HasReadCause}
+use Rattle.pr_edge.specs.Files.{Told, HasReadCause}
 use Rattle.pr_edge.specs.Tape.{Tape, Appends, AppendsFront}
 use Rattle.pr_tool.specs.declared.answers.Answer.{Answer}
-use Rattle.pr_tool.specs.declared.answers.Answer.TheVariants as Answer
 use Rattle.pr_tool.specs.declared.parse.LogicProgram.{LogicProgram}
 use Rattle.pr_tool.specs.declared.samples.Samples.{Samples}
 use Rattle.pr_tool.specs.Forms.{Program, IsProgram, applied}

@@ -1,11 +1,9 @@
 -- The tokens of a program, in the first form that is built.
-use Rattle.std.specs.Prelude.{ℕ, Bool, true, false, List, [], ◌∷◌, codes, map, nat_eq, nat_le, ◌&&◌, ◌||◌, ◌==◌, not, if◌then◌else◌}
+use Rattle.std.specs.Prelude.{ℕ, Bool, false, List, [], ◌∷◌, codes, map, nat_eq, nat_le, ◌&&◌, ◌||◌, ◌==◌, not, if◌then◌else◌}
 use Rattle.std.specs.List.{list_any}
 use Rattle.std.specs.Cmp.Lexicographic.{pointwise}
 use Rattle.pr_tool.specs.declared.tokens.Token.{Token}
-use Rattle.pr_tool.specs.declared.tokens.Token.TheVariants as Token
 use Rattle.pr_tool.specs.declared.tokens.Logic.{Logic}
-use Rattle.pr_tool.specs.declared.tokens.Logic.TheVariants as Logic
 
 -- a letter or `_`
 abbrev pub is_letter : ℕ → Bool

@@ -1,11 +1,10 @@
 -- What a call of the tool comes to.
-use Rattle.std.specs.Prelude.{◌≡◌, ◌⊎◌, ◌<◌, ◌≤◌, ℕ, List, length, Option, Some, None, ⊤}
+use Rattle.std.specs.Prelude.{◌≡◌, ◌⊎◌, ℕ, List, length, Some, None, ⊤}
 use Rattle.pr_base.specs.Rows.{written}
 use Rattle.pr_edge.specs.Count.{Rose}
 use Rattle.pr_edge.specs.Files.{Told, IsMissing}
 use Rattle.pr_edge.specs.Tape.{Tape, Appends, AppendsFront}
 use Rattle.pr_tool.specs.declared.answers.Answer.{Answer}
-use Rattle.pr_tool.specs.declared.answers.Answer.TheVariants as Answer
 use Rattle.pr_tool.specs.Words.{Order, Wrong, Later, Run}
 use Rattle.pr_tool.specs.Forms.{Program, IsProgram, out_of}
 use Rattle.pr_tool.specs.Samples.{AreSamples}

@@ -1,6 +1,5 @@
-use Rattle.std.proofs.Common.{◌≡◌, ◌+◌, ◌-◌, ◌++◌, ◌∷◌, [], List, replicate, ◌∙◌, ap, arith, vec_len, refl}
+use Rattle.std.proofs.Common.{◌≡◌, ◌+◌, ◌++◌, ◌∷◌, [], ◌∙◌, ap, arith, vec_len}
 use Rattle.pr_conf.specs.declared.pes.Pe.{Pe}
-use Rattle.pr_tool.specs.Configured.{idle_pe}
 use Rattle.pr_tool.proofs.ConfigureLemmas.{idle_more}
 use Rattle.pr_tool.proofs.configure.operator_stage.Goals as goal
 

@@ -1,14 +1,14 @@
-use Rattle.std.proofs.Common.{◌≡◌, ◌+◌, ◌<◌, ◌≤◌, ◌^◌, List, ℕ, length, drop, map, sym, ap, ◌∙◌, arith, vec_len, refl}
+use Rattle.std.proofs.Common.{◌≡◌, ◌+◌, ◌≤◌, List, ℕ, length, drop, ap, ◌∙◌, arith, vec_len, refl}
 use Rattle.std.proofs.lemmas.List.{length-map}
 use Rattle.pr_account.specs.Account.{start}
-use Rattle.pr_account.specs.Drain.{Feeding, free_turns, free_turn}
+use Rattle.pr_account.specs.Drain.{Feeding, free_turns}
 use Rattle.pr_conf.specs.declared.configurations.Configuration.{Configuration}
 use Rattle.pr_conf.specs.Configuration.{shape_of, pes_of}
 use Rattle.pr_conf.specs.Rules.{bytes_in}
 use Rattle.pr_conf.specs.Through.{output_widths}
-use Rattle.pr_machine.specs.Stands.{conf_of, stripes_of, time_of}
+use Rattle.pr_machine.specs.Stands.{conf_of, stripes_of}
 use Rattle.pr_tool.specs.Driven.{samples_of}
-use Rattle.pr_tool.proofs.DriveLemmas.{Driving, turn_driven, front_turn, front_driven, all_driven, begun, turns_on, kept_time, on_ok, on_err, length-pieces}
+use Rattle.pr_tool.proofs.DriveLemmas.{turn_driven, front_turn, front_driven, all_driven, begun, turns_on, kept_time, on_ok, on_err, length-pieces}
 use Rattle.pr_tool.proofs.drive.drive.Goals as goal
 
 same_result : (a b : Configuration 16 8) → a ≡ b → bytes_in (output_widths (shape_of a)) ≡ bytes_in (output_widths (shape_of b))

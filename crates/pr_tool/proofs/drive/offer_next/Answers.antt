@@ -1,4 +1,4 @@
-use Rattle.std.proofs.Common.{◌≡◌, ◌+◌, ◌<◌, ◌∷◌, [], List, ℕ, length, drop, get_or, sym, ap, ◌∙◌, arith, add-one, drop-cons, true, false}
+use Rattle.std.proofs.Common.{◌+◌, drop, arith, true, false}
 use Rattle.std.proofs.lemmas.List.{drop_all}
 use Rattle.pr_tool.specs.Driven.{samples_of}
 use Rattle.pr_tool.proofs.DriveLemmas.{offers_none, offers_one, length-pieces, next_sample}

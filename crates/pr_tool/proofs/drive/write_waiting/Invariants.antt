@@ -1,9 +1,5 @@
-use Rattle.std.proofs.Common.{◌≡◌, ◌≤◌, ◌++◌, ℕ, List, length, replicate}
-use Rattle.pr_base.specs.Rows.{written}
-use Rattle.pr_edge.specs.Tape.{Appends}
-use Rattle.pr_account.specs.Account.{Take}
-use Rattle.pr_conf.specs.Shape.{Shape}
-use Rattle.pr_machine.specs.Stands.{Stands, History, waiting_results, IsKept}
+use Rattle.std.proofs.Common.{◌≤◌, length}
+use Rattle.pr_machine.specs.Stands.{waiting_results}
 use Rattle.pr_tool.proofs.DriveLemmas.{Taken}
 use Rattle.pr_tool.proofs.drive.write_waiting.Given as goal
 

@@ -1,4 +1,3 @@
-use Rattle.std.proofs.Common.{◌≡◌}
 use Rattle.pr_tool.proofs.notes.put_cause.Goals as goal
 
 pub returns-in-Syntax-clause-bytes : goal.returns-in-Syntax-clause-bytes

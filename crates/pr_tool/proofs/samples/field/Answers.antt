@@ -1,4 +1,4 @@
-use Rattle.std.proofs.Common.{◌≡◌, ◌+◌, ◌-◌, length, take, drop, refl}
+use Rattle.std.proofs.Common.{◌≡◌, ◌+◌, ◌-◌, length, take, drop}
 use Rattle.std.proofs.lemmas.List.{take_rest}
 use Rattle.pr_tool.proofs.SamplesLemmas.{field_some, field_none}
 use Rattle.pr_tool.proofs.samples.field.Goals as goal

@@ -1,7 +1,7 @@
-use Rattle.std.proofs.Common.{◌≡◌, ◌<◌, ◌/◌, ◌*◌, ◌++◌, [], ◌∙◌, sym, ap, refl, arith, length, append-nil}
+use Rattle.std.proofs.Common.{◌≡◌, ◌<◌, ◌/◌, ◌∙◌, sym, ap, refl, arith, length, append-nil}
 use Rattle.std.proofs.lemmas.List.Elements.{All-push}
 use Rattle.pr_tool.specs.Samples.{IsByte, next_column}
-use Rattle.pr_tool.proofs.SamplesLemmas.{fields, fields_on, column_after, column_after-push, no_field, no_end, some_left, none_left, whole_samples, whole_div}
+use Rattle.pr_tool.proofs.SamplesLemmas.{fields_on, column_after-push, no_field, no_end, some_left, none_left, whole_samples, whole_div}
 use Rattle.pr_tool.proofs.samples.parse_samples.Goals as goal
 
 pub returns-in_default-clause-none : goal.returns-in_default-clause-none

@@ -1,4 +1,4 @@
-use Rattle.std.proofs.Common.{◌≡◌, length, ap, ◌∙◌, arith}
+use Rattle.std.proofs.Common.{length, ap, arith}
 use Rattle.pr_tool.specs.Driven.{samples_of}
 use Rattle.pr_tool.proofs.DriveLemmas.{length-pieces}
 use Rattle.pr_tool.proofs.ToolLemmas.{rows_fit, answered}

@@ -1,4 +1,3 @@
-use Rattle.std.proofs.Common.{ap, ◌∙◌}
 use Rattle.pr_tool.specs.Driven.{samples_of}
 use Rattle.pr_tool.proofs.ToolLemmas.{ready, same_results}
 use Rattle.pr_tool.proofs.tool.run.Goals as goal
