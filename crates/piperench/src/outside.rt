@@ -1,5 +1,5 @@
 //! Real files and streams as a shelf and as sinks. They tell nothing, and count their failures.
-ghost use Rattle.std.specs.Prelude.{ℕ, ◌^◌, ◌<◌, ◌≤◌, length, None, IfOk, IfSome, OnErr};
+ghost use Rattle.std.specs.Prelude.{◌≡◌, ℕ, ◌^◌, ◌<◌, ◌≤◌, length, None, IfOk, IfSome, OnErr};
 ghost use Rattle.pr_edge.specs.Count.{Rose};
 
 use pr_edge::{Failed, Shelf, Sink};
@@ -20,7 +20,9 @@ pub struct FileShelf<'a, R> {
 
 impl<'a, R: Files> FileShelf<'a, R> {
     /// A shelf of which no call failed yet.
-    pub fn new(rt: &'a R) -> Self {
+    pub fn new(rt: &'a R) -> Self
+        ensures { result.faults ≡ 0 }
+    {
         FileShelf { rt, faults: 0 }
     }
 }
@@ -70,7 +72,9 @@ pub struct OutSink<W> {
 
 impl<W: Write> OutSink<W> {
     /// A sink of which no call failed yet.
-    pub fn new(inner: W) -> Self {
+    pub fn new(inner: W) -> Self
+        ensures { result.faults ≡ 0 }
+    {
         OutSink { inner, faults: 0 }
     }
 
