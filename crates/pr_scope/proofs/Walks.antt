@@ -15,18 +15,23 @@ use Rattle.pr_lang.specs.declared.trees.Stmt.{Stmt}
 use Rattle.pr_lang.specs.declared.trees.Stmt.TheVariants.{Let, Rec, For}
 use Rattle.pr_lang.specs.declared.trees.Stmt.TheOpen.{Stmt-F}
 use Rattle.pr_lang.specs.declared.trees.Stmt.TheFolds.{fold-roll-Stmt}
-use Rattle.pr_scope.specs.declared.rules.Offence.{Offence}
-use Rattle.pr_scope.specs.declared.rules.Stop.{Stop}
-use Rattle.pr_scope.specs.declared.rules.Stop.TheVariants.{Offends, Memory}
-use Rattle.pr_scope.specs.declared.counts.Count.{Count}
+use Rattle.pr_names.specs.declared.rules.Offence.{Offence}
+use Rattle.pr_names.specs.declared.rules.Stop.{Stop}
+use Rattle.pr_names.specs.declared.rules.Stop.TheVariants.{Offends, Memory}
+use Rattle.pr_names.specs.declared.counts.Count.{Count}
 use Rattle.pr_scope.specs.declared.expressions.Scene.{Scene}
 use Rattle.pr_scope.specs.declared.statements.Span.{Span}
-use Rattle.pr_scope.specs.Outcomes.{all_of, and_then, Gives, IsOffence}
-use Rattle.pr_scope.specs.Names.{Known, Streaming, assign}
+use Rattle.pr_names.specs.Outcomes.{all_of, and_then, Gives, IsOffence}
+use Rattle.pr_names.specs.Names.{Known, Streaming, assign}
+use Rattle.pr_names.specs.Amounts.{amount_of}
+use Rattle.pr_names.proofs.Folds.{amount_kept}
 use Rattle.pr_scope.specs.Expressions.{Reading, called, reading, reading_step, walk_of, walks_of}
 use Rattle.pr_scope.specs.declared.checking.ScopeFault.{ScopeFault}
 use Rattle.pr_scope.specs.Walk.{IsFault, IsRefusal, Refusal, World, body_walk, item_change, items_walk, onward, params_from, refusal_of}
 use Rattle.pr_scope.specs.Statements.{Change, Progress, change_of, changes_of, completed, for_ready, let_ready, rec_ready, stmt_step, turn, turns}
+
+pub reading_amount : (e : Expr) → (reading e).amount ≡ amount_of e
+reading_amount = amount_kept Reading reading_step (λ r. r.amount) (λ x. refl)
 
 -- what a walk is at a call, and at a statement of each kind
 pub call_law : (name : List ℕ) (args : Vec Expr Global) (known : Known) (streams : Streaming) (scene : Scene) (c : Count) → walk_of (Call name args) known streams scene c ≡ and_then (walks_of (map reading args.items) known streams scene c) (called (known name) (length (map reading args.items)) scene)

@@ -1,25 +1,23 @@
 -- The walk over an expression.
-use Rattle.std.specs.Prelude.{ℕ, max, Bool, true, false, cond, not, ◌&&◌, ◌||◌, nat_eq, nat_lt, nat_le, List, map, length, Option, Some, None, is_none, slice_get, bytes_eq, Result, Ok, Err}
+use Rattle.std.specs.Prelude.{ℕ, max, Bool, true, false, cond, not, ◌&&◌, ◌||◌, nat_eq, nat_lt, nat_le, List, map, length, Option, Some, None, is_none, bytes_eq, Result, Ok, Err}
 use Rattle.std.specs.List.{list_any}
-use Rattle.pr_lang.specs.declared.trees.FixedOp.{FixedOp}
-use Rattle.pr_lang.specs.declared.trees.FixedOp.TheVariants as fixed
-use Rattle.pr_lang.specs.declared.trees.Fixed.{Fixed}
 use Rattle.pr_lang.specs.declared.trees.BinOp.{BinOp}
-use Rattle.pr_lang.specs.declared.trees.BinOp.TheVariants.{Add, Sub, Mul, Left, Right}
+use Rattle.pr_lang.specs.declared.trees.BinOp.TheVariants.{Left, Right}
 use Rattle.pr_lang.specs.declared.trees.Expr.{Expr}
 use Rattle.pr_lang.specs.declared.trees.Expr.TheOpen.{Expr-F}
 use Rattle.pr_lang.specs.declared.trees.Expr.TheFolds.{fold-Expr}
-use Rattle.pr_scope.specs.declared.rules.Rule.TheVariants.{Assigned, Kinds, Calls, Bounds, Recurrences}
-use Rattle.pr_scope.specs.declared.rules.Offence.{Offence}
-use Rattle.pr_scope.specs.declared.rules.Offence.TheVariants.{Breaks}
-use Rattle.pr_scope.specs.declared.counts.Count.{Count}
-use Rattle.pr_scope.specs.declared.names.Static.{Static}
-use Rattle.pr_scope.specs.declared.names.Static.TheVariants.{Constant, Index, Table, Function}
-use Rattle.pr_scope.specs.declared.streams.Instance.{Instance}
+use Rattle.pr_names.specs.declared.rules.Rule.TheVariants.{Assigned, Kinds, Calls, Bounds, Recurrences}
+use Rattle.pr_names.specs.declared.rules.Offence.{Offence}
+use Rattle.pr_names.specs.declared.rules.Offence.TheVariants.{Breaks}
+use Rattle.pr_names.specs.declared.counts.Count.{Count}
+use Rattle.pr_names.specs.declared.names.Static.{Static}
+use Rattle.pr_names.specs.declared.names.Static.TheVariants.{Function}
+use Rattle.pr_names.specs.declared.streams.Instance.{Instance}
 use Rattle.pr_scope.specs.declared.expressions.Scene.{Scene}
-use Rattle.pr_scope.specs.Outcomes.{and_then, provided, in_turn, counted}
-use Rattle.pr_scope.specs.Names.{Known, Streaming, same_place, held}
-use Rattle.pr_scope.specs.Constants.{read, entry_of, applied, constant_of, place_of}
+use Rattle.pr_names.specs.Outcomes.{and_then, provided, in_turn, counted}
+use Rattle.pr_names.specs.Names.{Known, Streaming, same_place, held}
+use Rattle.pr_names.specs.Constants.{read, constant_of, place_of}
+use Rattle.pr_names.specs.Amounts.{Amount, amount_step}
 
 abbrev pub is_instance : Option Instance → List ℕ → Option ℕ → Bool
 is_instance None name place = false
@@ -59,24 +57,6 @@ may_call _ given scene c = Err (Breaks Kinds)
 abbrev pub called : Option Static → ℕ → Scene → Count → Result Count Offence
 called callee given scene c = and_then (counted (body_turns callee) c) (may_call callee given scene)
 
--- A constant shift's amount: its value, where it is built from numbers, constants, indices and entries of tables by these
--- operators and parentheses.
-abbrev pub fixed_op : BinOp → Option FixedOp
-fixed_op Add = Some fixed.Add
-fixed_op Sub = Some fixed.Sub
-fixed_op Mul = Some fixed.Mul
-fixed_op _ = None
-
-abbrev pub named_amount : Option Static → Option Fixed → Known → Option (Result ℕ Offence)
-named_amount (Some (Constant n)) None known = Some (Ok n)
-named_amount (Some (Index n)) None known = Some (Ok n)
-named_amount (Some (Table entries)) (Some index) known = Some (and_then (constant_of index known) (λ place. entry_of (slice_get entries place)))
-named_amount _ _ known = None
-
-abbrev pub both_amounts : Option FixedOp → Option (Result ℕ Offence) → Option (Result ℕ Offence) → Option (Result ℕ Offence)
-both_amounts (Some op) (Some a) (Some b) = Some (and_then a (λ x. and_then b (λ y. applied op x y)))
-both_amounts _ _ _ = None
-
 -- a shift by a constant is by at most 128
 abbrev pub shifted : Result ℕ Offence → Count → Result Count Offence
 shifted amount c = and_then amount (λ n. provided (nat_le n 128) Bounds (Ok c))
@@ -84,7 +64,7 @@ shifted amount c = and_then amount (λ n. provided (nat_le n 128) Bounds (Ok c))
 -- what an expression is: its walk, and its value as a constant shift's amount where it can be one
 pub record Reading : Type 0 where
   pub walk : Known → Streaming → Scene → Count → Result Count Offence
-  pub amount : Known → Option (Result ℕ Offence)
+  pub amount : Amount
 
 abbrev pub walks_of : List Reading → Known → Streaming → Scene → Count → Result Count Offence
 walks_of parts known streams scene = in_turn (map (λ (r : Reading). r.walk known streams scene) parts)
@@ -129,24 +109,14 @@ walk_step (Expr-F.Call name args) known streams scene c =
 walk_step (Expr-F.Cat parts) known streams scene c = walks_of parts.items known streams scene c
 walk_step (Expr-F.Paren e) known streams scene c = e.value.walk known streams scene c
 
-abbrev pub amount_step : Expr-F Reading → Known → Option (Result ℕ Offence)
-amount_step (Expr-F.Number n) known = Some (Ok n)
-amount_step (Expr-F.Refer r) known = named_amount (known r.name) r.index known
-amount_step (Expr-F.Binary op a b) known = both_amounts (fixed_op op) (a.value.amount known) (b.value.amount known)
-amount_step (Expr-F.Paren e) known = e.value.amount known
-amount_step _ known = None
-
 abbrev pub reading_step : Expr-F Reading → Reading
-reading_step e = record { walk = walk_step e; amount = amount_step e }
+reading_step e = record { walk = walk_step e; amount = amount_step (λ (r : Reading). r.amount) e }
 
 abbrev pub reading : Expr → Reading
 reading = fold-Expr Reading reading_step
 
 abbrev pub walk_of : Expr → Known → Streaming → Scene → Count → Result Count Offence
 walk_of e = (reading e).walk
-
-abbrev pub amount_of : Expr → Known → Option (Result ℕ Offence)
-amount_of e = (reading e).amount
 
 -- Whether the text has `@`, or a call of a function whose own has it.
 abbrev pub is_past : Option Static → Bool

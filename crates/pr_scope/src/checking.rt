@@ -2,13 +2,11 @@
 ghost use Rattle.std.specs.Prelude.{◌≡◌, IfErr, IfOk};
 ghost use Rattle.pr_scope.specs.Walk.{IsFault, IsRefusal, IsScoped, Walked, ended, items_walk, offence, world_of};
 
-use crate::counts::Count;
-use crate::items::{Made, walk_item};
-use crate::names::Statics;
-use crate::rules::{Offence, Rule, Stop};
-use crate::streams::Streams;
+use crate::items::walk_item;
+use crate::progress::Made;
 use pr_base::Cap;
 use pr_lang::{Item, Program};
+use pr_names::{Count, Offence, Rule, Statics, Stop, Streams};
 use std::alloc::{AllocError, Global};
 use thiserror::Error;
 

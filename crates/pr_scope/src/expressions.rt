@@ -1,16 +1,15 @@
 //! The walk over an expression.
 ghost use Rattle.std.specs.Prelude.{◌≡◌, ◌≤◌, IfOk, ℕ, Bool, Option, None, Some, if◌then◌else◌, map};
-ghost use Rattle.pr_scope.specs.Outcomes.{and_then};
-ghost use Rattle.pr_scope.specs.Names.{Known, held, known_in, same_place, streams_in};
-ghost use Rattle.pr_scope.specs.Constants.{applied, constant_of, place_of, read};
-ghost use Rattle.pr_scope.specs.Expressions.{amount_of, back_by, bounds, called, delayed, fixed_op, is_delay, is_instance, is_past, is_shift, named_amount, past_of, pasts_of, reading, shifted, used, walk_of, walks_of};
+ghost use Rattle.pr_names.specs.Outcomes.{and_then};
+ghost use Rattle.pr_names.specs.Names.{held, known_in, same_place, streams_in};
+ghost use Rattle.pr_names.specs.Constants.{constant_of, place_of};
+ghost use Rattle.pr_scope.specs.Expressions.{back_by, bounds, called, delayed, is_delay, is_instance, is_past, is_shift, past_of, pasts_of, reading, shifted, used, walk_of, walks_of};
 
-use crate::constants::{apply, constant, place, read_static};
-use crate::counts::{Count, count_one};
-use crate::names::{Callee, Static, Statics};
-use crate::rules::{Offence, Rule};
-use crate::streams::{Instance, Streams};
-use pr_lang::{BinOp, Expr, Fixed, FixedOp, Name, Ref};
+use pr_lang::{BinOp, Expr, Fixed, Name, Ref};
+use pr_names::{
+    Callee, Count, Instance, Offence, Rule, Static, Statics, Streams, amount, constant, count_one,
+    place, read_static,
+};
 
 /// The most samples that a delay may go back.
 const MOST_DELAY: u64 = 256;
@@ -233,27 +232,6 @@ fn call(
     Err(Offence::Breaks(Rule::Kinds))
 }
 
-fn constant_op(op: BinOp) -> Option<FixedOp>
-    ensures { result ≡ fixed_op op }
-{
-    match op {
-        BinOp::Add => Some(FixedOp::Add),
-        BinOp::Sub => Some(FixedOp::Sub),
-        BinOp::Mul => Some(FixedOp::Mul),
-        BinOp::And => None,
-        BinOp::Or => None,
-        BinOp::Xor => None,
-        BinOp::Equal => None,
-        BinOp::NotEqual => None,
-        BinOp::Less => None,
-        BinOp::LessEqual => None,
-        BinOp::Greater => None,
-        BinOp::GreaterEqual => None,
-        BinOp::Left => None,
-        BinOp::Right => None,
-    }
-}
-
 fn shifts(op: BinOp) -> bool
     ensures { result ≡ is_shift op }
 {
@@ -275,77 +253,6 @@ fn shifts(op: BinOp) -> bool
     }
 }
 
-/// One step, where both parts have a value.
-fn combine(op: FixedOp, a: Result<u64, Offence>, b: Result<u64, Offence>) -> Result<u64, Offence>
-    ensures { result ≡ and_then a (λ x. and_then b (λ y. applied op x y)) }
-{
-    let a = a?;
-    let b = b?;
-    apply(op, a, b)
-}
-
-fn entry_amount(statics: &Statics, known: &Static, index: &Fixed) -> Option<Result<u64, Offence>>
-    ensures { result ≡ named_amount (Some known.now) (Some index.now) (known_in statics.now) }
-{
-    match known {
-        Static::Constant(_) => None,
-        Static::Index(_) => None,
-        Static::Table(_) => Some(entry_value(statics, known, index)),
-        Static::Function(_) => None,
-    }
-}
-
-fn entry_value(statics: &Statics, known: &Static, index: &Fixed) -> Result<u64, Offence>
-    ensures { result ≡ and_then (constant_of index.now (known_in statics.now)) (λ place. read (Some known.now) (Some place)) }
-{
-    let place = constant(statics, index)?;
-    read_static(known, Some(place))
-}
-
-fn plain_amount(known: &Static) -> Option<Result<u64, Offence>>
-    ensures { (all : Known) → result ≡ named_amount (Some known.now) None all }
-{
-    match known {
-        Static::Constant(number) => Some(Ok(*number)),
-        Static::Index(number) => Some(Ok(*number)),
-        Static::Table(_) => None,
-        Static::Function(_) => None,
-    }
-}
-
-fn name_amount(statics: &Statics, target: &Ref) -> Option<Result<u64, Offence>>
-    ensures { result ≡ named_amount (known_in statics.now target.now.name) target.now.index (known_in statics.now) }
-{
-    let known = statics.get(&target.name)?;
-    match &target.index {
-        None => plain_amount(known),
-        Some(index) => entry_amount(statics, known, index),
-    }
-}
-
-/// The value of an expression as the amount of a constant shift, where it can be one.
-pub fn amount(statics: &Statics, expr: &Expr) -> Option<Result<u64, Offence>>
-    ensures { result ≡ amount_of expr.now (known_in statics.now) }
-{
-    match expr {
-        Expr::Number(number) => Some(Ok(*number)),
-        Expr::Refer(target) => name_amount(statics, target),
-        Expr::Delay(_, _) => None,
-        Expr::Slice(_, _, _) => None,
-        Expr::Not(_) => None,
-        Expr::Binary(op, left, right) => {
-            let op = constant_op(*op)?;
-            let a = amount(statics, left)?;
-            let b = amount(statics, right)?;
-            Some(combine(op, a, b))
-        }
-        Expr::Choose(_, _, _) => None,
-        Expr::Call(_, _) => None,
-        Expr::Cat(_) => None,
-        Expr::Paren(inner) => amount(statics, inner),
-    }
-}
-
 /// A shift by a constant.
 fn shift(amount: Result<u64, Offence>, count: Count) -> Result<Count, Offence>
     ensures value { result ≡ shifted amount count }
@@ -359,7 +266,7 @@ fn shift(amount: Result<u64, Offence>, count: Count) -> Result<Count, Offence>
 }
 
 fn shift_amount(statics: &Statics, op: BinOp, right: &Expr) -> Option<Result<u64, Offence>>
-    ensures { result ≡ (if is_shift op then amount_of right.now (known_in statics.now) else None) }
+    ensures { result ≡ (if is_shift op then (reading right.now).amount (known_in statics.now) else None) }
 {
     if shifts(op) {
         amount(statics, right)

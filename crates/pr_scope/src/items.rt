@@ -1,31 +1,20 @@
 //! The walk over an item.
 ghost use Rattle.std.specs.Prelude.{◌≡◌, ◌<◌, IfOk, None, OnOk, map};
-ghost use Rattle.pr_scope.specs.Outcomes.{Gives, all_of};
-ghost use Rattle.pr_scope.specs.Names.{known_in, streams_in};
-ghost use Rattle.pr_scope.specs.Constants.{constant_of};
+ghost use Rattle.pr_names.specs.Outcomes.{Gives, all_of};
+ghost use Rattle.pr_names.specs.Names.{IsOutside, KeepsNames, horizon_in, known_in, streams_in};
+ghost use Rattle.pr_names.specs.Constants.{constant_of};
 ghost use Rattle.pr_scope.specs.Walk.{body_walk, callee_of, constant_change, function_change, have_widths, input_change, input_ready, introduced, item_change, output_change, output_ready, params_from, step_change, table_change, world_of};
 
-use crate::constants::constant;
-use crate::counts::{Count, count_one};
 use crate::expressions::{Scene, has_past, walk};
-use crate::names::{Callee, Static, Statics, Table};
-use crate::rules::{Offence, Rule, Stop};
+use crate::progress::Made;
 use crate::statements::{
     Ready, any_stmt_past, assign_stream, complete, has_width, is_new, walk_stmt, walk_stmts,
 };
-use crate::streams::Streams;
 use pr_lang::{Expr, Fixed, Item, Name, Param, Stmt};
+use pr_names::{
+    Callee, Count, Offence, Rule, Static, Statics, Stop, Streams, Table, constant, count_one,
+};
 use std::alloc::Global;
-
-/// What the items so far have made.
-#[derive(Drop)]
-pub struct Made {
-    pub statics: Statics,
-    pub streams: Streams,
-    pub count: Count,
-    pub inputs: Vec<u8>,
-    pub has_output: bool,
-}
 
 fn before_input(count: Count, width: u64) -> Result<Ready, Offence>
     ensures value { result ≡ input_ready width count }
@@ -66,15 +55,18 @@ fn introduce(
     alloc: Global,
     statics: &mut Statics,
     streams: &Streams,
+    number: u32,
     name: &Name,
     what: Static,
 ) -> Result<(), Stop>
-    ensures { Gives result (λ _. known_in statics.new) (introduced name.now what (known_in statics.old) (streams_in streams.now)) }
+    requires { IsOutside statics.old }
+    ensures known { Gives result (λ _. known_in statics.new) (introduced name.now what (known_in statics.old) (streams_in streams.now)) }
+    ensures horizon { horizon_in statics.new ≡ horizon_in statics.old }
 {
     if !is_new(statics, streams, name) {
         return Err(Stop::Offends(Offence::Breaks(Rule::Introduced)));
     }
-    match statics.set(alloc, name, what) {
+    match statics.set(alloc, name, number, what) {
         Err(error) => Err(Stop::Memory(error)),
         Ok(()) => Ok(()),
     }
@@ -133,6 +125,8 @@ fn walk_body(
 ) -> Result<Count, Stop>
     ensures walk { Gives result (λ c. c) (body_walk body.now value.now (known_in statics.old) (streams_in locals)) }
     ensures same { OnOk result (known_in statics.new ≡ known_in statics.old) }
+    ensures names { OnOk result (KeepsNames statics.old statics.new) }
+    ensures horizon { horizon_in statics.new ≡ horizon_in statics.old }
 {
     let mut streams = locals;
     let begin = Count {
@@ -165,6 +159,8 @@ fn define(
 ) -> Result<Callee, Stop>
     ensures walk { Gives result (λ f. f) (callee_of number params.now width body.now value.now (known_in statics.old)) }
     ensures same { OnOk result (known_in statics.new ≡ known_in statics.old) }
+    ensures names { OnOk result (KeepsNames statics.old statics.new) }
+    ensures horizon { horizon_in statics.new ≡ horizon_in statics.old }
 {
     let past = any_stmt_past(statics, body) || has_past(statics, value);
     let locals = match locals_of(alloc, statics, params) {
@@ -228,7 +224,13 @@ fn output(
     }
 }
 
-fn constant_item(alloc: Global, made: &mut Made, name: &Name, value: &Fixed) -> Result<(), Stop>
+fn constant_item(
+    alloc: Global,
+    made: &mut Made,
+    number: u32,
+    name: &Name,
+    value: &Fixed,
+) -> Result<(), Stop>
     ensures walk { Gives result (λ _. world_of made.new) (constant_change name.now value.now (world_of made.old)) }
     ensures grows { OnOk result (made.old.count.turns < made.new.count.turns) }
 {
@@ -236,16 +238,17 @@ fn constant_item(alloc: Global, made: &mut Made, name: &Name, value: &Fixed) -> 
         Err(offence) => return Err(Stop::Offends(offence)),
         Ok(count) => count,
     };
-    let number = match constant(&made.statics, value) {
+    let amount = match constant(&made.statics, value) {
         Err(offence) => return Err(Stop::Offends(offence)),
-        Ok(number) => number,
+        Ok(amount) => amount,
     };
     match introduce(
         alloc,
         &mut made.statics,
         &made.streams,
+        number,
         name,
-        Static::Constant(number),
+        Static::Constant(amount),
     ) {
         Err(stop) => Err(stop),
         Ok(()) => {
@@ -255,7 +258,13 @@ fn constant_item(alloc: Global, made: &mut Made, name: &Name, value: &Fixed) -> 
     }
 }
 
-fn table_item(alloc: Global, made: &mut Made, name: &Name, values: &[Fixed]) -> Result<(), Stop>
+fn table_item(
+    alloc: Global,
+    made: &mut Made,
+    number: u32,
+    name: &Name,
+    values: &[Fixed],
+) -> Result<(), Stop>
     ensures walk { Gives result (λ _. world_of made.new) (table_change name.now values.now (world_of made.old)) }
     ensures grows { OnOk result (made.old.count.turns < made.new.count.turns) }
 {
@@ -271,6 +280,7 @@ fn table_item(alloc: Global, made: &mut Made, name: &Name, values: &[Fixed]) -> 
         alloc,
         &mut made.statics,
         &made.streams,
+        number,
         name,
         Static::Table(entries),
     ) {
@@ -306,7 +316,10 @@ fn function_item(
         Err(stop) => return Err(stop),
         Ok(callee) => callee,
     };
-    match made.statics.set(alloc, name, Static::Function(callee)) {
+    match made
+        .statics
+        .set(alloc, name, number, Static::Function(callee))
+    {
         Err(error) => Err(Stop::Memory(error)),
         Ok(()) => {
             made.count = count;
@@ -343,8 +356,8 @@ pub fn walk_item(alloc: Global, made: &mut Made, number: u32, item: &Item) -> Re
     match item {
         Item::Input { name, width } => input(alloc, made, name, *width),
         Item::Output { name, width, value } => output(alloc, made, name, *width, value),
-        Item::Const { name, value } => constant_item(alloc, made, name, value),
-        Item::Table { name, values } => table_item(alloc, made, name, values),
+        Item::Const { name, value } => constant_item(alloc, made, number, name, value),
+        Item::Table { name, values } => table_item(alloc, made, number, name, values),
         Item::Function {
             name,
             params,

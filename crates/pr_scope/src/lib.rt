@@ -4,26 +4,21 @@
 #![tactic(auto)]
 
 mod checking;
-mod constants;
-mod counts;
 mod expressions;
 mod items;
-mod names;
-mod rules;
+mod progress;
 mod statements;
-mod streams;
 
 pub use checking::{ScopeFault, Scoped, check};
-pub use constants::{constant, place, read_name, read_static};
-pub use expressions::amount;
-pub use names::{Callee, Static, Statics, Table};
-pub use rules::{Offence, Rule};
+pub use pr_names::{
+    Callee, Offence, Rule, Static, Statics, Table, amount, constant, place, read_name, read_static,
+};
 
 #[cfg(test)]
 mod tests {
     use super::*;
     use pr_base::Cap;
-    use pr_lang::{Expr, Fixed, FixedOp, Item, Name, Program, Ref, Stmt};
+    use pr_lang::{Expr, Fixed, Item, Name, Program, Ref, Stmt};
     use std::alloc::{AllocError, Global};
     use std::test::Fail;
 
@@ -100,23 +95,6 @@ mod tests {
         let items = vec![in alloc; Item::Step(outer)]?;
         let answer = check(alloc, Program { items });
         assert!(rt; matches!(answer, Err(ScopeFault::Limit(Cap::Turns))));
-        Ok(())
-    }
-
-    #[test]
-    fn a_constant_that_is_read(rt: HostRuntime) -> Result<(), Fail> {
-        let alloc = rt.alloc();
-        let mut statics = Statics::new(alloc)?;
-        let k = name(alloc, "k")?;
-        statics.set(alloc, &k, Static::Constant(5))?;
-        assert_eq!(rt; read_name(&statics, &k, None), Ok(5));
-        let left = Box::new(alloc, Fixed::Refer(k, None))?;
-        let right = Box::new(alloc, Fixed::Number(7))?;
-        let less = Fixed::Binary(FixedOp::Sub, left, right);
-        assert_eq!(rt;
-            constant(&statics, &less),
-            Err(Offence::Breaks(Rule::Steps))
-        );
         Ok(())
     }
 }

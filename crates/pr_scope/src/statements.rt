@@ -1,16 +1,14 @@
 //! The walk over a statement.
 ghost use Rattle.std.specs.Prelude.{◌≡◌, ◌<◌, ◌≤◌, ◌-◌, ◌^◌, IfOk, None, OnOk, map, nat_lt};
-ghost use Rattle.pr_scope.specs.Outcomes.{Gives, and_then};
-ghost use Rattle.pr_scope.specs.Names.{assign, is_free, known_in, streams_in};
+ghost use Rattle.pr_names.specs.Outcomes.{Gives, and_then};
+ghost use Rattle.pr_names.specs.Names.{KeepsNames, assign, horizon_in, is_free, known_in, streams_in};
 ghost use Rattle.pr_scope.specs.Statements.{change_of, changes_of, completed, fits, for_ready, is_width, let_ready, rec_begun, rec_body, rec_ready, stmt_past_of, stmts_past_of, turn, turns};
 
-use crate::constants::{constant, place};
-use crate::counts::{Count, count_one};
 use crate::expressions::{Scene, has_past, walk};
-use crate::names::{Static, Statics};
-use crate::rules::{Offence, Rule, Stop};
-use crate::streams::{Instance, Streams};
 use pr_lang::{Expr, Fixed, Name, Ref, Stmt};
+use pr_names::{
+    Count, Instance, Offence, Rule, Statics, Stop, Streams, constant, count_one, place,
+};
 use std::alloc::Global;
 
 /// What stands before the target is introduced.
@@ -276,6 +274,8 @@ pub fn walk_stmt(
 ) -> Result<Count, Stop>
     ensures walk { Gives result (λ c. record { streams = streams_in streams.new; count = c }) (change_of stmt.now (known_in statics.old) inside (record { streams = streams_in streams.old; count = count })) }
     ensures same { OnOk result (known_in statics.new ≡ known_in statics.old) }
+    ensures names { OnOk result (KeepsNames statics.old statics.new) }
+    ensures horizon { horizon_in statics.new ≡ horizon_in statics.old }
     ensures grows { IfOk result (λ c. count.turns < c.turns) }
 {
     match stmt {
@@ -321,6 +321,8 @@ fn walk_turns(
     requires { known_in statics.old index.now ≡ None }
     ensures walk { Gives result (λ c. record { streams = streams_in streams.new; count = c }) (turns (span.high - span.low) span.low (turn index.now (map change_of body.now) (known_in statics.old) inside) (record { streams = streams_in streams.old; count = span.count })) }
     ensures same { OnOk result (known_in statics.new ≡ known_in statics.old) }
+    ensures names { OnOk result (KeepsNames statics.old statics.new) }
+    ensures horizon { horizon_in statics.new ≡ horizon_in statics.old }
     ensures grows { IfOk result (λ c. span.count.turns ≤ c.turns) }
 {
     let mut count = span.count;
@@ -347,17 +349,19 @@ fn walk_turn(
     requires { known_in statics.old index.now ≡ None }
     ensures walk { Gives result (λ c. record { streams = streams_in streams.new; count = c }) (turn index.now (map change_of body.now) (known_in statics.old) inside at (record { streams = streams_in streams.old; count = count })) }
     ensures same { OnOk result (known_in statics.new ≡ known_in statics.old) }
+    ensures names { OnOk result (KeepsNames statics.old statics.new) }
+    ensures horizon { horizon_in statics.new ≡ horizon_in statics.old }
     ensures grows { IfOk result (λ c. count.turns < c.turns) }
 {
     let count = match count_one(count, 0) {
         Err(offence) => return Err(Stop::Offends(offence)),
         Ok(count) => count,
     };
-    match statics.set(alloc, index, Static::Index(at)) {
+    match statics.set_index(alloc, index, at) {
         Err(error) => Err(Stop::Memory(error)),
         Ok(()) => {
             let count = walk_stmts(alloc, statics, streams, inside, count, body)?;
-            statics.unset(index);
+            statics.unset_index(index);
             Ok(count)
         }
     }
@@ -375,6 +379,8 @@ pub fn walk_stmts(
 ) -> Result<Count, Stop>
     ensures walk { Gives result (λ c. record { streams = streams_in streams.new; count = c }) (changes_of stmts.now (known_in statics.old) inside (record { streams = streams_in streams.old; count = count })) }
     ensures same { OnOk result (known_in statics.new ≡ known_in statics.old) }
+    ensures names { OnOk result (KeepsNames statics.old statics.new) }
+    ensures horizon { horizon_in statics.new ≡ horizon_in statics.old }
     ensures grows { IfOk result (λ c. count.turns ≤ c.turns) }
 {
     let mut count = count;

@@ -1,12 +1,12 @@
 use Rattle.std.proofs.Common.{◌≡◌, ◌∙◌, ℕ, ap, arith, map, Result, Ok, rules}
 use Rattle.pr_lang.specs.declared.trees.Stmt.{Stmt}
-use Rattle.pr_scope.specs.declared.counts.Count.{Count}
-use Rattle.pr_scope.specs.declared.names.Static.TheVariants.{Index}
-use Rattle.pr_scope.specs.declared.rules.Offence.{Offence}
-use Rattle.pr_scope.specs.Outcomes.{IsOffence}
-use Rattle.pr_scope.specs.Names.{Known, known_in, streams_in, unbind}
+use Rattle.pr_names.specs.declared.counts.Count.{Count}
+use Rattle.pr_names.specs.declared.names.Static.TheVariants.{Index}
+use Rattle.pr_names.specs.declared.rules.Offence.{Offence}
+use Rattle.pr_names.specs.Outcomes.{IsOffence}
+use Rattle.pr_names.specs.Names.{Known, known_in, streams_in}
 use Rattle.pr_scope.specs.Statements.{Progress, change_of, for_ready, turn}
-use Rattle.pr_scope.proofs.Maps.{unbound}
+use Rattle.pr_names.proofs.Seen.{index_over, known_kept, names_on}
 use Rattle.pr_scope.proofs.Walks.{for_law, for_met, gives_at, let_law, rec_law, stmts_step, stmts_stop, turns_step, turns_stop}
 use Rattle.pr_scope.proofs.statements.+stmts.Goals as goal
 
@@ -41,15 +41,20 @@ walk_stmts-loop-stmt-preserved t c =
     let n : Progress = record { streams = streams_in c.walk_stmt.new.streams; count = c.in-Ok.after } in
     record {
       same = c.in-Ok.ensures.same ∙ c.loop-stmt.invariant.same;
+      names = names_on c.loop-stmt.invariant.names c.in-Ok.ensures.names;
+      horizon = c.walk_stmt.ensures.horizon ∙ c.loop-stmt.invariant.horizon;
       rest = stmts_step (known_in c.loop-stmt.statics) (known_in c.args.statics.now) c.args.inside s n _ c.args.stmts.now c.loop-stmt.stmt-index c.stmt-item.result (omega arith) c.stmt-item.is c.loop-stmt.invariant.same c.in-Ok.ensures.walk c.loop-stmt.invariant.rest;
       grows = omega (arith, c.in-Ok.ensures.grows);
     }
 
-pub walk_turn-returns-in_ok-count-in-Ok-set-clause-same : goal.walk_turn-returns-in_ok-count-in-Ok-set-clause-same
-walk_turn-returns-in_ok-count-in-Ok-set-clause-same t c =
-    c.unset.ensures ∙
-    (ap (λ (k : Known). unbind c.args.index.now k) (c.in_ok-count-in-Ok-set.ensures.same ∙ c.in-Ok-set.ensures) ∙
-    unbound c.args.index.now (Index c.args.at) (known_in c.args.statics.now) c.requires)
+pub walk_turn-returns-in_ok-count-in-Ok-set_index-clause-names : goal.walk_turn-returns-in_ok-count-in-Ok-set_index-clause-names
+walk_turn-returns-in_ok-count-in-Ok-set_index-clause-names t c =
+    index_over c.args.statics.now c.set_index.new.self c.walk_stmts.new.statics c.unset_index.new.self c.args.index.now (Index c.args.at) c.requires c.in-Ok-set_index.ensures.indices c.in-Ok-set_index.ensures.entries c.in-Ok-set_index.ensures.horizon c.in_ok-count-in-Ok-set_index.ensures.names c.unset_index.ensures.indices c.unset_index.ensures.entries c.unset_index.ensures.horizon
+
+pub walk_turn-returns-in_ok-count-in-Ok-set_index-clause-same : goal.walk_turn-returns-in_ok-count-in-Ok-set_index-clause-same
+walk_turn-returns-in_ok-count-in-Ok-set_index-clause-same t c =
+    known_kept c.args.statics.now c.unset_index.new.self
+    (index_over c.args.statics.now c.set_index.new.self c.walk_stmts.new.statics c.unset_index.new.self c.args.index.now (Index c.args.at) c.requires c.in-Ok-set_index.ensures.indices c.in-Ok-set_index.ensures.entries c.in-Ok-set_index.ensures.horizon c.in_ok-count-in-Ok-set_index.ensures.names c.unset_index.ensures.indices c.unset_index.ensures.entries c.unset_index.ensures.horizon)
 
 pub walk_turns-walk_turn-requires : goal.walk_turns-walk_turn-requires
 walk_turns-walk_turn-requires t c = (search rules, ap (λ (k : Known). k c.args.index.now) c.loop-at.invariant.same ∙ c.requires)
@@ -69,6 +74,8 @@ walk_turns-loop-at-preserved t c =
     let step : f c.loop-at.at s ≡ Ok n = rw (← c.loop-at.invariant.same) c.in-Ok.ensures.walk in
     record {
       same = c.in-Ok.ensures.same ∙ c.loop-at.invariant.same;
+      names = names_on c.loop-at.invariant.names c.in-Ok.ensures.names;
+      horizon = c.walk_turn.ensures.horizon ∙ c.loop-at.invariant.horizon;
       rest = turns_step f c.args.span.high c.loop-at.at s n _ c.loop-at-test.true step c.loop-at.invariant.rest;
       grows = omega (arith, c.in-Ok.ensures.grows);
     }

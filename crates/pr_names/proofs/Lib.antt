@@ -1,0 +1,3 @@
+pub mod Folds
+pub mod Maps
+pub mod Seen

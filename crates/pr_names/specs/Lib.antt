@@ -1,0 +1,4 @@
+pub mod Outcomes
+pub mod Names
+pub mod Constants
+pub mod Amounts

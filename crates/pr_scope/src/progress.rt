@@ -1,0 +1,15 @@
+//! What a walk has come to.
+ghost use Rattle.pr_names.specs.Names.{IsOutside};
+
+use pr_names::{Count, Statics, Streams};
+
+/// What the items so far have made.
+#[derive(Drop)]
+pub struct Made {
+    pub statics: Statics,
+    pub streams: Streams,
+    pub count: Count,
+    pub inputs: Vec<u8>,
+    pub has_output: bool,
+    ghost outside: { IsOutside statics },
+}
