@@ -1,12 +1,12 @@
 -- What a part can begin with.
-use Rattle.std.proofs.Common.{◌≡◌, ℕ, Bool, true, false, List, [], ◌∷◌, refl}
+use Rattle.std.proofs.Common.{◌≡◌, ℕ, List, [], ◌∷◌, refl}
 use Rattle.pr_lang.specs.declared.tokens.Keyword.TheVariants.{Input}
 use Rattle.pr_lang.specs.declared.tokens.Symbol.TheVariants.{Colon}
 use Rattle.pr_lang.specs.declared.tokens.Kind.{Kind}
 use Rattle.pr_lang.specs.declared.tokens.Kind.TheVariants as kind
 use Rattle.pr_lang.specs.declared.tokens.Token.{Token}
-use Rattle.pr_lang.specs.Word.{Word, words, word_of, word_by}
-use Rattle.pr_lang.specs.Grammar.{Part, Rule, rule, then, TheItem, TheStmt, TheParam, TheExpr, level, FixedSums}
+use Rattle.pr_lang.specs.Word.{Word, words, word_by}
+use Rattle.pr_lang.specs.Grammar.{Part, rule, then, TheItem, TheStmt, TheParam, TheExpr, level, FixedSums}
 use Rattle.pr_lang.specs.Machine.{meet, meet_rule, begins}
 use Rattle.std.specs.Prelude.{slice_range}
 use Rattle.pr_parse.specs.Kinds.{first_kind, starts_item, starts_stmt, starts_param, starts_expr, starts_fixed}

@@ -1,17 +1,16 @@
 -- What the grammar's relation says, the parts derive.
-use Rattle.std.proofs.Common.{◌≡◌, ℕ, Bool, true, false, ◌||◌, ◌⊎◌, nat_eq, List, [], ◌∷◌, ◌++◌, inl, inr, refl, sym, ap, subst, ◌∙◌, append_assoc, eq-eqb}
+use Rattle.std.proofs.Common.{◌≡◌, ℕ, Bool, true, false, ◌||◌, nat_eq, List, [], ◌∷◌, ◌++◌, inl, inr, refl, sym, ap, subst, ◌∙◌, append_assoc, eq-eqb}
 use Rattle.std.proofs.lemmas.List.{append-nil}
 use Rattle.pr_lang.specs.declared.tokens.Symbol.{Symbol}
 use Rattle.pr_lang.specs.declared.tokens.Keyword.TheVariants.{Const}
 use Rattle.pr_lang.specs.declared.tokens.Symbol.TheVariants.{Comma, Dots, OpenCurly, CloseCurly, OpenSquare, CloseSquare, Assign, Semi}
 use Rattle.pr_lang.specs.Word.{Word, named, keyword, symbol, symbol_tag, among}
-use Rattle.pr_lang.specs.Grammar.{Rule, Action, Part, right, AnyOf, ListOf, MaybeListOf, ThePostfix, TheItem, Entries, comparisons, Block, member, Listed, element, Level, level, signs, operand, rule, make, then, or, maybe, many, mark, fixed, Begin, Append, AppendAfterComma, MakeBinary, MakeSlice, token, ◌⨟◌, ◌∣◌}
+use Rattle.pr_lang.specs.Grammar.{Rule, Part, AnyOf, ListOf, MaybeListOf, ThePostfix, TheItem, Entries, comparisons, Block, member, Listed, element, Level, level, signs, operand, rule, then, many, fixed}
 use Rattle.pr_lang.specs.Word.{one_of}
 use Rattle.pr_lang.specs.Tree.{Tree}
 use Rattle.pr_lang.specs.Tree as tree
 use Rattle.pr_lang.specs.Is.{Is, IsSign}
 use Rattle.pr_lang.specs.Is as is
-use Rattle.pr_parse.specs.Run.{act}
 use Rattle.pr_parse.specs.Derive.{Derives, IsToken, IsRule, IsMade, IsThen, IsFirst, IsSecond, IsAbsent, IsThere, IsLast, IsRepeated}
 
 move : {p : Part} {ks ls : List Word} {ts us : List Tree} → ks ≡ ls → Derives p ks ts us → Derives p ls ts us

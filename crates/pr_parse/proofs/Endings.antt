@@ -1,7 +1,6 @@
 -- What is answered where the machine ended so.
 use Rattle.std.proofs.Common.{◌≡◌, ℕ, zero, suc, ◌-◌, ◌+◌, ◌<◌, ◌≤◌, Option, Some, None, Result, Ok, Err, IfOk, IfErr, OnOk, List, [], ◌∷◌, length, take, refl, sym, ap, subst, ◌∙◌, arith}
 use Rattle.std.proofs.lemmas.List.{take-map}
-use Rattle.pr_base.specs.declared.caps.Cap.TheVariants.{Nesting}
 use Rattle.pr_lang.specs.declared.tokens.Token.{Token}
 use Rattle.pr_lang.specs.Word.{Word, words, word_of}
 use Rattle.pr_lang.specs.Grammar.{rule, TheProgram}
@@ -17,8 +16,8 @@ use Rattle.pr_parse.specs.declared.parser.ParseFault.TheVariants.{Syntax, Limit,
 use Rattle.pr_lang.specs.declared.trees.Program.{Program}
 use Rattle.pr_lang.specs.Is.{Is}
 use Rattle.pr_lang.specs.Shape.{program_shape}
-use Rattle.pr_parse.specs.Run.{Built, WrongAt, run}
-use Rattle.pr_parse.specs.Reads.{Sofar, IsRead, IsWrong, Fails}
+use Rattle.pr_parse.specs.Run.{WrongAt, run}
+use Rattle.pr_parse.specs.Reads.{IsRead, Fails}
 use Rattle.pr_parse.specs.Outcomes.{IsBuilt, IsStopped, Stops, IsRefused, LeavesAtMost, IsMemory, IsFaultAt, IsFaultBefore, IsAnswer}
 use Rattle.pr_parse.proofs.Main.{no_part, wrong_within, run-over, refused_wrong, refused_near, refused_deep, refused_deep_built}
 

@@ -1,5 +1,5 @@
 -- The machine's steps, as equations.
-use Rattle.std.proofs.Common.{◌≡◌, ℕ, suc, Bool, true, false, cond, Option, Some, None, List, [], ◌∷◌, ◌++◌, length, refl, sym, ap, ◌∙◌, append_assoc}
+use Rattle.std.proofs.Common.{◌≡◌, suc, Bool, true, false, cond, Option, Some, None, List, [], ◌∷◌, ◌++◌, length, refl, sym, ap, ◌∙◌, append_assoc}
 use Rattle.pr_lang.specs.Word.{Word}
 use Rattle.pr_lang.specs.declared.tokens.Keyword.TheVariants.{Input}
 use Rattle.pr_lang.specs.declared.tokens.Symbol.TheVariants.{Colon}

@@ -1,14 +1,14 @@
 -- Programs, the wrong word, and what is refused.
-use Rattle.std.proofs.Common.{◌≡◌, ℕ, zero, suc, ◌+◌, ◌-◌, ◌<◌, ◌≤◌, Bool, true, false, cond, nat_lt, Option, Some, None, List, [], ◌∷◌, ◌++◌, length, take, drop, map, refl, sym, ap, subst, ◌∙◌, arith, length-append, length-drop}
+use Rattle.std.proofs.Common.{◌≡◌, ℕ, zero, suc, ◌+◌, ◌-◌, ◌<◌, ◌≤◌, true, false, cond, nat_lt, Option, Some, None, List, [], ◌∷◌, ◌++◌, length, take, drop, refl, sym, ap, subst, ◌∙◌, arith, length-append, length-drop}
 use Rattle.std.proofs.lemmas.List.{append-nil, take-append-drop}
 use Rattle.std.proofs.lemmas.Bool.Decides.{nat_tests}
-use Rattle.pr_lang.specs.Word.{Word, words, word_of}
+use Rattle.pr_lang.specs.Word.{Word}
 use Rattle.pr_lang.specs.Grammar.{Part, rule, TheProgram}
 use Rattle.pr_lang.specs.Machine.{Moved, Go, Over, Halt, moved, at_end, left_over, first_wrong, place_of}
 use Rattle.pr_lang.specs.Tree.{Tree}
 use Rattle.pr_lang.specs.Is.{Is}
 use Rattle.pr_lang.specs.Load.{first_deep}
-use Rattle.pr_lang.specs.Syntax.{Refusal, AtToken, TooDeep, earlier, refusal_of_words}
+use Rattle.pr_lang.specs.Syntax.{AtToken, TooDeep, earlier, refusal_of_words}
 use Rattle.pr_parse.specs.Run.{Outcome, Built, WrongAt, run, advance}
 use Rattle.pr_parse.specs.Derive.{Derives, DerivesAll, OnePart, NoPart}
 use Rattle.pr_parse.proofs.Sound.{sound_run}

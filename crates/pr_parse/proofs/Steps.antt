@@ -1,19 +1,17 @@
 -- How far the machine has come with a part: what is still expected of it, and the trees read for it.
-use Rattle.std.proofs.Common.{◌≡◌, ℕ, ◌≤◌, ◌<◌, Bool, true, false, cond, Option, Some, None, List, [], ◌∷◌, ◌++◌, length, Result, Ok, Err, IfErr, refl, sym, ap, subst, ◌∙◌, arith, append_assoc}
-use Rattle.std.proofs.lemmas.List.{append-nil}
+use Rattle.std.proofs.Common.{◌≡◌, ℕ, Bool, true, false, cond, Option, Some, List, [], ◌∷◌, ◌++◌, length, Result, Ok, Err, IfErr, refl, sym, ap, subst, ◌∙◌, arith, append_assoc}
 use Rattle.pr_lang.specs.declared.tokens.Token.{Token}
 use Rattle.pr_lang.specs.declared.tokens.Symbol.{Symbol}
-use Rattle.pr_lang.specs.declared.tokens.Symbol.TheVariants.{Comma}
 use Rattle.pr_lang.specs.Word.{Word, words, symbol, symbol_tag, among, Pattern, one_of, fits, takes}
-use Rattle.pr_lang.specs.Grammar.{Rule, Action, Part, right, token, rule, make, then, or, maybe, many, MakeBinary, Begin, Append, AppendAfterComma, Listed, ListOf, MaybeListOf, element, first_and_more, ◌⨟◌}
-use Rattle.pr_lang.specs.Machine.{next, begins, can_begin, meet, Met, Taken, Gone, Wrong, after_actions}
+use Rattle.pr_lang.specs.Grammar.{Rule, Action, Part, right, token, rule, make, then, or, maybe, many, MakeBinary, Listed, ListOf, MaybeListOf, element, first_and_more, ◌⨟◌}
+use Rattle.pr_lang.specs.Machine.{next, begins, can_begin, meet, Taken, Gone, Wrong, after_actions}
 use Rattle.pr_lang.specs.Tree.{Tree}
 use Rattle.pr_lang.specs.Tree as tree
 use Rattle.pr_parse.specs.declared.fault.Fault.{Fault}
 use Rattle.pr_parse.specs.declared.fault.Fault.TheVariants as fault
 use Rattle.pr_parse.specs.Run.{run, act, Outcome, WrongAt}
 use Rattle.pr_parse.specs.Reads.{Sofar, IsRead, IsFront, Fails, FrontFails, IsTaken, IsNotTaken, IsOperator, IsTest}
-use Rattle.pr_parse.proofs.Laws.{meet-then, meet-token, in_turn, run-rule, run-make, run-then, run-token, run-not_token, run-maybe, run-many, run-or}
+use Rattle.pr_parse.proofs.Laws.{run-rule, run-make, run-then, run-token, run-not_token, run-maybe, run-many, run-or}
 
 module _ {p : Part} {text : List ℕ} {ks : List Token} where
   pub begun : Sofar p text ks ks (p ∷ []) []

@@ -1,15 +1,14 @@
 -- Tokens and the words that they are.
-use Rattle.std.proofs.Common.{◌≡◌, ℕ, ◌<◌, Bool, true, false, ◌||◌, nat_eq, Some, None, List, [], ◌∷◌, length, map, refl, sym, ap, ◌∙◌, arith, eq-eqb, inl, inr, slice_range}
+use Rattle.std.proofs.Common.{◌≡◌, ℕ, ◌<◌, true, false, nat_eq, Some, None, List, [], ◌∷◌, refl, sym, ap, ◌∙◌, arith, eq-eqb, inl, inr, slice_range}
 use Rattle.std.proofs.lemmas.Bool.Decides.{eqb_tells}
 use Rattle.pr_lang.specs.declared.tokens.Kind.{Kind}
 use Rattle.pr_lang.specs.declared.tokens.Kind.TheVariants as kind
 use Rattle.pr_lang.specs.declared.tokens.Symbol.{Symbol}
 use Rattle.pr_lang.specs.declared.tokens.Token.{Token}
-use Rattle.pr_lang.specs.Word.{Word, words, word_of, word_by, named, numbered, symbol, keyword, ending, broken, tag, keyword_tag, symbol_tag, among, Pattern, any_name, any_number, one_of, fits, takes}
+use Rattle.pr_lang.specs.Word.{Word, words, word_of, word_by, symbol, tag, keyword_tag, symbol_tag, among, fits, takes}
 use Rattle.pr_lang.specs.Machine.{next}
-use Rattle.pr_parse.specs.declared.fault.Fault.TheVariants as fault
 use Rattle.pr_parse.specs.Kinds.{kind_tag, first_kind, pattern_of, word_of_kind}
-use Rattle.pr_parse.specs.Reads.{IsTaken, IsNotTaken, IsOperator, IsTest}
+use Rattle.pr_parse.specs.Reads.{IsTaken, IsOperator}
 use Rattle.pr_parse.proofs.Typed.{same_word, symbol_above}
 
 pub tag-word_by : (bytes : List ℕ) (k : Kind) → tag (word_by bytes k) ≡ kind_tag k

@@ -1,5 +1,5 @@
 -- What the parts derive, the grammar's relation says too.
-use Rattle.std.proofs.Common.{◌≡◌, ℕ, zero, suc, ◌<◌, Bool, true, false, ◌||◌, ◌⊎◌, nat_eq, get_or, List, [], ◌∷◌, ◌++◌, inl, inr, refl, sym, ap, subst, ◌∙◌, append_assoc, arith}
+use Rattle.std.proofs.Common.{◌≡◌, ℕ, ◌<◌, Bool, true, false, ◌||◌, nat_eq, get_or, List, [], ◌∷◌, ◌++◌, inl, inr, refl, sym, ap, subst, ◌∙◌, append_assoc, arith}
 use Rattle.std.proofs.lemmas.List.{append-nil}
 use Rattle.std.proofs.lemmas.Bool.{eqb-true}
 use Rattle.pr_lang.specs.declared.tokens.Keyword.{Keyword}
@@ -7,7 +7,7 @@ use Rattle.pr_lang.specs.declared.tokens.Keyword.TheVariants.{Input, Output, Con
 use Rattle.pr_lang.specs.declared.tokens.Symbol.{Symbol}
 use Rattle.pr_lang.specs.declared.tokens.Symbol.TheVariants.{Colon, Semi, Assign, OpenRound, CloseRound, OpenSquare, CloseSquare, OpenCurly, CloseCurly, Comma, Dots, At, Ask, Plus, Minus, Star, Slash, Percent, Amp, Bar, Caret, Tilde, ShiftLeft, ShiftRight, Equal, NotEqual, Less, LessEqual, Greater, GreaterEqual}
 use Rattle.pr_lang.specs.Word.{Word, named, numbered, keyword, symbol, ending, broken, tag, keyword_tag, symbol_tag, among, Pattern, any_name, any_number, the_end, this_keyword, this_symbol, one_of, fits}
-use Rattle.pr_lang.specs.Grammar.{Rule, Action, Part, right, TheProgram, AnyOf, ListOf, MaybeListOf, TheWidth, TheIndex, TheItem, TheParam, TheStmt, TheTarget, TheExpr, level, TheCompare, ThePrefix, ThePostfix, ThePrimary, TheFixedPrimary, Block, Items, Stmts, member, Listed, Params, Exprs, Entries, element, Level, Ors, Shifts, FixedSums, signs, operand, comparisons, token, rule, make, then, or, maybe, many, Begin, Append, AppendAfterComma, MakeBinary, MakeSlice, mark, fixed, first_and_more, ◌⨟◌, ◌∣◌}
+use Rattle.pr_lang.specs.Grammar.{Rule, Action, Part, right, TheProgram, AnyOf, ListOf, MaybeListOf, TheWidth, TheIndex, TheItem, TheParam, TheStmt, TheTarget, TheExpr, level, TheCompare, ThePrefix, ThePostfix, ThePrimary, TheFixedPrimary, Block, member, Listed, element, Level, signs, operand, token, rule, make, then, or, maybe, many, Append, AppendAfterComma, MakeBinary, MakeSlice, mark, fixed, ◌⨟◌}
 use Rattle.pr_lang.specs.Tree.{Tree}
 use Rattle.pr_lang.specs.Tree as tree
 use Rattle.pr_lang.specs.Is.{Is, IsSign, Fixed}

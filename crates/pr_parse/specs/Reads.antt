@@ -1,16 +1,14 @@
 -- What a reader of the code is to the machine.
 use Rattle.std.specs.Prelude.{ℕ, ◌≡◌, ◌<◌, ◌≤◌, Bool, true, false, Option, Some, None, List, [], ◌∷◌, ◌++◌, length}
-use Rattle.pr_lang.specs.declared.tokens.Kind.{Kind}
 use Rattle.pr_lang.specs.declared.tokens.Symbol.{Symbol}
 use Rattle.pr_lang.specs.declared.tokens.Token.{Token}
-use Rattle.pr_lang.specs.Word.{Word, words, named, numbered, symbol, symbol_tag, among, Pattern, any_name, any_number, one_of, takes}
+use Rattle.pr_lang.specs.Word.{Word, words, symbol, symbol_tag, among, Pattern, one_of, takes}
 use Rattle.pr_lang.specs.Grammar.{Part}
-use Rattle.pr_lang.specs.Machine.{begins, next}
+use Rattle.pr_lang.specs.Machine.{next}
 use Rattle.pr_lang.specs.Tree.{Tree}
 use Rattle.pr_parse.specs.declared.fault.Fault.{Fault}
 use Rattle.pr_parse.specs.declared.fault.Fault.TheVariants as fault
 use Rattle.pr_parse.specs.Run.{run, WrongAt}
-use Rattle.pr_parse.specs.Kinds.{pattern_of, word_of_kind}
 
 -- of the part, read from the tokens ks, the parts qs are still expected at the tokens rest, and the trees us were read
 pub record Sofar (p : Part) (text : List ℕ) (ks rest : List Token) (qs : List Part) (us : List Tree) : Type 0 where

@@ -1,11 +1,10 @@
-//! The numbers of tokens and the signs of operators.
+//! The numbers of tokens.
 
 ghost use Rattle.std.specs.Prelude.{◌≡◌};
 ghost use Rattle.pr_lang.specs.Word.{keyword_tag as number_of_keyword, symbol_tag as number_of_symbol};
-ghost use Rattle.pr_lang.specs.Shape.{sign_of as sign, fixed_sign_of as fixed_sign};
 ghost use Rattle.pr_parse.specs.Kinds.{kind_tag};
 
-use pr_lang::{BinOp, FixedOp, Keyword, Kind, Symbol};
+use pr_lang::{Keyword, Kind, Symbol};
 
 pub fn keyword_tag(keyword: Keyword) -> u8
     ensures { result ≡ number_of_keyword keyword }
@@ -73,40 +72,5 @@ pub fn tag_of(kind: Kind) -> u8
         Kind::Bad => 3,
         Kind::Word(keyword) => keyword_tag(keyword),
         Kind::Mark(symbol) => symbol_tag(symbol),
-    }
-}
-
-/// How an operator is written.
-pub fn sign_of(op: BinOp) -> Symbol
-    ensures { result ≡ sign op }
-{
-    match op {
-        BinOp::Add => Symbol::Plus,
-        BinOp::Sub => Symbol::Minus,
-        BinOp::Mul => Symbol::Star,
-        BinOp::And => Symbol::Amp,
-        BinOp::Or => Symbol::Bar,
-        BinOp::Xor => Symbol::Caret,
-        BinOp::Equal => Symbol::Equal,
-        BinOp::NotEqual => Symbol::NotEqual,
-        BinOp::Less => Symbol::Less,
-        BinOp::LessEqual => Symbol::LessEqual,
-        BinOp::Greater => Symbol::Greater,
-        BinOp::GreaterEqual => Symbol::GreaterEqual,
-        BinOp::Left => Symbol::ShiftLeft,
-        BinOp::Right => Symbol::ShiftRight,
-    }
-}
-
-/// How an operator of constant expressions is written.
-pub fn fixed_sign_of(op: FixedOp) -> Symbol
-    ensures { result ≡ fixed_sign op }
-{
-    match op {
-        FixedOp::Add => Symbol::Plus,
-        FixedOp::Sub => Symbol::Minus,
-        FixedOp::Mul => Symbol::Star,
-        FixedOp::Div => Symbol::Slash,
-        FixedOp::Mod => Symbol::Percent,
     }
 }

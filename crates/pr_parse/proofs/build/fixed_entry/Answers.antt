@@ -1,4 +1,4 @@
-use Rattle.std.proofs.Common.{Some, ap, sym, ◌∙◌, refl}
+use Rattle.std.proofs.Common.{Some, ap, sym, ◌∙◌}
 use Rattle.pr_lang.specs.declared.trees.Fixed.TheFolds.{fold-roll-Fixed}
 use Rattle.pr_lang.specs.declared.trees.Fixed.TheViews.{rolls-Refer}
 use Rattle.pr_lang.specs.Tree as tree

@@ -1,14 +1,9 @@
-use Rattle.std.proofs.Common.{[], ◌∷◌, refl, sym, ap, ◌∙◌, true, false, arith}
-use Rattle.std.proofs.lemmas.Result.{err_from_is_err_and, IfOk-weaker}
-use Rattle.pr_lang.specs.declared.tokens.Keyword.TheVariants.{Input, Output, Const, Fn, Return, Let, Rec, By, For, Within, Cat}
-use Rattle.pr_lang.specs.declared.tokens.Symbol.TheVariants.{Colon, Semi, Assign, OpenRound, CloseRound, OpenSquare, CloseSquare, OpenCurly, CloseCurly, Comma, Dots, At, Ask, Tilde}
+use Rattle.std.proofs.Common.{refl, arith}
+use Rattle.std.proofs.lemmas.Result.{err_from_is_err_and}
+use Rattle.pr_lang.specs.declared.tokens.Symbol.TheVariants.{Assign}
 use Rattle.pr_lang.specs.declared.tokens.Kind.TheVariants as kind
-use Rattle.pr_lang.specs.Word.{any_name, any_number, the_end, this_keyword, this_symbol, one_of}
-use Rattle.pr_lang.specs.Grammar.{Listed, Params, Exprs, Entries}
-use Rattle.pr_lang.specs.Tree as tree
-use Rattle.pr_parse.specs.Fronts.{led_value, led_name}
-use Rattle.pr_parse.proofs.Begins.{begins_then_item, begins_then_stmt, begins_then_param, begins_then_expr, begins_then_fixed, begins_fixed}
-use Rattle.pr_parse.proofs.Steps.{begun, open_rule, open_then, first, second, there, absent, again, no_more, made, took, not_there, read, front, failed, front_failed, passed_on, by_test, by_token, by_one, by_none, by_none_one, operator, operated, maybe_list, maybe_list_fails}
+use Rattle.pr_parse.specs.Fronts.{led_value}
+use Rattle.pr_parse.proofs.Steps.{begun, open_then, made, took, not_there, read, front, failed, front_failed}
 use Rattle.pr_parse.proofs.statements.let_stmt.Goals as goal
 
 pub returns-in_err-after-clause-err : goal.returns-in_err-after-clause-err
