@@ -4,12 +4,11 @@ use Rattle.std.proofs.lemmas.Bool.Decides.{nat_tests}
 use Rattle.std.proofs.Math.Nat.{mod-eq_of_lt, mod-le}
 use Rattle.std.proofs.lemmas.Nat.{mod_below}
 use Rattle.pr_control.specs.Time.{before, back, event, occupant, spares, turn, IsActive, IsResident}
-use Rattle.pr_control.proofs.Round.{back_below, back-back, back-before, back-last, back_other, age}
+use Rattle.pr_control.proofs.Round.{back_cases, back_below, back-back, back-before, back-last, back_other, age}
 use Rattle.pr_control.proofs.Laws.{event_ring, occupant_zero, occupant_hit, occupant_other, ring_live, ring_blank, event_line, event_over, line_live, line_blank}
 
 pub back_self : (n q : ℕ) → q < n → back n q q ≡ n - 1
-unfolding back
-back_self n q h = grind (arith, nat_tests)
+back_self n q h = let e = back_cases n q q h h in omega arith
 
 -- two that are equally far behind are one
 pub back_alone : (n q c d : ℕ) → q < n → c < n → d < n → back n q c ≡ back n q d → c ≡ d
@@ -79,8 +78,7 @@ back_suc v m d s h k e = sym (back-before v m d h k) ∙ (ap (before v) (sym e) 
 
 -- the oldest stage in the line is stage 0
 back_oldest : (v t d s : ℕ) → t < v → d + 1 ≡ t → suc s ≡ back v t d → ⊥
-unfolding back
-back_oldest v t d s h k e = grind (arith, nat_tests)
+back_oldest v t d s h k e = let c = back_cases v t d h (omega arith) in omega arith
 
 pub feeder_ring : (v p i t s : ℕ) → p < v → i < p → (i ≡ t % p → ⊥) → (back p (t % p) i < t) × (suc s ≡ back v (t % v) (back p (t % p) i)) → occupant v p (before p i) t ≡ Some s
 feeder_ring v p i t s h hp ne w =

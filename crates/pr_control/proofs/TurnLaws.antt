@@ -4,7 +4,7 @@ use Rattle.std.proofs.lemmas.Bool.Decides.{nat_tests}
 use Rattle.std.proofs.Math.Nat.{mod-eq_of_lt, add-mod_right, mul-zero, zero-mul, mul-suc, suc-mul, mod-add-div, mul_comm, div-mul-le_self, mul-le-mul_left}
 use Rattle.std.proofs.lemmas.Nat.{mod_below, le-div}
 use Rattle.pr_control.specs.Time.{turn, ahead}
-use Rattle.pr_control.proofs.Round.{mod_ahead}
+use Rattle.pr_control.proofs.Round.{mod_ahead, ahead_cases}
 use Rattle.pr_control.specs.Counts.{turns_in, cycles_of, drain}
 
 -- ---- no more stages than stripes: each cycle but cycle 0 is a turn
@@ -29,7 +29,7 @@ turn_suc v p x h =
     rw (a, b, c) refl
 
 ahead_turn : (v p m : ℕ) → p < v → 0 < p → m < v → ltb m (p - 1) ≡ in_turn p (ahead v m)
-ahead_turn v p m h hp k = grind (arith, nat_tests)
+ahead_turn v p m h hp k = let a = ahead_cases v m k in grind (arith, nat_tests)
 
 pub turn_ring : (v p x : ℕ) → p < v → 0 < p → turn v p x ≡ in_turn p (x % v)
 turn_ring v p zero h hp =

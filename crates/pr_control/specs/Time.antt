@@ -3,8 +3,8 @@ use Rattle.std.specs.Prelude.{◌≡◌, ℕ, zero, suc, true, false, ◌+◌, �
 
 -- ---- places that go round
 -- the count after q, which goes round below n
-abbrev pub ahead : ℕ → ℕ → ℕ
-ahead n q = if q + 1 == n then 0 else q + 1
+unfoldable pub ahead : ℕ → ℕ → ℕ
+ahead n q = (q + 1) % n
 
 -- the place before place q of n: of the first place it is the last
 abbrev pub before : ℕ → ℕ → ℕ
@@ -12,7 +12,7 @@ before n q = if q == 0 then n - 1 else q - 1
 
 -- where a count that goes round below n stood d + 1 steps before it stood at q
 unfoldable pub back : ℕ → ℕ → ℕ → ℕ
-back n q d = if nat_lt d q then q - 1 - d else q + n - 1 - d
+back n q d = (q + (n - 1 - d)) % n
 
 -- ---- events
 -- event t, as (stage, stripe): with more stages than stripes each cycle has one, and both numbers go round; with no more

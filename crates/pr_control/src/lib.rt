@@ -31,6 +31,7 @@ pub struct Plan {
 }
 
 /// The count after `q`, which goes round below `n`.
+#[tactic(auto, using(crate::proofs::Round::ahead_cases))]
 fn after(n: u32, q: u32) -> u32
     requires { q < n }
     ensures { result ≡ ahead n q }
@@ -47,7 +48,7 @@ pub fn place_before(n: usize, q: usize) -> usize
 }
 
 /// Where a count that goes round below `n` stood `d + 1` steps before it stood at `q`.
-#[tactic(auto, using(crate::proofs::Round::back_below), unfolding(crate::specs::Time::back))]
+#[tactic(auto, using(crate::proofs::Round::back_cases))]
 pub fn place_back(n: usize, q: usize, d: usize) -> usize
     requires at { q < n }
     requires by { d < n }

@@ -1,6 +1,6 @@
 //! Machines, bare and running.
 
-ghost use Rattle.std.specs.Prelude.{ℕ, ◌≡◌, ◌++◌, ◌∷◌, [], ◌<◌, ◌≤◌, ◌-◌, ◌+◌, ◌^◌, ◌↔◌, Option, Some, None, List, IsOk, IsErr, IfOk, IfErr, OnOk, OnErr, is_ok, length, vec_len, vec_capacity, true};
+ghost use Rattle.std.specs.Prelude.{ℕ, ◌≡◌, ◌++◌, ◌∷◌, [], ◌<◌, ◌≤◌, ◌-◌, ◌+◌, ◌^◌, ◌↔◌, Option, Some, None, List, IsOk, IsErr, IfOk, IfErr, IfSome, OnOk, OnErr, is_ok, length, vec_len, vec_capacity, true};
 ghost use Rattle.std.specs.Option.{option_copied};
 ghost use Rattle.std.specs.Bool.{OnFalse};
 ghost use Rattle.pr_account.specs.Account.{Offer, Take, Cycle, left as left_of};
@@ -212,7 +212,8 @@ impl<const N: usize, const P: usize> Machine<N, P, Running> {
 
     /// The state row of a stage in the store; none exactly where a stripe holds the stage or there is no such stage.
     pub fn stored(&self, stage: u32) -> Option<&[u8]>
-        ensures { (c : Shape) (p : ℕ) (h : History) → Stands self.now c p h → IsStored N P c p (account_of c p h) stage (option_copied result) }
+        ensures size { IfSome result (λ row. length row.now ≡ N) }
+        ensures stored { (c : Shape) (p : ℕ) (h : History) → Stands self.now c p h → IsStored N P c p (account_of c p h) stage (option_copied result) }
     {
         if stage as usize >= self.parts.conf.stages() {
             return None;

@@ -7,9 +7,9 @@ use Rattle.pr_control.proofs.Laws.{occupant_hit, occupant_other, occupant_still}
 use Rattle.pr_control.proofs.Residence.{in_range, feeder, absent, active}
 use Rattle.pr_flow.specs.Rows.{Step}
 use Rattle.pr_account.specs.Account.{enters, IsEntries}
-use Rattle.pr_account.specs.Flow.{state_at, read_at, state_with, row_with}
+use Rattle.pr_account.specs.Flow.{state_at, read_at, state_with, row_with, input_of}
 use Rattle.pr_account.proofs.FlowLaws.{read_next, state_next, read_none, state_same}
-use Rattle.pr_stands.specs.Spots.{Spot, Held, shows, input_of, stepped, saved}
+use Rattle.pr_stands.specs.Spots.{Spot, Held, shows, stepped, saved}
 use Rattle.pr_stands.specs.Cycle.{IsTurnover, IsQuiet}
 use Rattle.pr_stands.proofs.Fits.{spot_for, Fits}
 

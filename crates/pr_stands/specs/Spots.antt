@@ -1,7 +1,7 @@
 -- A stripe as contracts see it, and what one cycle makes of it.
-use Rattle.std.specs.Prelude.{ℕ, zero, suc, ◌==◌, Option, Some, None, if◌then◌else◌}
+use Rattle.std.specs.Prelude.{ℕ, ◌==◌, Option, Some, None, if◌then◌else◌}
 use Rattle.pr_flow.specs.Rows.{Step}
-use Rattle.pr_account.specs.Flow.{state_with, row_with}
+use Rattle.pr_account.specs.Flow.{input_of, state_with, row_with}
 
 -- a stripe without a stage, a stripe that holds a stage in a state, or no stripe at all. The row is what the stripe
 -- shows: None is a bubble, and the registers of a bubble do not count
@@ -21,11 +21,6 @@ abbrev pub stage_in : {S R : Type 0} → Spot S R → Option ℕ
 stage_in (Bare row) = None
 stage_in (Held stage state row) = Some stage
 stage_in Gone = None
-
--- what stage s reads: the bus in stage 0, else what the stripe before shows
-abbrev pub input_of : {R : Type 0} → ℕ → Option R → Option R → Option R
-input_of zero bus before = bus
-input_of (suc s) bus before = before
 
 -- what a stripe becomes in a cycle in which it computes
 abbrev pub stepped : {S R : Type 0} → (ℕ → Step S R) → Option R → Spot S R → Option R → Spot S R
