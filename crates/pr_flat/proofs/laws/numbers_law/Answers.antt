@@ -1,0 +1,5 @@
+use Rattle.pr_flat.proofs.NumberLemmas.{rows_of-have_widths}
+use Rattle.pr_flat.proofs.laws.numbers_law.Goals as goal
+
+pub returns : goal.returns
+returns c = rows_of-have_widths

@@ -1,0 +1,6 @@
+pub mod Forms
+pub mod Rows
+pub mod Shape
+pub mod Facts
+pub mod Widths
+pub mod Values
