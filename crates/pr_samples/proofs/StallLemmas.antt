@@ -1,5 +1,5 @@
 -- The turns of a stall text, byte by byte.
-use Rattle.std.proofs.Common.{◌≡◌, ℕ, suc, ◌+◌, ◌<◌, ◌≤◌, List, [], ◌∷◌, drop, length, get_or, add-one, drop-cons, Option, Some, None, refl, ap, sym, ◌∙◌}
+use Rattle.std.proofs.Common.{◌≡◌, ℕ, suc, ◌+◌, ◌<◌, ◌≤◌, List, [], ◌∷◌, drop, length, get_or, add-one, drop-cons, Option, Some, None, refl, ap, sym, ◌∙◌, arith}
 use Rattle.std.proofs.lemmas.List.{drop_all}
 use Rattle.pr_samples.specs.declared.stall.Held.{Held}
 use Rattle.pr_samples.specs.Stall.{turn_of, turns_of}
@@ -24,3 +24,12 @@ turns_of-turn i b text t h is e = ap turns_of (at_drop i b text h is) ∙ turns_
 pub turns_of-end : (i : ℕ) (text : List ℕ) → length text ≤ i → turns_of (drop i text) ≡ []
 unfolding turns_of
 turns_of-end i text h = rw (drop_all i text h) refl
+
+-- a text has no more turns than bytes
+with_turn-le : (o : Option Held) (n : ℕ) (turns : List Held) → length turns ≤ n → length (elim o as (λ x. List Held) [ None ↦ turns | Some t ↦ t ∷ turns ]) ≤ suc n
+with_turn-le None n turns h = omega (arith, h)
+with_turn-le (Some t) n turns h = omega (arith, h)
+
+pub turns_of-le : (text : List ℕ) → length (turns_of text) ≤ length text
+turns_of-le [] = rw (turns_of-end 0 [] (omega arith)) (omega arith)
+turns_of-le (b ∷ text) = rw (turns_of-cons b text (turn_of b) refl) (with_turn-le (turn_of b) (length text) (turns_of text) (turns_of-le text))

@@ -73,6 +73,7 @@ impl Stall {
         ensures good { IfOk result (λ s. position (λ b. not (is_stall_byte b)) text.items ≡ None) }
         ensures bad { IfErr result (λ e. position (λ b. not (is_stall_byte b)) text.items ≡ Some e.place) }
         ensures turns { IfOk result (λ s. turns_left s ≡ turns_of text.items) }
+        ensures few { IfOk result (λ s. length (turns_left s) ≤ 1048576) }
     {
         match first_bad(&text) {
             None => Ok(Stall { text, at: 0 }),

@@ -1,0 +1,9 @@
+pub mod Bytes
+pub mod Lines
+pub mod CycleLines
+pub mod NextSamples
+pub mod FeedSteps
+pub mod Closing
+pub mod WholeRuns
+pub mod Ends
+pub mod Sayings

@@ -1,0 +1,10 @@
+use Rattle.std.proofs.Common.{ap, arith, ◌∙◌}
+use Rattle.pr_base.specs.Numbers.{bytes_of}
+use Rattle.pr_run.proofs.Bytes.{whole_number}
+use Rattle.pr_run.proofs.feeding.put_number.Goals as goal
+
+pub returns : goal.returns
+returns c =
+    let l = c.loop-i in
+    whole_number l.into c.args.n (λ k h. l.invariant.done k (omega (arith, h, l.invariant.size, l.invariant.end, c.loop-i-test.false)))
+    ∙ ap (λ n. bytes_of n c.args.n) l.invariant.size

@@ -1,0 +1,25 @@
+use Rattle.std.proofs.Common.{◌≡◌, ◌+◌, ◌-◌, ◌≤◌, ◌^◌, drop, length}
+use Rattle.pr_control.specs.Counts.{drain}
+use Rattle.pr_samples.specs.Stall.{turns_left}
+use Rattle.pr_samples.specs.Feed.{widths_of}
+use Rattle.pr_machine.specs.Stands.{conf_of, stripes_of, time_of}
+use Rattle.pr_script.specs.Script.{begun, turns}
+use Rattle.pr_run.specs.Setting.{view, setting_of, stall_turns}
+use Rattle.pr_run.specs.Turns.{IsOn}
+use Rattle.pr_run.proofs.runs.take_turns.Given as goal
+
+abbrev pub invariant-loop-now : goal.invariant-loop-now
+invariant-loop-now g l = record {
+  on : IsOn (setting_of l.initial.machine l.initial.stall l.initial.feed (view (g.S.Shelf.told l.initial.shelf) (g.S.Shelf.reach l.initial.shelf) (g.S.Shelf.faults l.initial.shelf)) (g.K.Sink.told l.initial.out) l.log)
+      (λ xs. turns (length (conf_of l.initial.machine).stages) (stripes_of l.initial.machine) (stall_turns l.initial.stall) l.asked (begun xs))
+      l.machine l.feed (view (g.S.Shelf.told l.shelf) (g.S.Shelf.reach l.shelf) (g.S.Shelf.faults l.shelf)) (g.K.Sink.told l.out) l.last;
+  left : turns_left l.stall ≡ drop l.asked (turns_left l.initial.stall);
+  inputs : widths_of l.feed ≡ (conf_of l.machine).inputs;
+  conf : l.machine.parts.conf ≡ l.initial.machine.parts.conf;
+  stripes : stripes_of l.machine ≡ stripes_of l.initial.machine;
+  time : time_of l.machine ≤ l.asked;
+  later : g.K.Sink.faults l.initial.out ≤ g.K.Sink.faults l.out;
+}
+
+abbrev pub decreases-loop-now : goal.decreases-loop-now
+decreases-loop-now g l = length (stall_turns l.initial.stall) + drain (length (conf_of l.initial.machine).stages) (stripes_of l.initial.machine) (2 ^ 40) + 1 - l.asked

@@ -1,0 +1,4 @@
+pub mod Setting
+pub mod Turns
+pub mod Outcomes
+pub mod Runs

@@ -1,0 +1,58 @@
+//! The last step of a turn: one cycle, and its line in the log.
+ghost use Rattle.std.specs.Prelude.{ℕ, ◌≡◌, ◌≤◌, ◌<◌, ◌+◌, ◌^◌, ◌++◌, ◌∷◌, [], length, Some, OnOk, OnErr};
+ghost use Rattle.pr_edge.specs.Count.{Rose};
+ghost use Rattle.pr_control.specs.Residents.{Resides};
+ghost use Rattle.pr_flow.specs.Rows.{state_after};
+ghost use Rattle.pr_account.specs.Account.{Cycle, done};
+ghost use Rattle.pr_conf.specs.Shape.{Shape};
+ghost use Rattle.pr_conf.specs.Through.{steps_of};
+ghost use Rattle.pr_machine.specs.Stands.{Stands, History, account_of, time_of, stripes_of};
+ghost use Rattle.pr_run.specs.Setting.{Setting, IsSet};
+ghost use Rattle.pr_run.specs.Turns.{HasDone, HasBegun};
+
+use pr_edge::{Sink, WriteFault, write_all};
+use pr_log::line;
+use pr_machine::{Machine, Running};
+
+/// The state row of a stage that was saved, and nothing where none was.
+fn saved_row<const N: usize, const P: usize>(
+    machine: &Machine<N, P, Running>,
+    saved: Option<u32>,
+) -> &[u8]
+    ensures few { length result.now ≤ 64 }
+    ensures row { (c : Shape) (p : ℕ) (h : History) (s : ℕ) → Stands machine.now c p h → saved ≡ Some s → s < length c.stages
+        → ((i : ℕ) → Resides (length c.stages) p (account_of c p h).time s i → ⊥)
+        → result.now ≡ state_after (steps_of N P c) s (done s (account_of c p h).time (account_of c p h).entries) (account_of c p h).offered }
+{
+    match saved {
+        None => &[],
+        Some(stage) => match machine.stored(stage) {
+            None => &[],
+            Some(row) => row,
+        },
+    }
+}
+
+/// Asks the machine for one cycle, and writes its line where the log is asked for.
+pub fn cycle_step<const N: usize, const P: usize, K: Sink>(
+    machine: &mut Machine<N, P, Running>,
+    out: &mut K,
+    log: bool,
+) -> Result<(), WriteFault>
+    requires { time_of machine.old < 2 ^ 63 }
+    ensures done { (s : Setting) (h : History) → IsSet s → (s.log ≡ log) → HasDone s machine.old (K.told out.old) h → OnOk result (HasDone s machine.new (K.told out.new) (h ++ Cycle ∷ [])) }
+    ensures begun { (s : Setting) (h : History) → IsSet s → (s.log ≡ log) → HasDone s machine.old (K.told out.old) h → OnErr result (HasBegun s machine.new (K.told out.new) (h ++ Cycle ∷ [])) }
+    ensures conf { machine.new.parts.conf ≡ machine.old.parts.conf }
+    ensures stripes { stripes_of machine.new ≡ stripes_of machine.old }
+    ensures time { time_of machine.new ≤ time_of machine.old + 1 }
+    ensures cause { OnErr result (Rose (K.faults out.old) (K.faults out.new)) }
+    ensures later { K.faults out.old ≤ K.faults out.new }
+{
+    let time = machine.time();
+    let turn = machine.cycle();
+    if !log {
+        return Ok(());
+    }
+    let text = line(&turn, time, saved_row(machine, turn.saved));
+    write_all(out, text.as_bytes())
+}

@@ -1,0 +1,129 @@
+//! The first step of a turn: a sample is read and offered.
+ghost use Rattle.std.specs.Prelude.{ℕ, ◌≡◌, ◌<◌, ◌+◌, ◌++◌, ◌∷◌, [], ◌&&◌, not, nat_lt, false, List, length, sum_by};
+ghost use Rattle.pr_base.specs.Numbers.{bytes_of, slices_of};
+ghost use Rattle.pr_base.specs.Rows.{row_bytes};
+ghost use Rattle.pr_edge.specs.Tape.{Tape};
+ghost use Rattle.pr_samples.specs.Feed.{widths_of};
+ghost use Rattle.pr_samples.specs.Got.{is_sample};
+ghost use Rattle.pr_account.specs.Account.{Offer};
+ghost use Rattle.pr_conf.specs.Shape.{Shape};
+ghost use Rattle.pr_machine.specs.Stands.{Stands, History, conf_of, waiting_samples, IsKept};
+ghost use Rattle.pr_script.specs.Script.{Held, Run, fed};
+ghost use Rattle.pr_run.specs.Setting.{Setting, IsSet, view, stages_of};
+ghost use Rattle.pr_run.specs.Turns.{IsOn};
+
+use pr_base::{Num, byte_of, slices};
+use pr_edge::Shelf;
+use pr_machine::{Machine, Running};
+use pr_samples::{Feed, Got};
+
+/// The samples that wait at most.
+const FULL: usize = 16;
+
+/// Puts the lowest bytes of a number into a buffer, as many as fit, the least first.
+fn put_number(into: &mut [u8], n: Num)
+    ensures { into.new ≡ bytes_of (length into.old) n }
+{
+    for i in 0..into.len() {
+        into[i] = byte_of(n, i);
+    }
+}
+
+/// Puts the bytes of a row of numbers into a buffer.
+fn put_sample(into: &mut [u8], widths: &[u8], numbers: &[Num])
+    requires numbers { length numbers.now ≡ length widths.now }
+    requires bytes { length into.old ≡ sum_by slices_of widths.now }
+    ensures { into.new ≡ row_bytes widths.now numbers.now }
+{
+    let mut at = 0;
+    for i in 0..widths.len() {
+        let end = at + slices(widths[i]);
+        put_number(&mut into[at..end], numbers[i]);
+        at = end;
+    }
+}
+
+/// Offers a sample, for which there is room.
+fn offer_sample<const N: usize, const P: usize>(
+    machine: &mut Machine<N, P, Running>,
+    bytes: &mut [u8],
+    numbers: &[Num],
+)
+    requires bytes { length bytes.old ≡ 64 }
+    requires numbers { length numbers.now ≡ length (conf_of machine.old).inputs }
+    requires room { length (waiting_samples machine.old) < 16 }
+    ensures bytes { length bytes.new ≡ 64 }
+    ensures stands { (c : Shape) (p : ℕ) (h : History) → Stands machine.old c p h → Stands machine.new c p (h ++ Offer (row_bytes c.inputs numbers.now) ∷ []) }
+    ensures kept { IsKept machine.old machine.new }
+{
+    let size = machine.conf().sample_bytes();
+    put_sample(&mut bytes[..size], &machine.conf().inputs, numbers);
+    machine.offer(&bytes[..size]).unwrap();
+}
+
+/// Whether an answer of a feed is a sample.
+pub fn goes_on(last: Got) -> bool
+    ensures { result ≡ is_sample last }
+{
+    matches!(last, Got::Sample)
+}
+
+/// Whether a sample is to be read.
+fn may_read(held: bool, last: Got, waiting: usize) -> bool
+    ensures { result ≡ (not held && is_sample last && nat_lt waiting 16) }
+{
+    !held && goes_on(last) && waiting < FULL
+}
+
+/// Reads a sample and offers it, and gives the feed's answer.
+fn read_one<const N: usize, const P: usize, S: Shelf>(
+    machine: &mut Machine<N, P, Running>,
+    feed: &mut Feed,
+    shelf: &mut S,
+    numbers: &mut [Num],
+    bytes: &mut [u8],
+) -> Got
+    requires inputs { widths_of feed.old ≡ (conf_of machine.old).inputs }
+    requires numbers { length numbers.old ≡ length (conf_of machine.old).inputs }
+    requires bytes { length bytes.old ≡ 64 }
+    requires room { length (waiting_samples machine.old) < 16 }
+    ensures on { (s : Setting) (runs : List (List ℕ) → Run (List ℕ)) (turn : Held) (t : Tape) → IsSet s → turn.input ≡ false
+        → IsOn s runs machine.old feed.old (view (S.told shelf.old) (S.reach shelf.old) (S.faults shelf.old)) t Got.Sample
+        → IsOn s (λ xs. fed (stages_of s) s.stripes turn (runs xs)) machine.new feed.new (view (S.told shelf.new) (S.reach shelf.new) (S.faults shelf.new)) t result }
+    ensures inputs { widths_of feed.new ≡ widths_of feed.old }
+    ensures kept { IsKept machine.old machine.new }
+    ensures bytes { length bytes.new ≡ 64 }
+{
+    let got = feed.next(shelf, numbers);
+    if goes_on(got) {
+        offer_sample(machine, bytes, numbers);
+    }
+    got
+}
+
+/// Reads a sample and offers it, unless the input side is held, the samples have ended or the queue is full. It gives the
+/// feed's last answer, which was `last`; a sample says that more may follow.
+pub fn feed_step<const N: usize, const P: usize, S: Shelf>(
+    machine: &mut Machine<N, P, Running>,
+    feed: &mut Feed,
+    shelf: &mut S,
+    numbers: &mut [Num],
+    bytes: &mut [u8],
+    held: bool,
+    last: Got,
+) -> Got
+    requires inputs { widths_of feed.old ≡ (conf_of machine.old).inputs }
+    requires numbers { length numbers.old ≡ 64 }
+    requires bytes { length bytes.old ≡ 64 }
+    ensures on { (s : Setting) (runs : List (List ℕ) → Run (List ℕ)) (turn : Held) (t : Tape) → IsSet s → turn.input ≡ held
+        → IsOn s runs machine.old feed.old (view (S.told shelf.old) (S.reach shelf.old) (S.faults shelf.old)) t last
+        → IsOn s (λ xs. fed (stages_of s) s.stripes turn (runs xs)) machine.new feed.new (view (S.told shelf.new) (S.reach shelf.new) (S.faults shelf.new)) t result }
+    ensures inputs { widths_of feed.new ≡ widths_of feed.old }
+    ensures kept { IsKept machine.old machine.new }
+{
+    if !may_read(held, last, machine.waiting_in()) {
+        return last;
+    }
+    let count = machine.conf().inputs.len();
+    read_one(machine, feed, shelf, &mut numbers[..count], bytes)
+}

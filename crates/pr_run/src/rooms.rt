@@ -1,0 +1,35 @@
+//! The memory of a run.
+ghost use Rattle.std.specs.Prelude.{◌≡◌, IfOk, replicate, vec_len};
+
+use pr_base::Num;
+use std::alloc::{AllocError, Global};
+
+/// Buffers in which the samples and the results of every configuration have room: 64 numbers and the bytes of 64, and
+/// the 1,024 bytes of 64 outputs of the greatest width.
+#[derive(Drop)]
+pub struct Room {
+    pub(crate) numbers: Vec<Num>,
+    pub(crate) sample: Vec<u8>,
+    pub(crate) result: Vec<u8>,
+    pub ghost numbers_size: { vec_len numbers ≡ 64 },
+    pub ghost sample_size: { vec_len sample ≡ 64 },
+    pub ghost result_size: { vec_len result ≡ 1024 },
+}
+
+impl Room {
+    /// The buffers, all zero. A run takes no memory beside them.
+    pub fn make(alloc: Global) -> Result<Room, AllocError>
+        ensures numbers { IfOk result (λ r. r.numbers.items ≡ replicate 64 0) }
+        ensures sample { IfOk result (λ r. r.sample.items ≡ replicate 64 0) }
+        ensures bytes { IfOk result (λ r. r.result.items ≡ replicate 1024 0) }
+    {
+        let numbers = vec![in alloc; 0; 64]?;
+        let sample = vec![in alloc; 0; 64]?;
+        let result = vec![in alloc; 0; 1024]?;
+        Ok(Room {
+            numbers,
+            sample,
+            result,
+        })
+    }
+}

@@ -1,0 +1,118 @@
+//! Whole runs.
+ghost use Rattle.std.specs.Prelude.{ℕ, ◌≡◌, ◌≢◌, ◌≤◌, [], false, List, length, Some, OnErr, IfOk};
+ghost use Rattle.pr_edge.specs.Count.{Rose};
+ghost use Rattle.pr_edge.specs.Files.{IsMissing, HasReadCause};
+ghost use Rattle.pr_samples.specs.Stall.{turns_left};
+ghost use Rattle.pr_samples.specs.Got.{is_sample};
+ghost use Rattle.pr_samples.specs.Feed.{name_of, widths_of, given_of, place_of, SameFile, Tells};
+ghost use Rattle.pr_conf.specs.Through.{output_widths};
+ghost use Rattle.pr_machine.specs.Stands.{Stands, conf_of, stripes_of, time_of};
+ghost use Rattle.pr_run.specs.Setting.{Setting, IsFresh, view, setting_of};
+ghost use Rattle.pr_run.specs.Runs.{IsEnded, Ran, EndsRun, IsFault, IsCounted};
+
+use crate::draining::put_widths;
+use crate::ending::{Finished, RunEnd, finish};
+use crate::rooms::Room;
+use crate::turning::{Turned, turn};
+use pr_edge::{Shelf, Sink, WriteFault};
+use pr_machine::{Machine, Running};
+use pr_samples::{Feed, Got, Stall};
+
+/// Makes the turns of a run until it is over.
+fn take_turns<const N: usize, const P: usize, S: Shelf, K: Sink>(
+    machine: &mut Machine<N, P, Running>,
+    feed: &mut Feed,
+    shelf: &mut S,
+    stall: &mut Stall,
+    out: &mut K,
+    log: bool,
+    room: &mut Room,
+    widths: &[u8],
+) -> Result<Finished, WriteFault>
+    requires loaded { Stands machine.old (conf_of machine.old) (stripes_of machine.old) [] }
+    requires fresh { IsFresh feed.old }
+    requires inputs { widths_of feed.old ≡ (conf_of machine.old).inputs }
+    requires outputs { widths.now ≡ output_widths (conf_of machine.old) }
+    requires turns { length (turns_left stall.old) ≤ 1048576 }
+    ensures ended { (s : Setting) → s ≡ setting_of machine.old stall.old feed.old (view (S.told shelf.old) (S.reach shelf.old) (S.faults shelf.old)) (K.told out.old) log
+        → IsEnded s machine.new feed.new (view (S.told shelf.new) (S.reach shelf.new) (S.faults shelf.new)) (K.told out.new) result }
+    ensures last { IfOk result (λ e. is_sample e.last ≡ false) }
+    ensures asked { IfOk result (λ e. time_of machine.new ≤ e.asked) }
+    ensures conf { machine.new.parts.conf ≡ machine.old.parts.conf }
+    ensures stripes { stripes_of machine.new ≡ stripes_of machine.old }
+    ensures cause { OnErr result (Rose (K.faults out.old) (K.faults out.new)) }
+    ensures later { K.faults out.old ≤ K.faults out.new }
+{
+    let mut last = Got::Sample;
+    let mut asked = 0;
+    loop {
+        let held = stall.next();
+        match turn(machine, feed, shelf, out, log, room, widths, held, last) {
+            Turned::On { last: now } => last = now,
+            Turned::Over { last } => return Ok(Finished { last, asked }),
+            Turned::Failed => return Err(WriteFault),
+        }
+        asked += 1;
+    }
+}
+
+/// Runs the samples of a feed through a machine that was just loaded, and writes the line of each result.
+///
+/// In each turn a sample is read and offered where the input side is free and its queue has room, all waiting results are
+/// taken and written where the output side is free, and the machine is asked for one cycle. The run is over when the
+/// samples have ended and no result is under way. With `log` the line of each cycle is written too, and at last one with
+/// the numbers. No memory is taken.
+///
+/// After a write fault the first bytes of the text are written, and the machine may hold results. The stall text and the
+/// room are changed by every run.
+pub fn run<const N: usize, const P: usize, S: Shelf, K: Sink>(
+    machine: &mut Machine<N, P, Running>,
+    feed: &mut Feed,
+    shelf: &mut S,
+    stall: &mut Stall,
+    out: &mut K,
+    log: bool,
+    room: &mut Room,
+) -> RunEnd
+    requires loaded { Stands machine.old (conf_of machine.old) (stripes_of machine.old) [] }
+    requires fresh { IsFresh feed.old }
+    requires inputs { widths_of feed.old ≡ (conf_of machine.old).inputs }
+    requires turns { length (turns_left stall.old) ≤ 1048576 }
+
+    // The machine, the text, the number of cycles and the answer, over the samples that the feed gave.
+    ensures ran { Ran (setting_of machine.old stall.old feed.old (view (S.told shelf.old) (S.reach shelf.old) (S.faults shelf.old)) (K.told out.old) log)
+        machine.new feed.new (view (S.told shelf.new) (S.reach shelf.new) (S.faults shelf.new)) (K.told out.new) result }
+
+    // How the file ends, where it is told.
+    ensures ends { (file : List ℕ) → Tells (S.told shelf.old) (name_of feed.old) file → EndsRun result feed.new file }
+    ensures missing { IsMissing (S.told shelf.old) (name_of feed.old) → IsFault result × (given_of feed.new ≡ 0) }
+    ensures reached { S.reach shelf.old (name_of feed.old) ≡ Some 0 → S.reach shelf.new (name_of feed.old) ≡ Some (place_of feed.new) }
+
+    ensures read_fault { result ≡ RunEnd.ReadFault → HasReadCause (S.told shelf.old) (name_of feed.old) (S.faults shelf.old) (S.faults shelf.new) }
+    ensures write_fault { result ≡ RunEnd.WriteFault → Rose (K.faults out.old) (K.faults out.new) }
+
+    // Without a stall text the numbers are exact.
+    ensures counted { turns_left stall.old ≡ [] → IsCounted (length (conf_of machine.old).stages) (stripes_of machine.old) (given_of feed.new) result }
+
+    ensures conf { machine.new.parts.conf ≡ machine.old.parts.conf }
+    ensures stripes { stripes_of machine.new ≡ stripes_of machine.old }
+    ensures file { SameFile feed.old feed.new }
+    ensures told { S.told shelf.new ≡ S.told shelf.old }
+    ensures others { (q : List ℕ) → q ≢ name_of feed.old → S.reach shelf.new q ≡ S.reach shelf.old q }
+    ensures shelf_later { S.faults shelf.old ≤ S.faults shelf.new }
+    ensures out_later { K.faults out.old ≤ K.faults out.new }
+{
+    let mut widths = [0; 64];
+    let count = put_widths(&mut widths, machine.conf());
+    let end = take_turns(
+        machine,
+        feed,
+        shelf,
+        stall,
+        out,
+        log,
+        room,
+        &widths[..count],
+    );
+    finish(machine, out, log, end)
+}

@@ -1,0 +1,116 @@
+//! One turn of a run.
+ghost use Rattle.std.specs.Prelude.{ℕ, ◌≡◌, ◌≤◌, ◌<◌, ◌+◌, ◌^◌, ◌==◌, ◌&&◌, not, true, false, List, length};
+ghost use Rattle.pr_edge.specs.Count.{Rose};
+ghost use Rattle.pr_samples.specs.Feed.{widths_of, given_of};
+ghost use Rattle.pr_samples.specs.Got.{is_sample};
+ghost use Rattle.pr_account.specs.Account.{left};
+ghost use Rattle.pr_conf.specs.Shape.{Shape};
+ghost use Rattle.pr_conf.specs.Through.{output_widths};
+ghost use Rattle.pr_machine.specs.Stands.{Stands, History, account_of, conf_of, stripes_of, time_of};
+ghost use Rattle.pr_script.specs.Script.{Run, waiting, closed, turned};
+ghost use Rattle.pr_run.specs.Setting.{Setting, View, IsSet, view, stages_of, held_of};
+ghost use Rattle.pr_run.specs.Turns.{IsOn};
+ghost use Rattle.pr_run.specs.Outcomes.{IsTurned, has_failed, cycles_by};
+
+use crate::cycling::cycle_step;
+use crate::draining::drain_step;
+use crate::feeding::{feed_step, goes_on};
+use crate::rooms::Room;
+use pr_edge::{Shelf, Sink};
+use pr_machine::{Machine, Running};
+use pr_samples::{Feed, Got, Held};
+
+/// What a turn came to.
+#[derive(Clone, Copy)]
+pub enum Turned {
+    /// The run goes on. `last` is the feed's last answer; a sample says that more may follow.
+    On { last: Got },
+    /// The run is over, and the samples ended so.
+    Over { last: Got },
+    /// A write failed.
+    Failed,
+}
+
+/// Whether the samples have ended, every offered sample has left, and no result waits.
+fn is_over<const N: usize, const P: usize>(
+    machine: &Machine<N, P, Running>,
+    feed: &Feed,
+    last: Got,
+) -> bool
+    ensures { (c : Shape) (p : ℕ) (h : History) → Stands machine.now c p h
+        → result ≡ (not (is_sample last) && (left (length c.stages) (account_of c p h) == given_of feed.now) && (waiting (length c.stages) (account_of c p h) == 0)) }
+{
+    !goes_on(last) && machine.left() == feed.given() && machine.waiting_out() == 0
+}
+
+/// The end of a turn: the run is over, or the machine is asked for one cycle.
+fn close_turn<const N: usize, const P: usize, K: Sink>(
+    machine: &mut Machine<N, P, Running>,
+    feed: &Feed,
+    out: &mut K,
+    log: bool,
+    last: Got,
+) -> Turned
+    requires { time_of machine.old < 2 ^ 63 }
+    ensures after { (s : Setting) (first runs next : List (List ℕ) → Run (List ℕ)) (now : View) → IsSet s → s.log ≡ log
+        → ((xs : List (List ℕ)) → (runs xs).over ≡ false → ((first xs).over ≡ false) × (next xs ≡ closed (stages_of s) s.stripes (runs xs)))
+        → IsOn s runs machine.old feed.now now (K.told out.old) last
+        → IsTurned s first next machine.new feed.now now (K.told out.new) result }
+    ensures conf { machine.new.parts.conf ≡ machine.old.parts.conf }
+    ensures stripes { stripes_of machine.new ≡ stripes_of machine.old }
+    ensures time { time_of machine.new ≤ time_of machine.old + cycles_by result }
+    ensures cause { has_failed result ≡ true → Rose (K.faults out.old) (K.faults out.new) }
+    ensures later { K.faults out.old ≤ K.faults out.new }
+{
+    if is_over(machine, feed, last) {
+        return Turned::Over { last };
+    }
+    match cycle_step(machine, out, log) {
+        Ok(()) => Turned::On { last },
+        Err(_) => Turned::Failed,
+    }
+}
+
+/// One turn: a sample is read and offered, all waiting results are taken and written, and where the run is not over then,
+/// the machine is asked for one cycle.
+///
+/// `last` is the feed's last answer, and `widths` are those of the outputs.
+pub fn turn<const N: usize, const P: usize, S: Shelf, K: Sink>(
+    machine: &mut Machine<N, P, Running>,
+    feed: &mut Feed,
+    shelf: &mut S,
+    out: &mut K,
+    log: bool,
+    room: &mut Room,
+    widths: &[u8],
+    held: Held,
+    last: Got,
+) -> Turned
+    requires inputs { widths_of feed.old ≡ (conf_of machine.old).inputs }
+    requires outputs { widths.now ≡ output_widths (conf_of machine.old) }
+    requires time { time_of machine.old < 2 ^ 63 }
+    ensures after { (s : Setting) (first next : List (List ℕ) → Run (List ℕ)) → IsSet s → s.log ≡ log
+        → ((xs : List (List ℕ)) → next xs ≡ turned (stages_of s) s.stripes (held_of held) (first xs))
+        → IsOn s first machine.old feed.old (view (S.told shelf.old) (S.reach shelf.old) (S.faults shelf.old)) (K.told out.old) last
+        → IsTurned s first next machine.new feed.new (view (S.told shelf.new) (S.reach shelf.new) (S.faults shelf.new)) (K.told out.new) result }
+    ensures inputs { widths_of feed.new ≡ widths_of feed.old }
+    ensures conf { machine.new.parts.conf ≡ machine.old.parts.conf }
+    ensures stripes { stripes_of machine.new ≡ stripes_of machine.old }
+    ensures time { time_of machine.new ≤ time_of machine.old + cycles_by result }
+    ensures cause { has_failed result ≡ true → Rose (K.faults out.old) (K.faults out.new) }
+    ensures later { K.faults out.old ≤ K.faults out.new }
+{
+    let last = feed_step(
+        machine,
+        feed,
+        shelf,
+        &mut room.numbers,
+        &mut room.sample,
+        held.input,
+        last,
+    );
+    match drain_step(machine, out, widths, &mut room.result, held.output) {
+        Ok(()) => close_turn(machine, feed, out, log, last),
+        Err(_) => Turned::Failed,
+    }
+}
