@@ -1,5 +1,5 @@
 -- Files, of bytes.
-use Rattle.std.proofs.Common.{◌≡◌, ℕ, zero, suc, ◌+◌, ◌*◌, ◌^◌, ◌<◌, ◌≤◌, ◌==◌, Bool, true, false, List, [], ◌∷◌, ◌++◌, length, get_or, slice_index, refl, sym, ap, ◌∙◌, arith, None, Some, Result, Ok, Err, cond, inl, inr, subst, length-drop}
+use Rattle.std.proofs.Common.{◌≡◌, ℕ, zero, suc, ◌+◌, ◌*◌, ◌^◌, ◌<◌, ◌≤◌, ◌==◌, Bool, true, false, List, [], ◌∷◌, ◌++◌, length, get_or, slice_index, refl, sym, ap, ◌∙◌, arith, None, Some, Result, Ok, Err, IfOk, Option, cond, inl, inr, subst, length-drop}
 use Rattle.std.specs.Int.{w32, to_be_bytes}
 use Rattle.std.proofs.lemmas.Bool.{eqb-true}
 use Rattle.std.proofs.lemmas.Nat.{be_bytes_4}
@@ -10,7 +10,7 @@ use Rattle.pr_code.specs.declared.formats.Format.{Format}
 use Rattle.pr_code.specs.declared.faults.CodeFault.{CodeFault}
 use Rattle.pr_code.specs.Spelling.{bytes_of_words, format_1, format_2, IsFileIn, IsFile, has_bytes}
 use Rattle.pr_code.specs.Reading.{words_of_bytes, shape_in, inputs_part, outputs_part, stages_part}
-use Rattle.pr_code.specs.Rules.{Broken, broken_end, rules_in, bad_from, format_of, bad_word}
+use Rattle.pr_code.specs.Rules.{Broken, broken_end, rules_in, bad_from, format_of, bad_word, shape_read}
 use Rattle.pr_code.specs.Outcome.{Reads}
 use Rattle.pr_code.proofs.SoundLemmas.{none_or}
 use Rattle.pr_code.proofs.SoundStages.{AreWords}
@@ -110,3 +110,8 @@ decode_reads (Ok c) shape f N P bytes n1 n64 p2 p16 fits e h =
     (none, file_of (slice_index (words_of_bytes bytes) 0 == format_1.mark) N P (shape c) bytes (subst (λ s. IsFileIn (format_of bytes) N P s bytes) (sym is) sound.file))
 decode_reads (Err (CodeFault.BadConfig rule place)) shape f N P bytes n1 n64 p2 p16 fits e h = ap (λ t. bad_from t N P 0 bytes) (sym e) ∙ h
 decode_reads (Err (CodeFault.Memory m)) shape f N P bytes n1 n64 p2 p16 fits e h = tt
+
+pub decode_shape : {X : Type 0} (r : Result X CodeFault) (shape : X → Shape) (f : Format) (N : ℕ) (bytes : List ℕ) (broken : Option Broken) → f ≡ format_of bytes → Reads r broken (λ c. shape c ≡ shape_in f.packed N (words_of_bytes bytes)) → IfOk r (λ c. shape c ≡ shape_read N bytes)
+unfolding shape_read
+decode_shape (Ok c) shape f N bytes broken e h = h.1 ∙ ap (λ (t : Format). shape_in t.packed N (words_of_bytes bytes)) e
+decode_shape (Err e) shape f N bytes broken is h = tt

@@ -2,10 +2,11 @@
 use Rattle.std.specs.Prelude.{ℕ, zero, suc, ◌+◌, ◌-◌, ◌*◌, ◌/◌, ◌%◌, ◌^◌, ◌==◌, ◌&&◌, ◌||◌, Bool, true, false, not, nat_lt, nat_le, List, [], ◌∷◌, ◌++◌, length, drop, replicate, slice_index, Option, None, Some, if◌then◌else◌}
 use Rattle.pr_base.specs.Numbers.{slices_of}
 use Rattle.pr_conf.specs.declared.stages.Site.{Site}
+use Rattle.pr_conf.specs.Shape.{Shape}
 use Rattle.pr_conf.specs.Rules.{is_lawful_source, is_lawful_tap, bytes_in, site_of}
 use Rattle.pr_code.specs.declared.formats.Format.{Format}
 use Rattle.pr_code.specs.Spelling.{format_1, format_2, source_word, tap_word}
-use Rattle.pr_code.specs.Reading.{words_of_bytes, source_of, tap_of, c_kind, stage_flags, before_pes, column_length, stage_length, output_length, inputs_part, inputs_of, outputs_part, stages_part}
+use Rattle.pr_code.specs.Reading.{words_of_bytes, source_of, tap_of, c_kind, stage_flags, before_pes, column_length, stage_length, output_length, inputs_part, inputs_of, outputs_part, stages_part, shape_in}
 
 -- the number of a rule, and the place of the word that breaks it
 pub record Broken : Type 0 where
@@ -188,3 +189,7 @@ format_of bytes = if slice_index (words_of_bytes bytes) 0 == format_1.mark then 
 
 unfoldable pub bad_word : ℕ → ℕ → List ℕ → Option Broken
 bad_word N P bytes = bad_from (format_of bytes) N P 0 bytes
+
+-- the configuration that a file reads as in its format, for so many columns
+unfoldable pub shape_read : ℕ → List ℕ → Shape
+shape_read N bytes = shape_in (format_of bytes).packed N (words_of_bytes bytes)

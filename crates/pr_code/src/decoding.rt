@@ -1,11 +1,11 @@
 //! Reading configurations and checkpoints.
 
-ghost use Rattle.std.specs.Prelude.{◌≡◌, ◌<◌, ◌≤◌, ◌^◌, ◌+◌, ◌∷◌, drop, length, slice_index};
+ghost use Rattle.std.specs.Prelude.{◌≡◌, ◌<◌, ◌≤◌, ◌^◌, ◌+◌, ◌∷◌, IfOk, drop, length, slice_index};
 ghost use Rattle.pr_conf.specs.Configuration.{shape_of};
 ghost use Rattle.pr_conf.specs.Rules.{bytes_in};
 ghost use Rattle.pr_code.specs.Spelling.{IsFile};
 ghost use Rattle.pr_code.specs.Reading.{words_of_bytes, shape_in};
-ghost use Rattle.pr_code.specs.Rules.{first_broken, head_rules, bad_from, bad_word, format_of};
+ghost use Rattle.pr_code.specs.Rules.{first_broken, head_rules, bad_from, bad_word, format_of, shape_read};
 ghost use Rattle.pr_code.specs.Marks.{mark_rules, bad_mark, count_of, IsMark};
 ghost use Rattle.pr_code.specs.Outcome.{Reads};
 
@@ -99,7 +99,8 @@ pub fn decode<const N: usize, const P: usize>(
     requires most_columns { N ≤ 64 }
     requires registers { 2 ≤ P }
     requires most_registers { P ≤ 16 }
-    ensures { Reads result (bad_word N P bytes.now) (λ c. IsFile N P (shape_of c) bytes.now) }
+    ensures reads { Reads result (bad_word N P bytes.now) (λ c. IsFile N P (shape_of c) bytes.now) }
+    ensures shape { IfOk result (λ c. shape_of c ≡ shape_read N bytes.now) }
 {
     configuration_at(alloc, bytes, 0, format_of(bytes))
 }

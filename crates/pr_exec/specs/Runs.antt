@@ -1,0 +1,102 @@
+-- What a run of a configuration on the samples of a file comes to.
+use Rattle.std.specs.Prelude.{◌≡◌, ◌⊎◌, ℕ, false, List, [], length, take, Some}
+use Rattle.pr_edge.specs.Files.{IsMissing, HasReadCause}
+use Rattle.pr_edge.specs.Tape.{Tape, Appends, AppendsFront}
+use Rattle.pr_conf.specs.Shape.{Shape}
+use Rattle.pr_samples.specs.Fed.{Ending, End, BadSample, Limit}
+use Rattle.pr_samples.specs.Feed.{Tells}
+use Rattle.pr_machine.specs.Stands.{Stands, History}
+use Rattle.pr_script.specs.Script.{Held, script}
+use Rattle.pr_script.specs.Counts.{IsFront}
+use Rattle.pr_script.specs.Text.{history_lines, text_of}
+use Rattle.pr_run.specs.declared.ending.RunEnd.{RunEnd}
+use Rattle.pr_run.specs.Setting.{View}
+use Rattle.pr_run.specs.Turns.{Going}
+use Rattle.pr_modes.specs.declared.outcomes.Outcome.{Outcome}
+use Rattle.pr_exec.specs.Samples.{fed_in, fed_to, pieces, results_text}
+
+abbrev pub outcome_by : RunEnd → Outcome
+outcome_by (RunEnd.Done cycles stalls results) = Outcome.Done
+outcome_by (RunEnd.BadSample line) = Outcome.BadSample line
+outcome_by RunEnd.ReadFault = Outcome.ReadFault
+outcome_by RunEnd.WriteFault = Outcome.WriteFault
+outcome_by (RunEnd.Limit cap) = Outcome.Limit cap
+
+-- a configuration on stripes under the turns of a stall text, the name of a file of samples, what the shelf shows as the
+-- run begins and when it is over, and what the sink tells then
+pub record Course : Type 0 where
+  pub conf : Shape
+  pub stripes : ℕ
+  pub turns : List Held
+  pub name : List ℕ
+  pub start : View
+  pub now : View
+  pub old : Tape
+  pub new : Tape
+
+abbrev pub course : Shape → ℕ → List Held → List ℕ → View → View → Tape → Tape → Course
+course c p turns name start now old new = record {
+  conf = c;
+  stripes = p;
+  turns = turns;
+  name = name;
+  start = start;
+  now = now;
+  old = old;
+  new = new;
+}
+
+-- the events of a run on these samples
+abbrev pub events_on : Course → List (List ℕ) → History
+events_on r rows = script (length r.conf.stages) r.stripes (pieces r.conf rows) r.turns
+
+-- the file is not told to be missing, and where it is told these are all its samples, and they end so
+pub record HasAll (r : Course) (rows : List (List ℕ)) (ending : Ending) : Type 0 where
+  pub there : IsMissing r.start.told r.name → ⊥
+  pub all : (file : List ℕ) → Tells r.start.told r.name file → rows ≡ (fed_in r.conf.inputs file).samples
+  pub ends : (file : List ℕ) → Tells r.start.told r.name file → (fed_in r.conf.inputs file).ending ≡ ending
+
+-- the machine was asked all events of a run on these samples, and the lines of their results are written
+pub record IsWhole (N P : ℕ) (r : Course) (rows : List (List ℕ)) (history : History) : Type 0 where
+  pub events : history ≡ events_on r rows
+  pub text : Appends r.old r.new (results_text N P r.conf rows)
+
+-- a read failed after these samples: where the file was read from its beginning alone, they are those of the lines that
+-- stand with their LF in the bytes that were reached
+pub record IsBroken (r : Course) (rows : List (List ℕ)) : Type 0 where
+  pub cause : HasReadCause r.start.told r.name r.start.faults r.now.faults
+  pub reached : (reach : ℕ) → r.start.reach r.name ≡ Some 0 → r.now.reach r.name ≡ Some reach → (file : List ℕ) → Tells r.start.told r.name file
+      → length rows ≡ length (fed_to r.conf.inputs file reach).samples
+
+-- what was done is the beginning of a run on these samples
+pub record IsBegun (N P : ℕ) (r : Course) (rows : List (List ℕ)) (history : History) : Type 0 where
+  pub events : IsFront history (events_on r rows)
+  pub text : AppendsFront r.old r.new (results_text N P r.conf rows)
+
+-- a write failed after these samples: the first bytes of the results' lines are written, and the machine was asked to take
+-- each result whose line is whole. It was the beginning of a run on these samples, and, unless a read failed too, on all
+pub record IsStopped (N P : ℕ) (r : Course) (rows : List (List ℕ)) (history : History) : Type 0 where
+  pub text : AppendsFront r.old r.new (text_of false (history_lines N P r.conf r.stripes history))
+  pub begun : IsBegun N P r rows history
+  pub all : HasReadCause r.start.told r.name r.start.faults r.now.faults
+      ⊎ ((file : List ℕ) → Tells r.start.told r.name file → IsBegun N P r (fed_in r.conf.inputs file).samples history)
+
+-- what an outcome says
+abbrev pub IsEnd : ℕ → ℕ → Course → List (List ℕ) → History → Outcome → Type 0
+IsEnd N P r rows history Outcome.Done = HasAll r rows End × IsWhole N P r rows history
+IsEnd N P r rows history (Outcome.Limit which) = HasAll r rows (Limit which) × IsWhole N P r rows history
+IsEnd N P r rows history (Outcome.BadConfig rule place) = ⊥
+IsEnd N P r rows history (Outcome.BadStall place) = ⊥
+IsEnd N P r rows history (Outcome.BadSample line) = HasAll r rows (BadSample line) × IsWhole N P r rows history
+IsEnd N P r rows history Outcome.ReadFault = IsBroken r rows × IsWhole N P r rows history
+IsEnd N P r rows history Outcome.WriteFault = IsStopped N P r rows history
+IsEnd N P r rows history Outcome.Memory = ⊥
+
+-- a run: the first samples of the file, the history for which the machine stands, and what the outcome says of them
+pub record IsRun {N P : ℕ} (r : Course) (machine : Going N P) (outcome : Outcome) : Type 0 where
+  pub rows : List (List ℕ)
+  pub history : History
+  pub stands : Stands machine r.conf r.stripes history
+  pub first : (file : List ℕ) → Tells r.start.told r.name file → rows ≡ take (length rows) (fed_in r.conf.inputs file).samples
+  pub unread : IsMissing r.start.told r.name → rows ≡ []
+  pub end : IsEnd N P r rows history outcome

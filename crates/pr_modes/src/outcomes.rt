@@ -1,0 +1,35 @@
+//! What a mode came to.
+
+use pr_base::Cap;
+
+/// What a mode came to.
+#[derive(Clone, Copy, PartialEq, Eq, Debug)]
+pub enum Outcome {
+    /// All was read, and all that was asked for is written.
+    Done,
+    /// A file passed this limit.
+    Limit(Cap),
+    /// A word of the configuration breaks a rule.
+    BadConfig {
+        /// The number of the rule.
+        rule: u8,
+        /// The place of the word, from 0.
+        place: u32,
+    },
+    /// A byte of the stall text is none that it may have.
+    BadStall {
+        /// The place of the byte, from 0.
+        place: u32,
+    },
+    /// A line is no sample. The results of all samples before it are written.
+    BadSample {
+        /// The number of the line, from 1.
+        line: u64,
+    },
+    /// A file could not be read.
+    ReadFault,
+    /// Not all could be written.
+    WriteFault,
+    /// There was no memory, and nothing is written.
+    Memory,
+}
