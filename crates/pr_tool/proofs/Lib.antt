@@ -2,6 +2,8 @@ pub mod TokensLemmas
 pub mod FormsLemmas
 pub mod NotesLemmas
 pub mod WordsLemmas
+pub mod ConfigurationLemmas
+pub mod ExecutionLemmas
 pub mod SamplesLemmas
 pub mod ConfigureLemmas
 pub mod ResultsLemmas

@@ -1,5 +1,5 @@
 -- From the parts of a run to the answer.
-use Rattle.std.proofs.Common.{◌≡◌, ℕ, suc, ◌+◌, ◌<◌, ◌≤◌, ◌∷◌, [], List, length, map, replicate, get_or, Some, None, IfSome, true, false, refl, sym, ap, ◌∙◌, arith, All, length-append, cond, nat_lt, not}
+use Rattle.std.proofs.Common.{◌≡◌, ℕ, suc, ◌+◌, ◌<◌, ◌≤◌, ◌∷◌, [], List, length, map, replicate, get_or, Some, None, IfSome, inl, true, false, refl, sym, ap, ◌∙◌, arith, All, length-append, cond, nat_lt, not}
 use Rattle.std.specs.List.{position_or_len, join_with_byte}
 use Rattle.std.specs.Fmt.{decimal}
 use Rattle.std.proofs.lemmas.List.{length-replicate}
@@ -15,13 +15,14 @@ use Rattle.pr_machine.specs.Stands.{Stands, conf_of}
 use Rattle.pr_tool.specs.declared.answers.Answer.{Answer}
 use Rattle.pr_tool.specs.declared.parse.LogicProgram.{LogicProgram}
 use Rattle.pr_tool.specs.declared.samples.Samples.{Samples}
-use Rattle.pr_tool.specs.Words.{Order, Run}
+use Rattle.pr_tool.specs.Words.{Asked, IsRunOrder}
 use Rattle.pr_tool.specs.Forms.{Program, place_in, is_named, number_of, out_of}
 use Rattle.pr_tool.specs.Parsed.{IsLogicOf}
 use Rattle.pr_tool.specs.Samples.{IsSample}
 use Rattle.pr_tool.specs.Configured.{logic_shape, HasInputs}
 use Rattle.pr_tool.specs.Driven.{Base, IsReady, samples_of}
-use Rattle.pr_tool.specs.Verdict.{IsText, IsRun, IsAnswered}
+use Rattle.pr_modes.specs.Files.{IsText}
+use Rattle.pr_tool.specs.Verdict.{IsRun, IsAnswered}
 use Rattle.pr_tool.specs.Reading.{HasLogic, HasRows, logic_rows, IsRunAnswer}
 use Rattle.pr_tool.proofs.ConfigureLemmas.{bytes_in-inputs}
 use Rattle.pr_tool.proofs.ResultsLemmas.{logic_results}
@@ -88,10 +89,12 @@ same_out q program (row ∷ rows) h lawful =
     let right : number_of q.inputs row q.right ≡ get_or row program.right 0 = number_at q.inputs row q.right count ∙ ap (λ (i : ℕ). get_or row i 0) (place_is q.inputs q.right program.right h.right) in
     rw (left, right, h.operator, same_out q program rows h (All-tail (IsSample (length q.inputs)) row rows lawful)) refl
 
-answer_by : (told : Told) (asked : Order) (q : Program) (program : LogicProgram) (samples : Samples) (sb sn ob on : ℕ) (old new : Tape) → IsRun told asked q (samples_of samples) → out_of q (samples_of samples) ≡ logic_rows program (samples_of samples)
+answer_by : (told : Told) (asked : Asked) (q : Program) (program : LogicProgram) (samples : Samples) (sb sn ob on : ℕ) (old new : Tape) → IsRun told asked q (samples_of samples) → out_of q (samples_of samples) ≡ logic_rows program (samples_of samples)
     → (a : Answer) → IsRunAnswer program samples old new ob on a → IsAnswered told asked sb sn old new ob on a
-answer_by told asked q program samples sb sn ob on old new is same Answer.Ok run = (q, samples_of samples, is, rw same run)
-answer_by told asked q program samples sb sn ob on old new is same Answer.WriteFault run = (run.0, q, samples_of samples, is, rw same run.1)
+answer_by told asked q program samples sb sn ob on old new is same Answer.Ok run =
+    (written (logic_rows program (samples_of samples)), inl (record { program = q; rows = samples_of samples; run = is; is = ap written (sym same) }), run)
+answer_by told asked q program samples sb sn ob on old new is same Answer.WriteFault run =
+    (run.0, written (logic_rows program (samples_of samples)), inl (record { program = q; rows = samples_of samples; run = is; is = ap written (sym same) }), run.1)
 answer_by told asked q program samples sb sn ob on old new is same Answer.Memory run = run
 answer_by told asked q program samples sb sn ob on old new is same Answer.Usage run = absurd run
 answer_by told asked q program samples sb sn ob on old new is same (Answer.Syntax token) run = absurd run
@@ -108,7 +111,7 @@ answer_by told asked q program samples sb sn ob on old new is same Answer.ReadFa
 answer_by told asked q program samples sb sn ob on old new is same Answer.NotYet run = absurd run
 
 -- the answer of a run is the answer to the words
-pub answered : (told : Told) (asked : Order) (first second : List ℕ) (program : LogicProgram) (samples : Samples) (sb sn ob on : ℕ) (old new : Tape) (a : Answer) → asked ≡ Run first second → HasLogic told first program
+pub answered : (told : Told) (asked : Asked) (first second : List ℕ) (program : LogicProgram) (samples : Samples) (sb sn ob on : ℕ) (old new : Tape) (a : Answer) → IsRunOrder asked first second → HasLogic told first program
     → HasRows told second program.inputs samples → IsRunAnswer program samples old new ob on a → IsAnswered told asked sb sn old new ob on a
 answered told asked first second program samples sb sn ob on old new a e logic rows run =
     let inputs : program.inputs ≡ length logic.q.inputs = logic.logic.inputs in

@@ -1,7 +1,8 @@
--- The status of each answer.
+-- The status of each answer, and the answers that the outcomes of modes are.
 use Rattle.std.specs.Prelude.{ℕ}
 use Rattle.pr_tool.specs.declared.answers.Answer.{Answer}
 use Rattle.pr_tool.specs.declared.answers.Cause.{Cause}
+use Rattle.pr_modes.specs.declared.outcomes.Outcome.{Outcome}
 
 abbrev pub cause_status : Cause → ℕ
 cause_status (Cause.Syntax token) = 3
@@ -29,3 +30,13 @@ status_of Answer.ReadFault = 10
 status_of Answer.WriteFault = 11
 status_of Answer.Memory = 12
 status_of Answer.NotYet = 13
+
+abbrev pub answer_by : Outcome → Answer
+answer_by Outcome.Done = Answer.Ok
+answer_by (Outcome.Limit which) = Answer.Limit which
+answer_by (Outcome.BadConfig rule place) = Answer.BadConfig rule place
+answer_by (Outcome.BadStall place) = Answer.BadStall place
+answer_by (Outcome.BadSample line) = Answer.BadSample line
+answer_by Outcome.ReadFault = Answer.ReadFault
+answer_by Outcome.WriteFault = Answer.WriteFault
+answer_by Outcome.Memory = Answer.Memory

@@ -10,3 +10,4 @@ pub mod Configured
 pub mod Driven
 pub mod Verdict
 pub mod Reading
+pub mod Executed

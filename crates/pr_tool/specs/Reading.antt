@@ -11,7 +11,7 @@ use Rattle.pr_tool.specs.Forms.{Program, IsProgram, applied}
 use Rattle.pr_tool.specs.Parsed.{IsLogicOf}
 use Rattle.pr_tool.specs.Samples.{AreSamples}
 use Rattle.pr_tool.specs.Driven.{samples_of}
-use Rattle.pr_tool.specs.Verdict.{IsText}
+use Rattle.pr_modes.specs.Files.{IsText}
 
 -- why a file was not read
 abbrev pub IsFileRefusal : Told → List ℕ → ℕ → ℕ → ℕ → Answer → Type 0

@@ -1,8 +1,9 @@
 //! What the tool answers.
 ghost use Rattle.std.specs.Prelude.{◌≡◌};
-ghost use Rattle.pr_tool.specs.Answers.{status_of, cause_status};
+ghost use Rattle.pr_tool.specs.Answers.{status_of, cause_status, answer_by};
 
 use pr_base::Cap;
+use pr_modes::Outcome;
 
 /// Why a program or its samples were refused. Tokens, items, equations and units are counted from 0, lines from 1.
 #[derive(Clone, Copy, PartialEq, Eq, Debug)]
@@ -95,5 +96,21 @@ impl Answer {
             Answer::BadList { .. } => 14,
             Answer::Part { cause, .. } => cause.status(),
         }
+    }
+}
+
+/// The answer that the outcome of a mode is.
+pub fn answer_of(outcome: Outcome) -> Answer
+    ensures { result ≡ answer_by outcome }
+{
+    match outcome {
+        Outcome::Done => Answer::Ok,
+        Outcome::Limit(which) => Answer::Limit { which },
+        Outcome::BadConfig { rule, place } => Answer::BadConfig { rule, place },
+        Outcome::BadStall { place } => Answer::BadStall { place },
+        Outcome::BadSample { line } => Answer::BadSample { line },
+        Outcome::ReadFault => Answer::ReadFault,
+        Outcome::WriteFault => Answer::WriteFault,
+        Outcome::Memory => Answer::Memory,
     }
 }

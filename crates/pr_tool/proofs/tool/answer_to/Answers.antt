@@ -1,16 +1,22 @@
-use Rattle.std.proofs.Common.{length, ap, arith}
-use Rattle.pr_tool.specs.Driven.{samples_of}
-use Rattle.pr_tool.proofs.DriveLemmas.{length-pieces}
-use Rattle.pr_tool.proofs.ToolLemmas.{rows_fit, answered}
 use Rattle.pr_tool.proofs.tool.answer_to.Goals as goal
 
-pub run-requires-clause-few : goal.run-requires-clause-few
-run-requires-clause-few g c =
-    let samples = c.in-Ok-read_samples.samples in
-    let rows = c.in-Ok-read_samples.ensures.samples.rows in
-    omega (arith, rows.short, ap length rows.lines, rows_fit (samples_of samples), length-pieces samples.count samples.inputs samples.bytes.items)
+pub returns-in-Ok-clause-called : goal.returns-in-Ok-clause-called
+returns-in-Ok-clause-called g c = rw c.in-Ok.ensures.order c.answer_to_order.ensures.called
 
-pub returns-clause-answered : goal.returns-clause-answered
-returns-clause-answered g c =
-    answered (g.S.Shelf.told c.args.shelf.now) _ c.in-Ok.files.program.now c.in-Ok.files.samples.now c.in-Ok-read_program.program c.in-Ok-read_samples.samples _ _ _ _ _ _ c.run.result c.in-Ok.ensures.run c.in-Ok-read_program.ensures.program
-    (rw c.read_program.ensures.same at c.in-Ok-read_samples.ensures.samples) c.run.ensures.answer
+pub returns-in-Ok-clause-no_later_file : goal.returns-in-Ok-clause-no_later_file
+returns-in-Ok-clause-no_later_file g c = rw c.in-Ok.ensures.order c.answer_to_order.ensures.no_later_file
+
+pub returns-in-Ok-clause-no_other_file : goal.returns-in-Ok-clause-no_other_file
+returns-in-Ok-clause-no_other_file g c = rw c.in-Ok.ensures.order c.answer_to_order.ensures.no_other_file
+
+pub returns-in-Ok-clause-verdict : goal.returns-in-Ok-clause-verdict
+returns-in-Ok-clause-verdict g c = rw c.in-Ok.ensures.order c.answer_to_order.ensures.verdict
+
+pub returns-in-Ok-clause-executed : goal.returns-in-Ok-clause-executed
+returns-in-Ok-clause-executed g c = rw c.in-Ok.ensures.order c.answer_to_order.ensures.executed
+
+pub returns-in-Ok-clause-exec_verdict : goal.returns-in-Ok-clause-exec_verdict
+returns-in-Ok-clause-exec_verdict g c = rw c.in-Ok.ensures.order c.answer_to_order.ensures.exec_verdict
+
+pub returns-in-Ok-clause-exec_files : goal.returns-in-Ok-clause-exec_files
+returns-in-Ok-clause-exec_files g c = rw c.in-Ok.ensures.order c.answer_to_order.ensures.exec_files
