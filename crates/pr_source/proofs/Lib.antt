@@ -1,0 +1,10 @@
+pub mod Lists
+pub mod Positive
+pub mod Placed
+pub mod Visible
+pub mod Meanings
+pub mod Calls
+pub mod Changes
+pub mod Runs
+pub mod Defined
+pub mod ItemSteps
