@@ -30,27 +30,13 @@ pub enum FixedOp {
 }
 
 /// A constant expression.
-#[derive(Debug)]
+#[derive(Debug, Drop)]
 pub enum Fixed {
     Number(u64),
     /// A constant or an index, or with an index an entry of a table.
     Refer(Name, Option<Box<Fixed>>),
     Binary(FixedOp, Box<Fixed>, Box<Fixed>),
     Paren(Box<Fixed>),
-}
-
-/// A loop down the first operands, as with expressions over streams.
-impl Drop for Fixed {
-    fn drop(mut self) {
-        loop {
-            match self {
-                Fixed::Binary(_, left, _) => self = Box::into_inner(left),
-                Fixed::Paren(inner) => self = Box::into_inner(inner),
-                Fixed::Number(_) => return,
-                Fixed::Refer(_, _) => return,
-            }
-        }
-    }
 }
 
 /// A name, or one of several that an index tells apart.
@@ -61,7 +47,7 @@ pub struct Ref {
 }
 
 /// An expression over streams.
-#[derive(Debug)]
+#[derive(Debug, Drop)]
 pub enum Expr {
     Number(u64),
     Refer(Ref),
@@ -77,26 +63,6 @@ pub enum Expr {
     /// The parts beside one another, the first one highest.
     Cat(Vec<Expr>),
     Paren(Box<Expr>),
-}
-
-/// A loop down the first operands, because a chain of operators is as deep as it is long.
-impl Drop for Expr {
-    fn drop(mut self) {
-        loop {
-            match self {
-                Expr::Slice(inner, _, _) => self = Box::into_inner(inner),
-                Expr::Not(inner) => self = Box::into_inner(inner),
-                Expr::Binary(_, left, _) => self = Box::into_inner(left),
-                Expr::Choose(condition, _, _) => self = Box::into_inner(condition),
-                Expr::Paren(inner) => self = Box::into_inner(inner),
-                Expr::Number(_) => return,
-                Expr::Refer(_) => return,
-                Expr::Delay(_, _) => return,
-                Expr::Call(_, _) => return,
-                Expr::Cat(_) => return,
-            }
-        }
-    }
 }
 
 /// What stands in a function's body and in a loop, and among the items.

@@ -1,8 +1,0 @@
-pub mod Columns
-pub mod Operands
-pub mod Environments
-pub mod Scopes
-pub mod Readings
-pub mod Indices
-pub mod Least
-pub mod Worlds
