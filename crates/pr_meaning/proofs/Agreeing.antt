@@ -11,8 +11,9 @@ use Rattle.pr_flat.specs.declared.equations.Op.{Op}
 use Rattle.pr_flat.specs.declared.forms.Form.{Form}
 use Rattle.pr_flat.specs.Forms.{Stream, value, residue}
 use Rattle.pr_flat.specs.Rows.{takes, natural_form, natural_number}
+use Rattle.pr_flat.specs.Facts.{is_width}
 use Rattle.pr_meaning.specs.Streams.{Bound, Streams, Sources, sources, delayed, constant_stream, fitted, within_greatest, part, all_parts, assigned, form_of, point_at, operated, operate_on, operate}
-use Rattle.pr_meaning.proofs.Pairs.{Both, both-and_then, both-map, both-cond, each-map}
+use Rattle.pr_meaning.proofs.Pairs.{Both, both-and_then, both-map, both-cond, both-choice, each-map}
 
 -- The same form, and the same numbers: P i j says that place i of the first is looked at beside place j of the second. So one
 -- relation serves the first places of both (`First`), and a whole list beside its number at one place.
@@ -65,13 +66,15 @@ residue-zero w = mod-eq_of_lt (pow_pos w)
 residue-value-zero : (w : ℕ) (f : Form) → residue w (value f 0) ≡ 0
 residue-value-zero w f = ap (residue w) (value-zero f) ∙ residue-zero w
 
+-- a number that is fitted is reduced
+pub fitted-number : (w : ℕ) (s : Stream) (n : ℕ) → get_or (fitted w s).numbers n 0 ≡ residue w (value s.form (get_or s.numbers n 0))
+fitted-number w s n = subst (λ d. get_or (fitted w s).numbers n d ≡ residue w (value s.form (get_or s.numbers n 0))) (residue-value-zero w s.form) (get_or-map (λ x. residue w (value s.form x)) s.numbers n 0)
+
 pub agree-fitted : (P : ℕ → ℕ → Type 0) (w : ℕ) (s t : Stream) → Agree P s t → Agree P (fitted w s) (fitted w t)
 agree-fitted P w s t are = record {
   forms = ap (λ (f : Form). record { signed = f.signed; width = w }) are.forms;
-  numbers = λ i j is. number s i ∙ ap₂ (λ (f : Form) (x : ℕ). residue w (value f x)) are.forms (are.numbers i j is) ∙ sym (number t j);
-} where
-  number : (u : Stream) (n : ℕ) → get_or (fitted w u).numbers n 0 ≡ residue w (value u.form (get_or u.numbers n 0))
-  number u n = subst (λ d. get_or (fitted w u).numbers n d ≡ residue w (value u.form (get_or u.numbers n 0))) (residue-value-zero w u.form) (get_or-map (λ x. residue w (value u.form x)) u.numbers n 0)
+  numbers = λ i j is. fitted-number w s i ∙ ap₂ (λ (f : Form) (x : ℕ). residue w (value f x)) are.forms (are.numbers i j is) ∙ sym (fitted-number w t j);
+}
 
 -- ---- operators
 pub both-part : (P : ℕ → ℕ → Type 0) (a b : Option Stream) → Both (Agree P) a b → Both (Agree P) (part a) (part b)
@@ -85,7 +88,7 @@ both-all_parts P (x ∷ xs) (y ∷ ys) are = both-and_then (Agree P) (AllZip (Ag
 
 pub both-assigned : (P : ℕ → ℕ → Type 0) (width : Option ℕ) (a b : Option Stream) → Both (Agree P) a b → Both (Agree P) (assigned width a) (assigned width b)
 both-assigned P None a b are = both-part P a b are
-both-assigned P (Some w) a b are = both-map (Agree P) (Agree P) (fitted w) (fitted w) a b are (agree-fitted P w)
+both-assigned P (Some w) a b are = both-choice (Agree P) (option_map (fitted w) a) None (option_map (fitted w) b) None (is_width w) (both-map (Agree P) (Agree P) (fitted w) (fitted w) a b are (agree-fitted P w)) tt
 
 pub same-forms : (P : ℕ → ℕ → Type 0) (ss ts : List Stream) → AllZip (Agree P) ss ts → map form_of ss ≡ map form_of ts
 same-forms P = each-map (Agree P) form_of form_of (λ s t is. is.forms)

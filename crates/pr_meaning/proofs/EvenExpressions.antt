@@ -53,7 +53,7 @@ even-beside P m k left right a b (s ∷ ss) [] above are = absurd are
 even-beside P m k left right a b (s ∷ ss) (t ∷ ts) above are = even-beside P m k left right (operate m op.Cat (a ∷ Some s ∷ [])) (operate k op.Cat (b ∷ Some t ∷ [])) ss ts (both-operate P m k op.Cat (a ∷ Some s ∷ []) (b ∷ Some t ∷ []) left right (above, (are.0, tt))) are.1
 
 even-concatenated : (P : ℕ → ℕ → Type 0) (m k : ℕ) → FirstBelow P m → SecondBelow P k → (ss ts : List Stream) → AllZip (Agree P) ss ts → Both (Agree P) (concatenated m ss) (concatenated k ts)
-even-concatenated P m k left right [] [] are = tt
+even-concatenated P m k left right [] [] are = agree-constant P m k 0 left right
 even-concatenated P m k left right [] (t ∷ ts) are = absurd are
 even-concatenated P m k left right (s ∷ ss) [] are = absurd are
 even-concatenated P m k left right (s ∷ ss) (t ∷ ts) are = even-beside P m k left right (Some (unsigned s)) (Some (unsigned t)) ss ts (agree-unsigned P s t are.0) are.1

@@ -15,11 +15,12 @@ use Rattle.pr_lang.specs.declared.trees.Program.{Program}
 use Rattle.pr_names.specs.declared.names.Static.TheVariants as static
 use Rattle.pr_names.specs.Constants.{constant_of}
 use Rattle.pr_flat.specs.Forms.{Stream}
+use Rattle.pr_flat.specs.Facts.{is_width}
 use Rattle.pr_meaning.specs.Streams.{Streams, no_streams, sources, with_stream, assigned, form_of}
 use Rattle.pr_meaning.specs.Expressions.{Visible, meaning}
 use Rattle.pr_meaning.specs.Statements.{change_of, changes_of}
-use Rattle.pr_meaning.specs.Programs.{passed, with_arguments, function_of, signed_function, at_first, World, start, column, input_stream, with_output, with_static, entries_of, item_change, items_change, streams_of, rows_of, out, has_widths}
-use Rattle.pr_meaning.proofs.Pairs.{Both, both-and_then, both-map, same-map, both-is_some, some-choice, each-map}
+use Rattle.pr_meaning.specs.Programs.{passed, with_arguments, function_of, signed_function, at_first, World, start, column, input_stream, with_input, with_output, with_static, entries_of, item_change, items_change, streams_of, rows_of, out, has_widths}
+use Rattle.pr_meaning.proofs.Pairs.{Both, both-and_then, both-map, same-map, both-is_some, both-cond, some-choice, each-map}
 use Rattle.pr_meaning.proofs.Agreeing.{Agree, FirstBelow, SecondBelow, agree-first, at-first, First, AgreeStreams, agree-fitted, both-assigned, same-forms}
 use Rattle.pr_meaning.proofs.EvenExpressions.{IsEvenFunction, AreEven, agree-signed}
 use Rattle.pr_meaning.proofs.EvenStatements.{agree-with_stream, both-value, even-change, even-changes}
@@ -86,13 +87,14 @@ abbrev world_of : Visible → Streams → ℕ → List Stream → World
 world_of v a n os = record { visible = v; streams = a; inputs = n; outputs = os }
 
 even-item : (p : ℕ) (xs ys : List (List ℕ)) → AgreeSamples p xs ys → (at : ℕ) (i : Item) (v : Visible) → AreEven (First p) v → (n : ℕ) (a b : Streams) → AgreeStreams (First p) a b → (os ps : List Stream) → AllZip (Agree (First p)) os ps → Both (AgreeWorlds p) (item_change xs at i (world_of v a n os)) (item_change ys at i (world_of v b n ps))
-even-item p xs ys same at (item.Input name width) v even n a b are os ps each = record {
-  visible = refl;
-  even = even;
-  streams = agree-with_stream (First p) name None (input_stream width n xs) (input_stream width n ys) a b (agree-first p (input_stream width n xs) (input_stream width n ys) refl (same.columns n)) are;
-  inputs = refl;
-  outputs = each;
-}
+even-item p xs ys same at (item.Input name width) v even n a b are os ps each =
+    both-cond (AgreeWorlds p) (with_input name (input_stream width n xs) (world_of v a n os)) (with_input name (input_stream width n ys) (world_of v b n ps)) (is_width width) (is_width width) refl (record {
+      visible = refl;
+      even = even;
+      streams = agree-with_stream (First p) name None (input_stream width n xs) (input_stream width n ys) a b (agree-first p (input_stream width n xs) (input_stream width n ys) refl (same.columns n)) are;
+      inputs = refl;
+      outputs = each;
+    })
 even-item p xs ys same at (item.Output name width e) v even n a b are os ps each =
     let s = meaning e v (length xs) (sources (length xs) a) in
     let t = meaning e v (length ys) (sources (length ys) b) in

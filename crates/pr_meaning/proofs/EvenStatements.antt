@@ -14,6 +14,7 @@ use Rattle.pr_names.specs.Names.{same_place}
 use Rattle.pr_names.specs.Constants.{constant_of, place_of}
 use Rattle.pr_flat.specs.declared.forms.Form.{Form}
 use Rattle.pr_flat.specs.Forms.{Stream, value, residue, least_from}
+use Rattle.pr_flat.specs.Facts.{is_width}
 use Rattle.pr_meaning.specs.Streams.{Bound, Streams, sources, with_bound, with_stream, assigned}
 use Rattle.pr_meaning.specs.Expressions.{Visible, meaning}
 use Rattle.pr_meaning.specs.Statements.{Change, Body, so_far, body_of, number_at, recurring, holds, width_of, recurrence, let_change, with_recurrence, rec_change, in_turn, with_known, turns, stmt_step, change_of, changes_of}
@@ -49,7 +50,7 @@ alike-everywhere (suc j) zero x = refl
 alike-everywhere (suc j) (suc n) x = alike-everywhere j n x
 
 -- zeros behind a list are what is read there without them
-zeros-behind : (xs : List ℕ) (j n : ℕ) → get_or (xs ++ replicate j 0) n 0 ≡ get_or xs n 0
+pub zeros-behind : (xs : List ℕ) (j n : ℕ) → get_or (xs ++ replicate j 0) n 0 ≡ get_or xs n 0
 zeros-behind [] j n = alike-everywhere j n 0
 zeros-behind (x ∷ xs) j zero = refl
 zeros-behind (x ∷ xs) j (suc n) = zeros-behind xs j n
@@ -76,12 +77,12 @@ same-recurring p w f g even (suc n) low =
     let before = same-recurring p w f g even n (omega arith) in
     ap₂ (λ (xs : List ℕ) (x : ℕ). xs ++ x ∷ []) before (ap (λ xs. number_at w n (f w xs)) before ∙ same-number_at p w n (omega arith) (f w (recurring g w n)) (g w (recurring g w n)) (even w (recurring g w n)))
 
-length-recurring : (f : Body) (w n : ℕ) → length (recurring f w n) ≡ n
+pub length-recurring : (f : Body) (w n : ℕ) → length (recurring f w n) ≡ n
 length-recurring f w zero = refl
 length-recurring f w (suc n) = length-append (recurring f w n) (number_at w n (f w (recurring f w n)) ∷ []) ∙ omega (arith, length-recurring f w n)
 
 -- more samples leave the first numbers
-get_or-recurring : (f : Body) (w p : ℕ) (m : ℕ) → p ≤ m → (n : ℕ) → n < p → get_or (recurring f w m) n 0 ≡ get_or (recurring f w p) n 0
+pub get_or-recurring : (f : Body) (w p : ℕ) (m : ℕ) → p ≤ m → (n : ℕ) → n < p → get_or (recurring f w m) n 0 ≡ get_or (recurring f w p) n 0
 get_or-recurring f w p zero within n low = absurd (omega arith)
 get_or-recurring f w p (suc m) within n low = elim (cases_lt m p) [
   | inl last ↦ let same : suc m ≡ p = omega arith in ap (λ q. get_or (recurring f w q) n 0) same
@@ -107,7 +108,7 @@ same-least_from f g same zero at = refl
 same-least_from f g same (suc count) at = ap₂ (λ c o. cond c (Some at) o) (same at) (same-least_from f g same count (at + 1))
 
 same-width_of : (p : ℕ) (width : Option ℕ) (init : ℕ) (f g : Body) → IsEvenBody p f g → width_of width init f ≡ width_of width init g
-same-width_of p (Some w) init f g even = ap (λ c. cond c (Some w) None) (both-is_some (Agree (First p)) (f w []) (g w []) (even w []))
+same-width_of p (Some w) init f g even = ap (λ c. cond (is_width w && nat_lt init (2 ^ w)) (cond c (Some w) None) None) (both-is_some (Agree (First p)) (f w []) (g w []) (even w []))
 same-width_of p None init f g even = same-least_from (holds init f) (holds init g) (same-holds p init f g even) 128 1
 
 even-with_recurrence : (p : ℕ) (target : Ref) (place width : Option ℕ) (e : Expr) (init : ℕ) → IsEvenChange p (with_recurrence target place width e init)

@@ -1,5 +1,5 @@
 -- What an expression means: a stream, by its parts' streams.
-use Rattle.std.specs.Prelude.{ℕ, true, false, List, [], ◌∷◌, map, Option, Some, None, option_map, Result}
+use Rattle.std.specs.Prelude.{ℕ, cond, nat_le, true, false, List, [], ◌∷◌, map, Option, Some, None, option_map, Result}
 use Rattle.std.specs.Option.{option_and_then}
 use Rattle.std.specs.Result.{result_ok}
 use Rattle.pr_lang.specs.declared.trees.BinOp.{BinOp}
@@ -55,10 +55,10 @@ operator binary.GreaterEqual = op.GreaterEqual
 operator binary.Left = op.LeftBy
 operator binary.Right = op.RightBy
 
--- the shift by a constant, where the operator is a shift
+-- the shift by a constant up to 128, where the operator is a shift
 abbrev pub shift_by : BinOp → ℕ → Option Op
-shift_by binary.Left k = Some (op.Left k)
-shift_by binary.Right k = Some (op.Right k)
+shift_by binary.Left k = cond (nat_le k 128) (Some (op.Left k)) None
+shift_by binary.Right k = cond (nat_le k 128) (Some (op.Right k)) None
 shift_by o k = None
 
 abbrev pub constant_shift : BinOp → Option (Result ℕ Offence) → Option Op
@@ -81,9 +81,9 @@ abbrev pub beside : ℕ → Option Stream → List Stream → Option Stream
 beside m above [] = above
 beside m above (s ∷ ss) = beside m (operate m op.Cat (above ∷ Some s ∷ [])) ss
 
--- the first part highest
+-- the first part highest; beside no part stands 0
 abbrev pub concatenated : ℕ → List Stream → Option Stream
-concatenated m [] = None
+concatenated m [] = Some (constant_stream m 0)
 concatenated m (s ∷ ss) = beside m (Some (unsigned s)) ss
 
 abbrev pub senses : List Sense → Visible → ℕ → Sources → List (Option Stream)

@@ -1,5 +1,5 @@
 -- What a program means: the numbers of its outputs for whole lists of samples.
-use Rattle.std.specs.Prelude.{ℕ, ◌+◌, Bool, false, List, [], ◌∷◌, ◌++◌, map, length, get_or, Option, Some, None, option_map, is_some, codes}
+use Rattle.std.specs.Prelude.{ℕ, ◌+◌, Bool, false, cond, List, [], ◌∷◌, ◌++◌, map, length, get_or, Option, Some, None, option_map, is_some, codes}
 use Rattle.std.specs.Option.{option_and_then, unwrap_or}
 use Rattle.std.specs.Result.{result_ok}
 use Rattle.std.specs.List.{range_with_len}
@@ -15,6 +15,7 @@ use Rattle.pr_names.specs.declared.names.Static.TheVariants as static
 use Rattle.pr_names.specs.Names.{Known, bind, built_in}
 use Rattle.pr_names.specs.Constants.{constant_of}
 use Rattle.pr_flat.specs.Forms.{Stream}
+use Rattle.pr_flat.specs.Facts.{is_width}
 use Rattle.pr_meaning.specs.Streams.{Streams, no_streams, sources, with_stream, fitted, assigned}
 use Rattle.pr_meaning.specs.Expressions.{Function, Visible, signed, meaning}
 use Rattle.pr_meaning.specs.Statements.{change_of, changes_of}
@@ -82,7 +83,7 @@ entries_of (v ∷ vs) known = option_and_then (λ n. option_map (λ ns. n ∷ ns
 
 -- the item of this number, over these samples
 abbrev pub item_change : List (List ℕ) → ℕ → Item → World → Option World
-item_change xs at (item.Input name width) w = Some (with_input name (input_stream width w.inputs xs) w)
+item_change xs at (item.Input name width) w = cond (is_width width) (Some (with_input name (input_stream width w.inputs xs) w)) None
 item_change xs at (item.Output name width e) w = option_map (with_output name w) (assigned width (meaning e w.visible (length xs) (sources (length xs) w.streams)))
 item_change xs at (item.Const name value) w = option_map (λ n. with_static name w (static.Constant n)) (result_ok (constant_of value w.visible.known))
 item_change xs at (item.Table name values) w = option_map (λ ns. with_static name w (static.Table ns)) (entries_of values.items w.visible.known)

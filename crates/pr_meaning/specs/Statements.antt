@@ -12,6 +12,7 @@ use Rattle.pr_names.specs.declared.names.Static.TheVariants.{Index}
 use Rattle.pr_names.specs.Names.{bind}
 use Rattle.pr_names.specs.Constants.{constant_of, place_of}
 use Rattle.pr_flat.specs.Forms.{Stream, value, residue, least_from}
+use Rattle.pr_flat.specs.Facts.{is_width}
 use Rattle.pr_meaning.specs.Streams.{Bound, Streams, sources, with_bound, with_stream, assigned}
 use Rattle.pr_meaning.specs.Expressions.{Visible, meaning}
 
@@ -44,9 +45,9 @@ recurring body w (suc n) = recurring body w n ++ number_at w n (body w (recurrin
 abbrev pub holds : ℕ → Body → ℕ → Bool
 holds init body w = nat_lt init (2 ^ w) && option_map_or (λ (s : Stream). nat_le s.form.width w) (body w []) false
 
--- the declared width, if the body has one, or else the least that holds all
+-- the declared width, if it holds the initial value and the body has a width, or else the least that holds all
 abbrev pub width_of : Option ℕ → ℕ → Body → Option ℕ
-width_of (Some w) init body = cond (is_some (body w [])) (Some w) None
+width_of (Some w) init body = cond (is_width w && nat_lt init (2 ^ w)) (cond (is_some (body w [])) (Some w) None) None
 width_of None init body = least_from 128 1 (holds init body)
 
 abbrev pub recurrence : ℕ → ℕ → Body → ℕ → Bound

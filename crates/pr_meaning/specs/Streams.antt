@@ -6,6 +6,7 @@ use Rattle.pr_flat.specs.declared.forms.Form.{Form}
 use Rattle.pr_flat.specs.declared.forms.Point.{Point}
 use Rattle.pr_flat.specs.Forms.{Stream, value, residue, number_width, numbers_by}
 use Rattle.pr_flat.specs.Rows.{takes, natural_form, natural_number}
+use Rattle.pr_flat.specs.Facts.{is_width}
 use Rattle.pr_names.specs.Names.{same_place}
 
 -- a stream, and the number that stands before its first one
@@ -59,10 +60,10 @@ abbrev pub all_parts : List (Option Stream) → Option (List Stream)
 all_parts [] = Some []
 all_parts (o ∷ os) = option_and_then (λ s. option_map (λ ss. s ∷ ss) (all_parts os)) (part o)
 
--- what is assigned: the declared width counts where there is one
+-- what is assigned: the declared width counts where there is one; no stream has a width outside 1 to 128
 abbrev pub assigned : Option ℕ → Option Stream → Option Stream
 assigned None s = part s
-assigned (Some w) s = option_map (fitted w) s
+assigned (Some w) s = cond (is_width w) (option_map (fitted w) s) None
 
 abbrev pub form_of : Stream → Form
 form_of s = s.form

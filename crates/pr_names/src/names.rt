@@ -1,5 +1,6 @@
 //! The names that are known without any sample: constants, tables, indices and functions.
-ghost use Rattle.std.specs.Prelude.{◌≡◌, IfOk, None, OnOk, Some, option_map, slice_get};
+ghost use Rattle.std.specs.Prelude.{◌≡◌, IfOk, None, OnOk, Some, bytes_eq, option_map, slice_get};
+ghost use Rattle.std.specs.Map.{update};
 ghost use Rattle.pr_names.specs.Names.{IsOutside, before, bind, built_in, entries_in, horizon_in, horizon_of, indices_in, indices_of, is_seen, known_in, unbind, what_before, whole};
 
 use pr_lang::Name;
@@ -201,9 +202,32 @@ impl Statics {
         let _was = self.indices.remove(name.as_bytes());
     }
 
+    /// The name stands for this index from now on, or for none; the result is what it stood for before.
+    pub fn swap_index(
+        &mut self,
+        alloc: Global,
+        name: &Name,
+        index: Option<Static>,
+    ) -> Result<Option<Static>, AllocError>
+        ensures was { IfOk result (λ was. was ≡ indices_in self.old name.now) }
+        ensures indices { OnOk result (indices_in self.new ≡ (λ q. update bytes_eq (indices_in self.old) name.now index q)) }
+        ensures entries { entries_in self.new ≡ entries_in self.old }
+        ensures horizon { horizon_in self.new ≡ horizon_in self.old }
+    {
+        match index {
+            None => Ok(self.indices.remove(name.as_bytes())),
+            Some(index) => {
+                let name = Vec::from_slice(alloc, name.as_bytes())?;
+                let was = self.indices.insert(name, index)?;
+                Ok(was)
+            }
+        }
+    }
+
     /// Into the body of the function that the item of this number defines: what it sees is what was visible there.
     pub fn enter(&mut self, alloc: Global, item: u32) -> Frame
         ensures known { known_in self.new ≡ before item (entries_in self.old) }
+        ensures inside { horizon_in self.new ≡ Some item }
         ensures entries { entries_in self.new ≡ entries_in self.old }
         ensures indices { indices_of result ≡ indices_in self.old }
         ensures horizon { horizon_of result ≡ horizon_in self.old }

@@ -1,13 +1,9 @@
-//! The walk over a program.
-ghost use Rattle.std.specs.Prelude.{◌≡◌, IfErr, IfOk};
-ghost use Rattle.pr_scope.specs.Walk.{IsFault, IsRefusal, IsScoped, Walked, ended, items_walk, offence, world_of};
+//! What the walk over a program answers.
+ghost use Rattle.std.specs.Prelude.{◌≤◌, vec_len};
 
-use crate::items::walk_item;
-use crate::progress::Made;
 use pr_base::Cap;
-use pr_lang::{Item, Program};
-use pr_names::{Count, Offence, Rule, Statics, Stop, Streams};
-use std::alloc::{AllocError, Global};
+use pr_lang::Program;
+use std::alloc::AllocError;
 use thiserror::Error;
 
 /// A program that keeps the rules.
@@ -18,6 +14,7 @@ pub struct Scoped {
     pub inputs: Vec<u8>,
     /// The turns of the walk, at most 65,536.
     pub turns: u32,
+    pub ghost few: { vec_len program.items ≤ turns },
 }
 
 /// Why a program is refused.
@@ -31,82 +28,4 @@ pub enum ScopeFault {
     Limit(Cap),
     #[error("out of memory")]
     Memory(AllocError),
-}
-
-fn fault(stop: Stop, item: u32) -> ScopeFault
-    ensures { IsFault stop item result }
-{
-    match stop {
-        Stop::Offends(offence) => match offence {
-            Offence::Turns => ScopeFault::Limit(Cap::Turns),
-            Offence::Breaks(rule) => ScopeFault::Scope {
-                rule: rule.number(),
-                item,
-            },
-        },
-        Stop::Memory(error) => ScopeFault::Memory(error),
-    }
-}
-
-fn end(made: &Made, item: u32) -> Result<(), ScopeFault>
-    ensures { Walked result (λ _. world_of made.now) (ended item (world_of made.now)) }
-{
-    if made.inputs.is_empty() || !made.has_output {
-        return Err(ScopeFault::Scope {
-            rule: Rule::Ends.number(),
-            item,
-        });
-    }
-    Ok(())
-}
-
-fn walk_items(alloc: Global, made: &mut Made, items: &[Item]) -> Result<(), ScopeFault>
-    ensures { Walked result (λ _. world_of made.new) (items_walk 0 items.now (world_of made.old)) }
-{
-    let mut number = 0;
-    for item in items {
-        match walk_item(alloc, made, number, item) {
-            Err(stop) => return Err(fault(stop, number)),
-            Ok(()) => number += 1,
-        }
-    }
-    end(made, number)
-}
-
-/// The program, where it keeps the rules of scope; else the first point of the walk that breaks one, or that passes the
-/// number of turns. A refusal gives the program up.
-pub fn check(alloc: Global, program: Program) -> Result<Scoped, ScopeFault>
-    ensures ok { IfOk result (IsScoped program) }
-    ensures err { IfErr result (λ e. IsRefusal e (offence program)) }
-{
-    let statics = match Statics::new(alloc) {
-        Err(error) => return Err(ScopeFault::Memory(error)),
-        Ok(statics) => statics,
-    };
-    let mut made = Made {
-        statics,
-        streams: Streams::new(alloc),
-        count: Count {
-            turns: 0,
-            deepest: 0,
-        },
-        inputs: Vec::new(alloc),
-        has_output: false,
-    };
-    match walk_items(alloc, &mut made, &program.items) {
-        Err(fault) => Err(fault),
-        Ok(()) => Ok(hand_over(program, made)),
-    }
-}
-
-fn hand_over(program: Program, made: Made) -> Scoped
-    ensures program { result.program ≡ program }
-    ensures inputs { result.inputs.items ≡ made.inputs.items }
-    ensures turns { result.turns ≡ made.count.turns }
-{
-    Scoped {
-        program,
-        inputs: made.inputs,
-        turns: made.count.turns,
-    }
 }

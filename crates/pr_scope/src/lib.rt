@@ -6,13 +6,15 @@
 mod checking;
 mod expressions;
 mod items;
+mod programs;
 mod progress;
 mod statements;
 
-pub use checking::{ScopeFault, Scoped, check};
+pub use checking::{ScopeFault, Scoped};
 pub use pr_names::{
     Callee, Offence, Rule, Static, Statics, Table, amount, constant, place, read_name, read_static,
 };
+pub use programs::check;
 
 #[cfg(test)]
 mod tests {
