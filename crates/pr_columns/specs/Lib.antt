@@ -1,0 +1,4 @@
+pub mod Columns
+pub mod Operands
+pub mod Environments
+pub mod Readings

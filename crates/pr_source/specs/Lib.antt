@@ -1,0 +1,4 @@
+pub mod Scopes
+pub mod Indices
+pub mod Least
+pub mod Worlds
