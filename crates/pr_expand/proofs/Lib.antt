@@ -1,0 +1,12 @@
+pub mod KeyLemmas
+pub mod Placed
+pub mod Sharing
+pub mod Arguments
+pub mod Layers
+pub mod Scenes
+pub mod Callables
+pub mod Weights
+pub mod Recurrences
+pub mod Between
+pub mod Fitting
+pub mod Limits

@@ -1,0 +1,564 @@
+use Rattle.std.proofs.Common.{◌≡◌, ◌∙◌, ◌<◌, ℕ, IfErr, IfOk, List, take, [], ◌∷◌, option_map, Some, None, length, arith, refl, sym, ap, subst}
+use Rattle.pr_names.specs.declared.names.Static.TheVariants.{Index}
+use Rattle.pr_names.specs.Names.{Known, known_in}
+use Rattle.pr_flat.specs.declared.equations.Op.TheVariants as op
+use Rattle.pr_flat.specs.Shape.{EquationShape, shapes_of}
+use Rattle.pr_names.proofs.Seen.{names_on}
+use Rattle.pr_meaning.specs.Expressions.{constant_shift, operator}
+use Rattle.pr_equations.specs.declared.givens.Standing.TheVariants.{Own}
+use Rattle.pr_equations.specs.Making.{Made, with_equation}
+use Rattle.pr_equations.specs.Expressions.{Visible, assigned, declared_at_operator, place, plan_of}
+use Rattle.pr_equations.specs.Statements.{Progress, changes_of, number_after, with_index, with_standing}
+use Rattle.pr_lawful.proofs.Appending.{appends-length, appends-with, assigned-appends, body-appends}
+use Rattle.pr_expand.specs.Code.{IsPast, all_of, longer, made_of, progress_of, shapes_in, streams_in}
+use Rattle.pr_expand.specs.Scopes.{functions_before, visible_in}
+use Rattle.pr_expand.proofs.Callables.{called_is, callee_known, entered}
+use Rattle.pr_expand.proofs.Layers.{call_is, cat_is, for_is, parts_step, shift_is, stmts_step, three_is, turns_step, two_is}
+use Rattle.pr_expand.proofs.Limits.{args_within, assigned_within, begun_within, chosen_within, condition_within, first_within, longer_progress, operator_within, other_within, part_within, parts_within, passed_on, same_long, second_within, stmt_within, turn_within}
+use Rattle.pr_expand.proofs.Recurrences.{body_as, body_within, counted_as, counted_number, counted_within, cut_shapes, longer_counted, rec_as, rec_last, shapes_cut, stands_as, stands_within, twice}
+use Rattle.pr_expand.proofs.Scenes.{index_back, known_swapped, scene_appends, scene_index, scene_kept, visible_kept}
+use Rattle.pr_expand.proofs.Weights.{args_lighter, body_lighter, call_heavy, chosen_lighter, condition_lighter, first_lighter, let_lighter, not_lighter, one_of, other_lighter, paren_lighter, parts_lighter, rec_lighter, second_lighter, slice_lighter, stmt_of, weight_entered, weight_in, weight_kept, weight_up_to}
+use Rattle.pr_expand.proofs.expressions.+make.Goals as goal
+
+pub make-make-requires-in-None : goal.make-make-requires-in-None
+make-make-requires-in-None t c = (let h = second_lighter c.args.expr.now c.deref-in-None.result.now c.in-Binary.op c.in-Binary.first c.in-Binary.second c.in-Binary.is c.deref-in-None.ensures in let k = weight_kept c.args.items.now c.args.statics.now c.make-in-Binary.new.statics c.in_ok-a-in-Binary.ensures.names in omega (arith, c.decreases, h, k), scene_kept c.args.items.now c.args.statics.now c.make-in-Binary.new.statics c.in_ok-a-in-Binary.ensures.names c.requires)
+
+pub make-make-requires-in-Choose-2 : goal.make-make-requires-in-Choose-2
+make-make-requires-in-Choose-2 t c = (let h = chosen_lighter c.args.expr.now c.deref-in-Choose-2.result.now c.in-Choose.condition c.in-Choose.first c.in-Choose.second c.in-Choose.is c.deref-in-Choose-2.ensures in let k = weight_kept c.args.items.now c.args.statics.now c.make-in-Choose.new.statics c.in_ok-c-in-Choose.ensures.names in omega (arith, c.decreases, h, k), scene_kept c.args.items.now c.args.statics.now c.make-in-Choose.new.statics c.in_ok-c-in-Choose.ensures.names c.requires)
+
+pub make-make-requires-in-Choose-3 : goal.make-make-requires-in-Choose-3
+make-make-requires-in-Choose-3 t c = (let h = other_lighter c.args.expr.now c.deref-in-Choose-3.result.now c.in-Choose.condition c.in-Choose.first c.in-Choose.second c.in-Choose.is c.deref-in-Choose-3.ensures in let k = weight_kept c.args.items.now c.args.statics.now c.make-in-Choose-2.new.statics (names_on c.in_ok-c-in-Choose.ensures.names c.in_ok-a-in-Choose.ensures.names) in omega (arith, c.decreases, h, k), scene_kept c.args.items.now c.args.statics.now c.make-in-Choose-2.new.statics (names_on c.in_ok-c-in-Choose.ensures.names c.in_ok-a-in-Choose.ensures.names) c.requires)
+
+pub make-call-requires : goal.make-call-requires
+make-call-requires t c = (let h = call_heavy c.args.expr.now c.in-Call.name c.in-Call.args c.in-Call.is in let k = weight_kept c.args.items.now c.args.statics.now c.make_all.new.statics c.in_ok-all-in-Call.ensures.names in omega (arith, c.decreases, h, k), scene_kept c.args.items.now c.args.statics.now c.make_all.new.statics c.in_ok-all-in-Call.ensures.names c.requires)
+
+pub make-returns-in-Some-clause-value : goal.make-returns-in-Some-clause-value
+make-returns-in-Some-clause-value t c =
+    let items = c.args.items.now in
+    let v = visible_in items c.args.statics.now in
+    let env = streams_in c.args.env.now in
+    let es = shapes_in c.args.ledger in
+    let by : Some c.in-Some.by ≡ constant_shift c.in-Binary.op c.amount.result = sym c.in-Some.is ∙ c.shift-by.ensures in
+    let e = shift_is v env es c.args.expr.now c.deref-in-Binary-2.result.now c.deref-in-Binary.result.now c.in-Binary.op c.in-Binary.first c.in-Binary.second (made_of c.in_ok-a-in-Binary.a) c.in-Some.by c.amount.result c.in-Binary.is c.deref-in-Binary-2.ensures c.deref-in-Binary.ensures c.amount.ensures by c.in_ok-a-in-Binary.ensures.value in
+    subst (λ (z : Made). IfOk c.one-in-Some.result (λ m. made_of m ≡ z)) e c.one-in-Some.ensures.value
+
+pub make-returns-in_ok-b-in-None-clause-value : goal.make-returns-in_ok-b-in-None-clause-value
+make-returns-in_ok-b-in-None-clause-value t c =
+    let items = c.args.items.now in
+    let v = visible_in items c.args.statics.now in
+    let env = streams_in c.args.env.now in
+    let es = shapes_in c.args.ledger in
+    let none : None ≡ constant_shift c.in-Binary.op c.amount.result = sym c.in-None.is ∙ c.shift-by.ensures in
+    let e = two_is v (visible_in items c.make-in-Binary.new.statics) env es c.args.expr.now c.deref-in-Binary-2.result.now c.deref-in-Binary.result.now c.deref-in-None.result.now c.in-Binary.op c.in-Binary.first c.in-Binary.second (made_of c.in_ok-a-in-Binary.a) (made_of c.in_ok-b-in-None.b) c.op_of.result c.amount.result c.in-Binary.is c.deref-in-Binary-2.ensures c.deref-in-Binary.ensures c.deref-in-None.ensures c.amount.ensures none c.op_of.ensures (visible_kept items c.args.statics.now c.make-in-Binary.new.statics c.in_ok-a-in-Binary.ensures.names) c.in_ok-a-in-Binary.ensures.value c.in_ok-b-in-None.ensures.value in
+    subst (λ (z : Made). IfOk c.two.result (λ m. made_of m ≡ z)) e c.two.ensures.value
+
+pub make-returns-in_ok-b-in-Choose-clause-value : goal.make-returns-in_ok-b-in-Choose-clause-value
+make-returns-in_ok-b-in-Choose-clause-value t c =
+    let items = c.args.items.now in
+    let v = visible_in items c.args.statics.now in
+    let env = streams_in c.args.env.now in
+    let es = shapes_in c.args.ledger in
+    let s = c.args.statics.now in
+    let e = three_is v (visible_in items c.make-in-Choose.new.statics) (visible_in items c.make-in-Choose-2.new.statics) env es c.args.expr.now c.deref-in-Choose.result.now c.deref-in-Choose-2.result.now c.deref-in-Choose-3.result.now c.in-Choose.condition c.in-Choose.first c.in-Choose.second (made_of c.in_ok-c-in-Choose.c) (made_of c.in_ok-a-in-Choose.a) (made_of c.in_ok-b-in-Choose.b) c.in-Choose.is c.deref-in-Choose.ensures c.deref-in-Choose-2.ensures c.deref-in-Choose-3.ensures (visible_kept items s c.make-in-Choose.new.statics c.in_ok-c-in-Choose.ensures.names) (visible_kept items s c.make-in-Choose-2.new.statics (names_on c.in_ok-c-in-Choose.ensures.names c.in_ok-a-in-Choose.ensures.names)) c.in_ok-c-in-Choose.ensures.value c.in_ok-a-in-Choose.ensures.value c.in_ok-b-in-Choose.ensures.value in
+    subst (λ (z : Made). IfOk c.choose.result (λ m. made_of m ≡ z)) e c.choose.ensures.value
+
+pub make-returns-in_ok-all-in-Call-clause-value : goal.make-returns-in_ok-all-in-Call-clause-value
+make-returns-in_ok-all-in-Call-clause-value t c =
+    let items = c.args.items.now in
+    let v = visible_in items c.args.statics.now in
+    let env = streams_in c.args.env.now in
+    let es = shapes_in c.args.ledger in
+    let e = call_is v (visible_in items c.make_all.new.statics) env es c.args.expr.now c.in-Call.name c.in-Call.args c.deref-in-Call.result.now (all_of c.in_ok-all-in-Call.all) c.in-Call.is c.deref-in-Call.ensures.value (visible_kept items c.args.statics.now c.make_all.new.statics c.in_ok-all-in-Call.ensures.names) c.in_ok-all-in-Call.ensures.value in
+    subst (λ (z : Made). IfOk c.call.result (λ m. made_of m ≡ z)) e c.call.ensures.value
+
+pub make-returns-in_ok-all-in-Cat-clause-value : goal.make-returns-in_ok-all-in-Cat-clause-value
+make-returns-in_ok-all-in-Cat-clause-value t c =
+    let items = c.args.items.now in
+    let v = visible_in items c.args.statics.now in
+    let env = streams_in c.args.env.now in
+    let es = shapes_in c.args.ledger in
+    let e = cat_is v env es c.args.expr.now c.in-Cat.parts c.deref-in-Cat.result.now (all_of c.in_ok-all-in-Cat.all) c.in-Cat.is c.deref-in-Cat.ensures.value c.in_ok-all-in-Cat.ensures.value in
+    subst (λ (z : Made). IfOk c.concatenate.result (λ m. made_of m ≡ z)) e c.concatenate.ensures.value
+
+pub make_stmts-loop-stmt-preserved : goal.make_stmts-loop-stmt-preserved
+make_stmts-loop-stmt-preserved t c =
+    let items = c.args.items.now in
+    let v = visible_in items c.args.statics.now in
+    record {
+      names = names_on c.loop-stmt.invariant.names c.in_ok-at.ensures.names;
+      rest = stmts_step v (visible_in items c.loop-stmt.statics) (progress_of c.loop-stmt.at) (progress_of c.in_ok-at.at) _ c.args.stmts.now c.loop-stmt.stmt-index c.stmt-item.result (omega arith) c.stmt-item.is (visible_kept items c.args.statics.now c.loop-stmt.statics c.loop-stmt.invariant.names) c.in_ok-at.ensures.value c.loop-stmt.invariant.rest;
+    }
+
+pub make_all-make-requires : goal.make_all-make-requires
+make_all-make-requires t c = (let h = one_of c.args.exprs.now c.loop-expr.expr-index c.expr-item.result c.loop-expr-test.true c.expr-item.is in let k = weight_kept c.args.items.now c.args.statics.now c.loop-expr.statics c.loop-expr.invariant.names in omega (arith, c.decreases, h, k), scene_kept c.args.items.now c.args.statics.now c.loop-expr.statics c.loop-expr.invariant.names c.requires)
+
+pub make_rec-make_body-requires-2 : goal.make_rec-make_body-requires-2
+make_rec-make_body-requires-2 t c = (let k = weight_kept c.args.items.now c.args.statics.now c.make_body.new.statics c.in_ok-counted.ensures.names in omega (arith, c.decreases, k), scene_kept c.args.items.now c.args.statics.now c.make_body.new.statics c.in_ok-counted.ensures.names c.requires)
+
+pub make_rec-settle-requires : goal.make_rec-settle-requires
+make_rec-settle-requires t c = (let k = weight_kept c.args.items.now c.args.statics.now c.make_body-2.new.statics (names_on c.in_ok-counted.ensures.names c.in_ok-made.ensures.names) in omega (arith, c.decreases, k), scene_kept c.args.items.now c.args.statics.now c.make_body-2.new.statics (names_on c.in_ok-counted.ensures.names c.in_ok-made.ensures.names) c.requires)
+
+pub make_stmts-make_stmt-requires : goal.make_stmts-make_stmt-requires
+make_stmts-make_stmt-requires t c = (let h = stmt_of c.args.stmts.now c.loop-stmt.stmt-index c.stmt-item.result c.loop-stmt-test.true c.stmt-item.is in let k = weight_kept c.args.items.now c.args.statics.now c.loop-stmt.statics c.loop-stmt.invariant.names in omega (arith, c.decreases, h, k), scene_kept c.args.items.now c.args.statics.now c.loop-stmt.statics c.loop-stmt.invariant.names c.requires)
+
+pub make_turns-make_turn-requires : goal.make_turns-make_turn-requires
+make_turns-make_turn-requires t c = (let k = weight_kept c.args.items.now c.args.statics.now c.loop-at.statics c.loop-at.invariant.names in omega (arith, c.decreases, k), scene_kept c.args.items.now c.args.statics.now c.loop-at.statics c.loop-at.invariant.names c.requires)
+
+pub run-make_assigned-requires : goal.run-make_assigned-requires
+run-make_assigned-requires t c = (let k = weight_kept c.args.items.now c.args.statics.now c.make_stmts.new.statics c.in_ok-env.ensures.names in omega (arith, c.decreases, k), scene_kept c.args.items.now c.args.statics.now c.make_stmts.new.statics c.in_ok-env.ensures.names c.requires)
+
+pub make_turn-make_stmts-requires : goal.make_turn-make_stmts-requires
+make_turn-make_stmts-requires t c =
+    let s = c.args.statics.now in
+    let put = c.in_ok-was.ensures in
+    let k : weight_in c.args.items.now c.swap_index.new.self ≡ weight_in c.args.items.now s = ap (weight_up_to c.args.items.now) put.horizon in
+    (omega (arith, c.decreases, k), scene_index c.args.items.now s c.swap_index.new.self c.args.index.now c.args.at put.entries put.horizon (known_swapped s c.swap_index.new.self c.args.index.now c.args.at put.entries put.horizon put.indices) c.requires)
+
+pub make_turn-returns-clause-names : goal.make_turn-returns-clause-names
+make_turn-returns-clause-names t c =
+    let put = c.in_ok-was.ensures in
+    let out = c.in_ok-_turn.ensures in
+    index_back c.args.statics.now c.swap_index.new.self c.make_stmts.new.statics c.swap_index-2.new.self c.args.index.now (Index c.args.at) c.in_ok-was.was' put.was put.indices put.entries put.horizon c.in_ok-ended.ensures.names out.indices out.entries out.horizon
+
+pub make_turn-returns-clause-value : goal.make_turn-returns-clause-value
+make_turn-returns-clause-value t c =
+    let s = c.args.statics.now in
+    let put = c.in_ok-was.ensures in
+    let known = known_swapped s c.swap_index.new.self c.args.index.now c.args.at put.entries put.horizon put.indices in
+    c.in_ok-ended.ensures.value ∙ (λ i. changes_of c.args.body.now (record { known = known i; functions = functions_before c.args.items.now (put.horizon i) }) (progress_of c.args.begun))
+
+pub make_all-loop-expr-preserved : goal.make_all-loop-expr-preserved
+make_all-loop-expr-preserved t c =
+    let items = c.args.items.now in
+    let v = visible_in items c.args.statics.now in
+    record {
+      names = names_on c.loop-expr.invariant.names c.in_ok-part.ensures.names;
+      rest = parts_step v (visible_in items c.loop-expr.statics) (streams_in c.args.env.now) (shapes_in c.loop-expr.ledger) c.loop-expr.given.items c.push.new.self.items c.args.exprs.now c.loop-expr.expr-index c.expr-item.result (made_of c.in_ok-part.part) _ c.loop-expr-test.true c.expr-item.is (visible_kept items c.args.statics.now c.loop-expr.statics c.loop-expr.invariant.names) c.in_ok-part.ensures.value c.in-Ok.ensures.items c.loop-expr.invariant.rest;
+    }
+
+pub make_turns-loop-at-preserved : goal.make_turns-loop-at-preserved
+make_turns-loop-at-preserved t c =
+    let items = c.args.items.now in
+    let v = visible_in items c.args.statics.now in
+    let f : ℕ → Progress → Progress = λ at. changes_of c.args.body.now (with_index c.args.index.now at v) in
+    let now = progress_of c.loop-at.now in
+    let step : progress_of c.in_ok-now.now ≡ f c.loop-at.at now = c.in_ok-now.ensures.value ∙ ap (λ (u : Visible). changes_of c.args.body.now (with_index c.args.index.now c.loop-at.at u) now) (visible_kept items c.args.statics.now c.loop-at.statics c.loop-at.invariant.names) in
+    record {
+      names = names_on c.loop-at.invariant.names c.in_ok-now.ensures.names;
+      rest = turns_step f c.args.to c.loop-at.at now (progress_of c.in_ok-now.now) _ c.loop-at-test.true step c.loop-at.invariant.rest;
+    }
+
+pub run-returns-clause-value : goal.run-returns-clause-value
+run-returns-clause-value t c =
+    let items = c.args.items.now in
+    let v = visible_in items c.args.statics.now in
+    let w = visible_in items c.make_stmts.new.statics in
+    let body : progress_of c.in_ok-env.field-0 ≡ changes_of c.args.body.now v (progress_of c.args.begun) = c.in_ok-env.ensures.value in
+    let same : w ≡ v = visible_kept items c.args.statics.now c.make_stmts.new.statics c.in_ok-env.ensures.names in
+    subst (λ (z : Made). IfOk c.make_assigned.result (λ m. made_of m ≡ z)) (λ i. assigned c.args.width c.args.last.now (same i) (body i).streams (body i).equations) c.make_assigned.ensures.value
+
+pub call-call_item-requires : goal.call-call_item-requires
+call-call_item-requires t c =
+    let known = callee_known (known_in c.args.statics.now c.args.name.now) c.in-Some.callee c.in-Some.ensures.value in
+    (let h = weight_entered c.args.items.now c.args.statics.now c.enter-frame.new.self c.args.name.now c.in-Some.callee c.in-Some-item.item _ c.requires known c.in-Some-item.is c.enter-frame.ensures.inside c.item_at.ensures in omega (arith, c.decreases, h), entered c.args.items.now c.args.statics.now c.enter-frame.new.self c.args.name.now c.in-Some.callee c.in-Some-item.item known c.in-Some-item.is c.enter-frame.ensures.entries c.enter-frame.ensures.inside c.enter-frame.ensures.known c.requires)
+
+pub call-returns-in_ok-made-in-Some-item-clause-value : goal.call-returns-in_ok-made-in-Some-item-clause-value
+call-returns-in_ok-made-in-Some-item-clause-value t c =
+    let items = c.args.items.now in
+    let known = callee_known (known_in c.args.statics.now c.args.name.now) c.in-Some.callee c.in-Some.ensures.value in
+    c.in_ok-made-in-Some-item.ensures.value ∙ called_is items c.args.statics.now c.enter-frame.new.self c.args.name.now c.in-Some.callee c.in-Some-item.item _ (all_of c.args.all) known c.in-Some-item.is c.enter-frame.ensures.inside c.enter-frame.ensures.known c.requires c.item_at.ensures
+
+pub make_rec-returns-clause-value : goal.make_rec-returns-clause-value
+make_rec-returns-clause-value t c =
+    let items = c.args.items.now in
+    let s = c.args.statics.now in
+    let v = visible_in items s in
+    let begun = progress_of c.args.begun in
+    let name = c.args.target.now.name in
+    let width = c.args.width in
+    let e = c.args.body.now in
+    let p = place c.args.target.now (known_in s) in
+    let at = c.place_at-at.result in
+    let declared = c.declared-width.result in
+    let grown = body-appends v (scene_appends items s c.requires) name p width e 0 begun in
+    let n = number_after name p width e v begun in
+    let counts = counted_as v name width e begun p at declared (streams_in c.set.new.self) (made_of c.in_ok-counted.counted) c.place_at-at.ensures c.declared-width.ensures c.in_ok-set.ensures c.in_ok-counted.ensures.value in
+    let length_is = counted_number c.in_ok-counted.counted.ledger.equations.items c.len-number.result (omega arith) in
+    let first_is = counted_number c.args.begun.ledger.equations.items c.len-first.result (omega arith) in
+    let start = cut_shapes c.in_ok-ledger.ledger.equations.items c.in_ok-counted.counted.ledger.equations.items c.args.begun.ledger.equations.items c.len-first.result (omega arith) c.in_ok-ledger.ensures in
+    let kept = visible_kept items s c.make_body.new.statics c.in_ok-counted.ensures.names in
+    let body = body_as v (visible_in items c.make_body.new.statics) name width e begun p at declared c.len-number.result (streams_in c.set.new.self) (streams_in c.set-2.new.self) (made_of c.in_ok-counted.counted) (made_of c.in_ok-made.made) (shapes_in c.in_ok-ledger.ledger) grown.more c.place_at-at.ensures c.declared-width.ensures c.in_ok-set.ensures c.in_ok-counted.ensures.value length_is start c.in_ok-set-2.ensures kept c.in_ok-made.ensures.value grown.is in
+    let again = body-appends v (scene_appends items s c.requires) name p width e n begun in
+    let number_is : c.len-number.result ≡ n = length_is ∙ ap (λ (m : Made). length m.equations) counts in
+    let one : streams_in c.set.new.self ≡ with_standing name p (Own 0) begun.streams = c.in_ok-set.ensures ∙ (λ i. with_standing name (c.place_at-at.ensures i) (Own 0) begun.streams) in
+    let two : streams_in c.set-2.new.self ≡ with_standing name p (Own n) begun.streams = c.in_ok-set-2.ensures ∙ ((λ i. with_standing name (c.place_at-at.ensures i) (Own (number_is i)) (one i)) ∙ twice name p (Own 0) (Own n) begun.streams) in
+    let other = visible_kept items s c.make_body-2.new.statics (names_on c.in_ok-counted.ensures.names c.in_ok-made.ensures.names) in
+    let stands = stands_as v (visible_in items c.make_body-2.new.statics) name width e begun p at declared c.len-number.result c.len-first.result (streams_in c.set-2.new.self) (streams_in c.set-3.new.self) (made_of c.in_ok-made.made) _ (made_of c.in_ok-made-2.made) again.more c.place_at-at.ensures c.declared-width.ensures number_is first_is body two c.in_ok-set-3.ensures other refl c.in_ok-made-2.ensures.value again.is in
+    let three : streams_in c.set-3.new.self ≡ with_standing name p (Own 0) begun.streams = c.in_ok-set-3.ensures ∙ ((λ i. with_standing name (c.place_at-at.ensures i) (Own 0) (two i)) ∙ twice name p (Own n) (Own 0) begun.streams) in
+    rec_as v c.args.target.now width c.args.init.now e begun at c.value_of-init.result declared (streams_in c.set-3.new.self) (streams_in c.set-4.new.self) (made_of c.in_ok-made-2.made) (made_of c.in_ok-made-3.made)
+    c.place_at-at.ensures c.value_of-init.ensures c.declared-width.ensures
+    (λ x. (λ i. with_standing name p x (three i)) ∙ twice name p (Own 0) x begun.streams) stands
+    (rec_last _ _ _ _ _ c.len-first.result (length begun.equations) first_is c.in_ok-made-3.ensures.value)
+    c.in_ok-set-4.ensures
+
+pub make_rec-returns-in_err-counted-clause-limit : goal.make_rec-returns-in_err-counted-clause-limit
+make_rec-returns-in_err-counted-clause-limit t c =
+    let v = visible_in c.args.items.now c.args.statics.now in
+    let begun = progress_of c.args.begun in
+    passed_on c.from_residual-in_err-counted.result c.in_err-counted.field-0.0 _ _ c.from_residual-in_err-counted.ensures.1
+    (counted_within v c.args.target.now c.args.width c.args.init.now c.args.body.now begun _ (counted_as v c.args.target.now.name c.args.width c.args.body.now begun (place c.args.target.now (known_in c.args.statics.now)) c.place_at-at.result c.declared-width.result (streams_in c.set.new.self) _ c.place_at-at.ensures c.declared-width.ensures c.in_ok-set.ensures refl))
+    c.in_err-counted.ensures.limit
+
+pub make_rec-returns-in_err-made-clause-limit : goal.make_rec-returns-in_err-made-clause-limit
+make_rec-returns-in_err-made-clause-limit t c =
+    let items = c.args.items.now in
+    let s = c.args.statics.now in
+    let v = visible_in items s in
+    let begun = progress_of c.args.begun in
+    let name = c.args.target.now.name in
+    let width = c.args.width in
+    let e = c.args.body.now in
+    let p = place c.args.target.now (known_in s) in
+    let at = c.place_at-at.result in
+    let declared = c.declared-width.result in
+    let grown = body-appends v (scene_appends items s c.requires) name p width e 0 begun in
+    let n = number_after name p width e v begun in
+    let counts = counted_as v name width e begun p at declared (streams_in c.set.new.self) (made_of c.in_ok-counted.counted) c.place_at-at.ensures c.declared-width.ensures c.in_ok-set.ensures c.in_ok-counted.ensures.value in
+    let length_is = counted_number c.in_ok-counted.counted.ledger.equations.items c.len-number.result (omega arith) in
+    let first_is = counted_number c.args.begun.ledger.equations.items c.len-first.result (omega arith) in
+    let start = cut_shapes c.in_ok-ledger.ledger.equations.items c.in_ok-counted.counted.ledger.equations.items c.args.begun.ledger.equations.items c.len-first.result (omega arith) c.in_ok-ledger.ensures in
+    let kept = visible_kept items s c.make_body.new.statics c.in_ok-counted.ensures.names in
+    passed_on c.from_residual-in_err-made.result c.in_err-made.field-0.0 _ _ c.from_residual-in_err-made.ensures.1
+    (body_within v c.args.target.now width c.args.init.now e begun _ (body_as v (visible_in items c.make_body.new.statics) name width e begun p at declared c.len-number.result (streams_in c.set.new.self) (streams_in c.set-2.new.self) (made_of c.in_ok-counted.counted) _ (shapes_in c.in_ok-ledger.ledger) grown.more c.place_at-at.ensures c.declared-width.ensures c.in_ok-set.ensures c.in_ok-counted.ensures.value length_is start c.in_ok-set-2.ensures kept refl grown.is))
+    c.in_err-made.ensures.limit
+
+pub make_rec-returns-in_err-made-2-clause-limit : goal.make_rec-returns-in_err-made-2-clause-limit
+make_rec-returns-in_err-made-2-clause-limit t c =
+    let items = c.args.items.now in
+    let s = c.args.statics.now in
+    let v = visible_in items s in
+    let begun = progress_of c.args.begun in
+    let name = c.args.target.now.name in
+    let width = c.args.width in
+    let e = c.args.body.now in
+    let p = place c.args.target.now (known_in s) in
+    let at = c.place_at-at.result in
+    let declared = c.declared-width.result in
+    let grown = body-appends v (scene_appends items s c.requires) name p width e 0 begun in
+    let n = number_after name p width e v begun in
+    let counts = counted_as v name width e begun p at declared (streams_in c.set.new.self) (made_of c.in_ok-counted.counted) c.place_at-at.ensures c.declared-width.ensures c.in_ok-set.ensures c.in_ok-counted.ensures.value in
+    let length_is = counted_number c.in_ok-counted.counted.ledger.equations.items c.len-number.result (omega arith) in
+    let first_is = counted_number c.args.begun.ledger.equations.items c.len-first.result (omega arith) in
+    let start = cut_shapes c.in_ok-ledger.ledger.equations.items c.in_ok-counted.counted.ledger.equations.items c.args.begun.ledger.equations.items c.len-first.result (omega arith) c.in_ok-ledger.ensures in
+    let kept = visible_kept items s c.make_body.new.statics c.in_ok-counted.ensures.names in
+    let body = body_as v (visible_in items c.make_body.new.statics) name width e begun p at declared c.len-number.result (streams_in c.set.new.self) (streams_in c.set-2.new.self) (made_of c.in_ok-counted.counted) (made_of c.in_ok-made.made) (shapes_in c.in_ok-ledger.ledger) grown.more c.place_at-at.ensures c.declared-width.ensures c.in_ok-set.ensures c.in_ok-counted.ensures.value length_is start c.in_ok-set-2.ensures kept c.in_ok-made.ensures.value grown.is in
+    let again = body-appends v (scene_appends items s c.requires) name p width e n begun in
+    let number_is : c.len-number.result ≡ n = length_is ∙ ap (λ (m : Made). length m.equations) counts in
+    let one : streams_in c.set.new.self ≡ with_standing name p (Own 0) begun.streams = c.in_ok-set.ensures ∙ (λ i. with_standing name (c.place_at-at.ensures i) (Own 0) begun.streams) in
+    let two : streams_in c.set-2.new.self ≡ with_standing name p (Own n) begun.streams = c.in_ok-set-2.ensures ∙ ((λ i. with_standing name (c.place_at-at.ensures i) (Own (number_is i)) (one i)) ∙ twice name p (Own 0) (Own n) begun.streams) in
+    let other = visible_kept items s c.make_body-2.new.statics (names_on c.in_ok-counted.ensures.names c.in_ok-made.ensures.names) in
+    passed_on c.from_residual-in_err-made-2.result c.in_err-made-2.field-0.0 _ _ c.from_residual-in_err-made-2.ensures.1
+    (stands_within v c.args.target.now width c.args.init.now e begun _ (stands_as v (visible_in items c.make_body-2.new.statics) name width e begun p at declared c.len-number.result c.len-first.result (streams_in c.set-2.new.self) (streams_in c.set-3.new.self) (made_of c.in_ok-made.made) _ _ again.more c.place_at-at.ensures c.declared-width.ensures number_is first_is body two c.in_ok-set-3.ensures other refl refl again.is))
+    c.in_err-made-2.ensures.limit
+
+pub make_rec-returns-in_err-made-3-clause-limit : goal.make_rec-returns-in_err-made-3-clause-limit
+make_rec-returns-in_err-made-3-clause-limit t c =
+    let items = c.args.items.now in
+    let s = c.args.statics.now in
+    let v = visible_in items s in
+    let begun = progress_of c.args.begun in
+    let name = c.args.target.now.name in
+    let width = c.args.width in
+    let e = c.args.body.now in
+    let p = place c.args.target.now (known_in s) in
+    let at = c.place_at-at.result in
+    let declared = c.declared-width.result in
+    let grown = body-appends v (scene_appends items s c.requires) name p width e 0 begun in
+    let n = number_after name p width e v begun in
+    let counts = counted_as v name width e begun p at declared (streams_in c.set.new.self) (made_of c.in_ok-counted.counted) c.place_at-at.ensures c.declared-width.ensures c.in_ok-set.ensures c.in_ok-counted.ensures.value in
+    let length_is = counted_number c.in_ok-counted.counted.ledger.equations.items c.len-number.result (omega arith) in
+    let first_is = counted_number c.args.begun.ledger.equations.items c.len-first.result (omega arith) in
+    let start = cut_shapes c.in_ok-ledger.ledger.equations.items c.in_ok-counted.counted.ledger.equations.items c.args.begun.ledger.equations.items c.len-first.result (omega arith) c.in_ok-ledger.ensures in
+    let kept = visible_kept items s c.make_body.new.statics c.in_ok-counted.ensures.names in
+    let body = body_as v (visible_in items c.make_body.new.statics) name width e begun p at declared c.len-number.result (streams_in c.set.new.self) (streams_in c.set-2.new.self) (made_of c.in_ok-counted.counted) (made_of c.in_ok-made.made) (shapes_in c.in_ok-ledger.ledger) grown.more c.place_at-at.ensures c.declared-width.ensures c.in_ok-set.ensures c.in_ok-counted.ensures.value length_is start c.in_ok-set-2.ensures kept c.in_ok-made.ensures.value grown.is in
+    let again = body-appends v (scene_appends items s c.requires) name p width e n begun in
+    let number_is : c.len-number.result ≡ n = length_is ∙ ap (λ (m : Made). length m.equations) counts in
+    let one : streams_in c.set.new.self ≡ with_standing name p (Own 0) begun.streams = c.in_ok-set.ensures ∙ (λ i. with_standing name (c.place_at-at.ensures i) (Own 0) begun.streams) in
+    let two : streams_in c.set-2.new.self ≡ with_standing name p (Own n) begun.streams = c.in_ok-set-2.ensures ∙ ((λ i. with_standing name (c.place_at-at.ensures i) (Own (number_is i)) (one i)) ∙ twice name p (Own 0) (Own n) begun.streams) in
+    let other = visible_kept items s c.make_body-2.new.statics (names_on c.in_ok-counted.ensures.names c.in_ok-made.ensures.names) in
+    let stands = stands_as v (visible_in items c.make_body-2.new.statics) name width e begun p at declared c.len-number.result c.len-first.result (streams_in c.set-2.new.self) (streams_in c.set-3.new.self) (made_of c.in_ok-made.made) _ (made_of c.in_ok-made-2.made) again.more c.place_at-at.ensures c.declared-width.ensures number_is first_is body two c.in_ok-set-3.ensures other refl c.in_ok-made-2.ensures.value again.is in
+    let three : streams_in c.set-3.new.self ≡ with_standing name p (Own 0) begun.streams = c.in_ok-set-3.ensures ∙ ((λ i. with_standing name (c.place_at-at.ensures i) (Own 0) (two i)) ∙ twice name p (Own n) (Own 0) begun.streams) in
+    let last = with_equation (op.Rec c.value_of-init.result c.len-first.result) (c.in_ok-made-2.made.given ∷ []) declared (shapes_in c.in_ok-made-2.made.ledger) in
+    let whole = rec_as v c.args.target.now width c.args.init.now e begun at c.value_of-init.result declared (streams_in c.set-3.new.self) _ (made_of c.in_ok-made-2.made) last
+    c.place_at-at.ensures c.value_of-init.ensures c.declared-width.ensures
+    (λ x. (λ i. with_standing name p x (three i)) ∙ twice name p (Own 0) x begun.streams) stands
+    (rec_last _ _ _ _ _ c.len-first.result (length begun.equations) first_is refl)
+    refl in
+    passed_on c.from_residual-in_err-made-3.result c.in_err-made-3.field-0.0 _ _ c.from_residual-in_err-made-3.ensures.1
+    (same_long _ _ whole)
+    c.in_err-made-3.ensures.limit
+
+pub make-make-requires : goal.make-make-requires
+make-make-requires t c = (let h = slice_lighter c.args.expr.now c.deref.result.now c.in-Slice.inner c.in-Slice.high c.in-Slice.low c.in-Slice.is c.deref.ensures in omega (arith, c.decreases, h), c.requires)
+
+pub make-make-requires-in-Not : goal.make-make-requires-in-Not
+make-make-requires-in-Not t c = (let h = not_lighter c.args.expr.now c.deref-in-Not.result.now c.in-Not.inner c.in-Not.is c.deref-in-Not.ensures in omega (arith, c.decreases, h), c.requires)
+
+pub make-make-requires-in-Binary : goal.make-make-requires-in-Binary
+make-make-requires-in-Binary t c = (let h = first_lighter c.args.expr.now c.deref-in-Binary-2.result.now c.in-Binary.op c.in-Binary.first c.in-Binary.second c.in-Binary.is c.deref-in-Binary-2.ensures in omega (arith, c.decreases, h), c.requires)
+
+pub make-make-requires-in-Choose : goal.make-make-requires-in-Choose
+make-make-requires-in-Choose t c = (let h = condition_lighter c.args.expr.now c.deref-in-Choose.result.now c.in-Choose.condition c.in-Choose.first c.in-Choose.second c.in-Choose.is c.deref-in-Choose.ensures in omega (arith, c.decreases, h), c.requires)
+
+pub make-make_all-requires : goal.make-make_all-requires
+make-make_all-requires t c = (let h = args_lighter c.args.expr.now c.in-Call.name c.in-Call.args c.deref-in-Call.result.now c.in-Call.is c.deref-in-Call.ensures.value in omega (arith, c.decreases, h), c.requires)
+
+pub make-make_all-requires-in-Cat : goal.make-make_all-requires-in-Cat
+make-make_all-requires-in-Cat t c = (let h = parts_lighter c.args.expr.now c.in-Cat.parts c.deref-in-Cat.result.now c.in-Cat.is c.deref-in-Cat.ensures.value in omega (arith, c.decreases, h), c.requires)
+
+pub make-make-requires-in-Paren : goal.make-make-requires-in-Paren
+make-make-requires-in-Paren t c = (let h = paren_lighter c.args.expr.now c.deref-in-Paren.result.now c.in-Paren.inner c.in-Paren.is c.deref-in-Paren.ensures in omega (arith, c.decreases, h), c.requires)
+
+pub make_stmt-make_let-requires : goal.make_stmt-make_let-requires
+make_stmt-make_let-requires t c = (let h = let_lighter c.args.stmt.now c.in-Let.target c.in-Let.width c.in-Let.value c.in-Let.is in omega (arith, c.decreases, h), c.requires)
+
+pub make_stmt-make_rec-requires : goal.make_stmt-make_rec-requires
+make_stmt-make_rec-requires t c = (let h = rec_lighter c.args.stmt.now c.in-Rec.target c.in-Rec.width c.in-Rec.init c.in-Rec.body c.in-Rec.is in omega (arith, c.decreases, h), c.requires)
+
+pub make_stmt-make_turns-requires : goal.make_stmt-make_turns-requires
+make_stmt-make_turns-requires t c = (let h = body_lighter c.args.stmt.now c.in-For.index c.in-For.low c.in-For.high c.in-For.body c.deref.result.now c.in-For.is c.deref.ensures.value in omega (arith, c.decreases, h), c.requires)
+
+pub make-returns-in-Some-clause-limit : goal.make-returns-in-Some-clause-limit
+make-returns-in-Some-clause-limit t c =
+    let items = c.args.items.now in
+    let v = visible_in items c.args.statics.now in
+    let env = streams_in c.args.env.now in
+    let es = shapes_in c.args.ledger in
+    let by : Some c.in-Some.by ≡ constant_shift c.in-Binary.op c.amount.result = sym c.in-Some.is ∙ c.shift-by.ensures in
+    let e = shift_is v env es c.args.expr.now c.deref-in-Binary-2.result.now c.deref-in-Binary.result.now c.in-Binary.op c.in-Binary.first c.in-Binary.second (made_of c.in_ok-a-in-Binary.a) c.in-Some.by c.amount.result c.in-Binary.is c.deref-in-Binary-2.ensures c.deref-in-Binary.ensures c.amount.ensures by c.in_ok-a-in-Binary.ensures.value in
+    subst (λ (z : Made). IfErr c.one-in-Some.result (λ s. IsPast s z.equations)) e c.one-in-Some.ensures.limit
+
+pub make-returns-in_ok-b-in-None-clause-limit : goal.make-returns-in_ok-b-in-None-clause-limit
+make-returns-in_ok-b-in-None-clause-limit t c =
+    let items = c.args.items.now in
+    let v = visible_in items c.args.statics.now in
+    let env = streams_in c.args.env.now in
+    let es = shapes_in c.args.ledger in
+    let none : None ≡ constant_shift c.in-Binary.op c.amount.result = sym c.in-None.is ∙ c.shift-by.ensures in
+    let e = two_is v (visible_in items c.make-in-Binary.new.statics) env es c.args.expr.now c.deref-in-Binary-2.result.now c.deref-in-Binary.result.now c.deref-in-None.result.now c.in-Binary.op c.in-Binary.first c.in-Binary.second (made_of c.in_ok-a-in-Binary.a) (made_of c.in_ok-b-in-None.b) c.op_of.result c.amount.result c.in-Binary.is c.deref-in-Binary-2.ensures c.deref-in-Binary.ensures c.deref-in-None.ensures c.amount.ensures none c.op_of.ensures (visible_kept items c.args.statics.now c.make-in-Binary.new.statics c.in_ok-a-in-Binary.ensures.names) c.in_ok-a-in-Binary.ensures.value c.in_ok-b-in-None.ensures.value in
+    subst (λ (z : Made). IfErr c.two.result (λ s. IsPast s z.equations)) e c.two.ensures.limit
+
+pub make-returns-in_ok-b-in-Choose-clause-limit : goal.make-returns-in_ok-b-in-Choose-clause-limit
+make-returns-in_ok-b-in-Choose-clause-limit t c =
+    let items = c.args.items.now in
+    let v = visible_in items c.args.statics.now in
+    let env = streams_in c.args.env.now in
+    let es = shapes_in c.args.ledger in
+    let s = c.args.statics.now in
+    let e = three_is v (visible_in items c.make-in-Choose.new.statics) (visible_in items c.make-in-Choose-2.new.statics) env es c.args.expr.now c.deref-in-Choose.result.now c.deref-in-Choose-2.result.now c.deref-in-Choose-3.result.now c.in-Choose.condition c.in-Choose.first c.in-Choose.second (made_of c.in_ok-c-in-Choose.c) (made_of c.in_ok-a-in-Choose.a) (made_of c.in_ok-b-in-Choose.b) c.in-Choose.is c.deref-in-Choose.ensures c.deref-in-Choose-2.ensures c.deref-in-Choose-3.ensures (visible_kept items s c.make-in-Choose.new.statics c.in_ok-c-in-Choose.ensures.names) (visible_kept items s c.make-in-Choose-2.new.statics (names_on c.in_ok-c-in-Choose.ensures.names c.in_ok-a-in-Choose.ensures.names)) c.in_ok-c-in-Choose.ensures.value c.in_ok-a-in-Choose.ensures.value c.in_ok-b-in-Choose.ensures.value in
+    subst (λ (z : Made). IfErr c.choose.result (λ s. IsPast s z.equations)) e c.choose.ensures.limit
+
+pub make-returns-in_ok-all-in-Call-clause-limit : goal.make-returns-in_ok-all-in-Call-clause-limit
+make-returns-in_ok-all-in-Call-clause-limit t c =
+    let items = c.args.items.now in
+    let v = visible_in items c.args.statics.now in
+    let env = streams_in c.args.env.now in
+    let es = shapes_in c.args.ledger in
+    let e = call_is v (visible_in items c.make_all.new.statics) env es c.args.expr.now c.in-Call.name c.in-Call.args c.deref-in-Call.result.now (all_of c.in_ok-all-in-Call.all) c.in-Call.is c.deref-in-Call.ensures.value (visible_kept items c.args.statics.now c.make_all.new.statics c.in_ok-all-in-Call.ensures.names) c.in_ok-all-in-Call.ensures.value in
+    subst (λ (z : Made). IfErr c.call.result (λ s. IsPast s z.equations)) e c.call.ensures.limit
+
+pub make-returns-in_ok-all-in-Cat-clause-limit : goal.make-returns-in_ok-all-in-Cat-clause-limit
+make-returns-in_ok-all-in-Cat-clause-limit t c =
+    let items = c.args.items.now in
+    let v = visible_in items c.args.statics.now in
+    let env = streams_in c.args.env.now in
+    let es = shapes_in c.args.ledger in
+    let e = cat_is v env es c.args.expr.now c.in-Cat.parts c.deref-in-Cat.result.now (all_of c.in_ok-all-in-Cat.all) c.in-Cat.is c.deref-in-Cat.ensures.value c.in_ok-all-in-Cat.ensures.value in
+    subst (λ (z : Made). IfErr c.concatenate.result (λ s. IsPast s z.equations)) e c.concatenate.ensures.limit
+
+pub run-returns-clause-limit : goal.run-returns-clause-limit
+run-returns-clause-limit t c =
+    let items = c.args.items.now in
+    let v = visible_in items c.args.statics.now in
+    let w = visible_in items c.make_stmts.new.statics in
+    let body : progress_of c.in_ok-env.field-0 ≡ changes_of c.args.body.now v (progress_of c.args.begun) = c.in_ok-env.ensures.value in
+    let same : w ≡ v = visible_kept items c.args.statics.now c.make_stmts.new.statics c.in_ok-env.ensures.names in
+    subst (λ (z : Made). IfErr c.make_assigned.result (λ s. IsPast s z.equations)) (λ i. assigned c.args.width c.args.last.now (same i) (body i).streams (body i).equations) c.make_assigned.ensures.limit
+
+pub make-returns-in_err-a-in-Binary-clause-limit : goal.make-returns-in_err-a-in-Binary-clause-limit
+make-returns-in_err-a-in-Binary-clause-limit t c =
+    let items = c.args.items.now in
+    let s = c.args.statics.now in
+    let v = visible_in items s in
+    let fs = scene_appends items s c.requires in
+    let env = streams_in c.args.env.now in
+    let es = shapes_in c.args.ledger in
+    passed_on c.from_residual-in_err-a-in-Binary.result c.in_err-a-in-Binary.field-0.0 _ _ c.from_residual-in_err-a-in-Binary.ensures.1
+    (first_within v fs env es c.args.expr.now c.deref-in-Binary-2.result.now c.in-Binary.op c.in-Binary.first c.in-Binary.second c.in-Binary.is c.deref-in-Binary-2.ensures)
+    c.in_err-a-in-Binary.ensures.limit
+
+pub make-returns-in_err-b-in-None-clause-limit : goal.make-returns-in_err-b-in-None-clause-limit
+make-returns-in_err-b-in-None-clause-limit t c =
+    let items = c.args.items.now in
+    let s = c.args.statics.now in
+    let v = visible_in items s in
+    let env = streams_in c.args.env.now in
+    let es = shapes_in c.args.ledger in
+    passed_on c.from_residual-in_err-b-in-None.result c.in_err-b-in-None.field-0.0 _ _ c.from_residual-in_err-b-in-None.ensures.1
+    (second_within v (visible_in items c.make-in-Binary.new.statics) env es c.args.expr.now c.deref-in-Binary-2.result.now c.deref-in-Binary.result.now c.deref-in-None.result.now c.in-Binary.op c.in-Binary.first c.in-Binary.second (made_of c.in_ok-a-in-Binary.a) (operator c.in-Binary.op) c.amount.result c.in-Binary.is c.deref-in-Binary-2.ensures c.deref-in-Binary.ensures c.deref-in-None.ensures c.amount.ensures (sym c.in-None.is ∙ c.shift-by.ensures) refl (visible_kept items s c.make-in-Binary.new.statics c.in_ok-a-in-Binary.ensures.names) c.in_ok-a-in-Binary.ensures.value)
+    c.in_err-b-in-None.ensures.limit
+
+pub make-returns-in_err-c-in-Choose-clause-limit : goal.make-returns-in_err-c-in-Choose-clause-limit
+make-returns-in_err-c-in-Choose-clause-limit t c =
+    let items = c.args.items.now in
+    let s = c.args.statics.now in
+    let v = visible_in items s in
+    let fs = scene_appends items s c.requires in
+    let env = streams_in c.args.env.now in
+    let es = shapes_in c.args.ledger in
+    passed_on c.from_residual-in_err-c-in-Choose.result c.in_err-c-in-Choose.field-0.0 _ _ c.from_residual-in_err-c-in-Choose.ensures.1
+    (condition_within v fs env es c.args.expr.now c.deref-in-Choose.result.now c.in-Choose.condition c.in-Choose.first c.in-Choose.second c.in-Choose.is c.deref-in-Choose.ensures)
+    c.in_err-c-in-Choose.ensures.limit
+
+pub make-returns-in_err-a-in-Choose-clause-limit : goal.make-returns-in_err-a-in-Choose-clause-limit
+make-returns-in_err-a-in-Choose-clause-limit t c =
+    let items = c.args.items.now in
+    let s = c.args.statics.now in
+    let v = visible_in items s in
+    let fs = scene_appends items s c.requires in
+    let env = streams_in c.args.env.now in
+    let es = shapes_in c.args.ledger in
+    passed_on c.from_residual-in_err-a-in-Choose.result c.in_err-a-in-Choose.field-0.0 _ _ c.from_residual-in_err-a-in-Choose.ensures.1
+    (chosen_within v (visible_in items c.make-in-Choose.new.statics) fs env es c.args.expr.now c.deref-in-Choose.result.now c.deref-in-Choose-2.result.now c.in-Choose.condition c.in-Choose.first c.in-Choose.second (made_of c.in_ok-c-in-Choose.c) c.in-Choose.is c.deref-in-Choose.ensures c.deref-in-Choose-2.ensures (visible_kept items s c.make-in-Choose.new.statics c.in_ok-c-in-Choose.ensures.names) c.in_ok-c-in-Choose.ensures.value)
+    c.in_err-a-in-Choose.ensures.limit
+
+pub make-returns-in_err-b-in-Choose-clause-limit : goal.make-returns-in_err-b-in-Choose-clause-limit
+make-returns-in_err-b-in-Choose-clause-limit t c =
+    let items = c.args.items.now in
+    let s = c.args.statics.now in
+    let v = visible_in items s in
+    let env = streams_in c.args.env.now in
+    let es = shapes_in c.args.ledger in
+    passed_on c.from_residual-in_err-b-in-Choose.result c.in_err-b-in-Choose.field-0.0 _ _ c.from_residual-in_err-b-in-Choose.ensures.1
+    (other_within v (visible_in items c.make-in-Choose.new.statics) (visible_in items c.make-in-Choose-2.new.statics) env es c.args.expr.now c.deref-in-Choose.result.now c.deref-in-Choose-2.result.now c.deref-in-Choose-3.result.now c.in-Choose.condition c.in-Choose.first c.in-Choose.second (made_of c.in_ok-c-in-Choose.c) (made_of c.in_ok-a-in-Choose.a) c.in-Choose.is c.deref-in-Choose.ensures c.deref-in-Choose-2.ensures c.deref-in-Choose-3.ensures (visible_kept items s c.make-in-Choose.new.statics c.in_ok-c-in-Choose.ensures.names) (visible_kept items s c.make-in-Choose-2.new.statics (names_on c.in_ok-c-in-Choose.ensures.names c.in_ok-a-in-Choose.ensures.names)) c.in_ok-c-in-Choose.ensures.value c.in_ok-a-in-Choose.ensures.value)
+    c.in_err-b-in-Choose.ensures.limit
+
+pub make-returns-in_err-all-in-Call-clause-limit : goal.make-returns-in_err-all-in-Call-clause-limit
+make-returns-in_err-all-in-Call-clause-limit t c =
+    let items = c.args.items.now in
+    let s = c.args.statics.now in
+    let v = visible_in items s in
+    let fs = scene_appends items s c.requires in
+    let env = streams_in c.args.env.now in
+    let es = shapes_in c.args.ledger in
+    passed_on c.from_residual-in_err-all-in-Call.result c.in_err-all-in-Call.field-0.0 _ _ c.from_residual-in_err-all-in-Call.ensures.1
+    (args_within v fs env es c.args.expr.now c.in-Call.name c.in-Call.args c.deref-in-Call.result.now c.in-Call.is c.deref-in-Call.ensures.value)
+    c.in_err-all-in-Call.ensures.limit
+
+pub make-returns-in_err-all-in-Cat-clause-limit : goal.make-returns-in_err-all-in-Cat-clause-limit
+make-returns-in_err-all-in-Cat-clause-limit t c =
+    let items = c.args.items.now in
+    let s = c.args.statics.now in
+    let v = visible_in items s in
+    let env = streams_in c.args.env.now in
+    let es = shapes_in c.args.ledger in
+    passed_on c.from_residual-in_err-all-in-Cat.result c.in_err-all-in-Cat.field-0.0 _ _ c.from_residual-in_err-all-in-Cat.ensures.1
+    (parts_within v env es c.args.expr.now c.in-Cat.parts c.deref-in-Cat.result.now c.in-Cat.is c.deref-in-Cat.ensures.value)
+    c.in_err-all-in-Cat.ensures.limit
+
+pub call_item-returns-in_err-begun-in-Function-clause-limit : goal.call_item-returns-in_err-begun-in-Function-clause-limit
+call_item-returns-in_err-begun-in-Function-clause-limit t c =
+    let items = c.args.items.now in
+    let s = c.args.statics.now in
+    let v = visible_in items s in
+    let fs = scene_appends items s c.requires in
+    passed_on c.from_residual.result c.in_err-begun-in-Function.field-0.0 _ _ c.from_residual.ensures.1
+    (begun_within _ c.in-Some.item.now c.in-Function.name c.in-Function.params c.in-Function.width c.in-Function.body c.in-Function.result c.deref.result.now v fs c.args.all.given.items (shapes_in c.args.all.ledger) (ap (option_map (λ i. i.now)) c.in-Some.is) c.in-Function.is c.deref.ensures.value)
+    c.in_err-begun-in-Function.ensures.limit
+
+pub make_all-returns-in_err-part-clause-limit : goal.make_all-returns-in_err-part-clause-limit
+make_all-returns-in_err-part-clause-limit t c =
+    let items = c.args.items.now in
+    let s = c.args.statics.now in
+    let v = visible_in items s in
+    let fs = scene_appends items s c.requires in
+    passed_on c.from_residual.result c.in_err-part.field-0.0 _ _ c.from_residual.ensures.1
+    (part_within v (visible_in items c.loop-expr.statics) fs (streams_in c.args.env.now) (shapes_in c.loop-expr.ledger) c.loop-expr.given.items c.args.exprs.now c.loop-expr.expr-index c.expr-item.result _ c.loop-expr-test.true c.expr-item.is (visible_kept items s c.loop-expr.statics c.loop-expr.invariant.names) c.loop-expr.invariant.rest)
+    c.in_err-part.ensures.limit
+
+pub make_assigned-returns-in_err-made-clause-limit : goal.make_assigned-returns-in_err-made-clause-limit
+make_assigned-returns-in_err-made-clause-limit t c =
+    passed_on c.from_residual.result c.in_err-made.field-0.0 _ _ c.from_residual.ensures.1
+    (assigned_within c.args.width c.args.expr.now (visible_in c.args.items.now c.args.statics.now) (streams_in c.args.env.now) (shapes_in c.args.ledger))
+    c.in_err-made.ensures.limit
+
+pub make_body-returns-in_err-made-clause-limit : goal.make_body-returns-in_err-made-clause-limit
+make_body-returns-in_err-made-clause-limit t c =
+    passed_on c.from_residual.result c.in_err-made.field-0.0 _ _ c.from_residual.ensures.1
+    (operator_within (plan_of c.args.body.now).is_operator c.args.width ((plan_of c.args.body.now).making (visible_in c.args.items.now c.args.statics.now) (streams_in c.args.env.now) (shapes_in c.args.ledger)))
+    c.in_err-made.ensures.limit
+
+pub make_stmts-returns-in_err-at-clause-limit : goal.make_stmts-returns-in_err-at-clause-limit
+make_stmts-returns-in_err-at-clause-limit t c =
+    let items = c.args.items.now in
+    let s = c.args.statics.now in
+    let v = visible_in items s in
+    let fs = scene_appends items s c.requires in
+    passed_on c.from_residual.result c.in_err-at.field-0.0 _ _ c.from_residual.ensures.1
+    (stmt_within v (visible_in items c.loop-stmt.statics) fs (progress_of c.loop-stmt.at) _ c.args.stmts.now c.loop-stmt.stmt-index c.stmt-item.result c.loop-stmt-test.true c.stmt-item.is (visible_kept items s c.loop-stmt.statics c.loop-stmt.invariant.names) c.loop-stmt.invariant.rest)
+    c.in_err-at.ensures.limit
+
+pub make_turns-returns-in_err-now-clause-limit : goal.make_turns-returns-in_err-now-clause-limit
+make_turns-returns-in_err-now-clause-limit t c =
+    let items = c.args.items.now in
+    let s = c.args.statics.now in
+    let v = visible_in items s in
+    let fs = scene_appends items s c.requires in
+    passed_on c.from_residual.result c.in_err-now.field-0.0 _ _ c.from_residual.ensures.1
+    (turn_within v (visible_in items c.loop-at.statics) fs c.args.index.now c.args.body.now c.args.to c.loop-at.at (progress_of c.loop-at.now) _ c.loop-at-test.true (visible_kept items s c.loop-at.statics c.loop-at.invariant.names) c.loop-at.invariant.rest)
+    c.in_err-now.ensures.limit
+
+pub make_turn-returns-in_err-ended-clause-limit : goal.make_turn-returns-in_err-ended-clause-limit
+make_turn-returns-in_err-ended-clause-limit t c =
+    let items = c.args.items.now in
+    let s = c.args.statics.now in
+    let put = c.in_ok-was.ensures in
+    let known = known_swapped s c.swap_index.new.self c.args.index.now c.args.at put.entries put.horizon put.indices in
+    passed_on c.from_residual-in_err-ended.result c.in_err-ended.field-0.0 _ _ c.from_residual-in_err-ended.ensures.1
+    (same_long _ _ (λ i. changes_of c.args.body.now (record { known = known i; functions = functions_before items (put.horizon i) }) (progress_of c.args.begun)))
+    c.in_err-ended.ensures.limit
+
+pub run-returns-in_err-env-clause-limit : goal.run-returns-in_err-env-clause-limit
+run-returns-in_err-env-clause-limit t c =
+    let items = c.args.items.now in
+    let s = c.args.statics.now in
+    let v = visible_in items s in
+    passed_on c.from_residual.result c.in_err-env.field-0.0 _ _ c.from_residual.ensures.1
+    (let ended = changes_of c.args.body.now v (progress_of c.args.begun) in appends-length ended.equations _ (assigned-appends v (scene_appends items s c.requires) c.args.width c.args.last.now ended.streams ended.equations))
+    c.in_err-env.ensures.limit
+
+pub make_stmt-returns-in-For-clause-limit : goal.make_stmt-returns-in-For-clause-limit
+make_stmt-returns-in-For-clause-limit t c =
+    let v = visible_in c.args.items.now c.args.statics.now in
+    let e = for_is c.args.stmt.now c.in-For.index c.in-For.low c.in-For.high c.in-For.body c.deref.result.now v (progress_of c.args.begun) c.value_of-from.result c.value_of-to.result c.in-For.is c.deref.ensures.value c.value_of-from.ensures c.value_of-to.ensures in
+    subst (λ (z : Progress). IfErr c.make_turns.result (λ s. IsPast s z.equations)) (sym e) c.make_turns.ensures.limit
+
+pub settle-returns-clause-value : goal.settle-returns-clause-value
+settle-returns-clause-value t c =
+    let v = visible_in c.args.items.now c.args.statics.now in
+    let made_on : List EquationShape → Made = λ es. declared_at_operator (plan_of c.args.body.now).is_operator c.args.width ((plan_of c.args.body.now).making v (streams_in c.args.env.now) es) in
+    let es = c.args.made.ledger.equations.items in
+    let cut_is = shapes_cut c.in_ok-ledger.ledger.equations.items es c.args.first c.in_ok-ledger.ensures in
+    let less : c.len.result < c.args.counted = omega (arith, c.if-counted-len.false) in
+    let is : made_on (shapes_in c.in_ok-ledger.ledger) ≡ longer c.args.counted (made_on (take c.args.first (shapes_in c.args.made.ledger))) (made_of c.args.made) = ap made_on cut_is ∙ sym (longer_counted c.args.counted c.len.result (made_on (take c.args.first (shapes_of es))) es c.args.made.given less (omega arith)) in
+    subst (λ (x : Made). IfOk c.make_body.result (λ m. made_of m ≡ x)) is c.make_body.ensures.value
+
+pub settle-returns-clause-limit : goal.settle-returns-clause-limit
+settle-returns-clause-limit t c =
+    let v = visible_in c.args.items.now c.args.statics.now in
+    let made_on : List EquationShape → Made = λ es. declared_at_operator (plan_of c.args.body.now).is_operator c.args.width ((plan_of c.args.body.now).making v (streams_in c.args.env.now) es) in
+    let es = c.args.made.ledger.equations.items in
+    let cut_is = shapes_cut c.in_ok-ledger.ledger.equations.items es c.args.first c.in_ok-ledger.ensures in
+    let less : c.len.result < c.args.counted = omega (arith, c.if-counted-len.false) in
+    let is : made_on (shapes_in c.in_ok-ledger.ledger) ≡ longer c.args.counted (made_on (take c.args.first (shapes_in c.args.made.ledger))) (made_of c.args.made) = ap made_on cut_is ∙ sym (longer_counted c.args.counted c.len.result (made_on (take c.args.first (shapes_of es))) es c.args.made.given less (omega arith)) in
+    subst (λ (x : Made). IfErr c.make_body.result (λ s. IsPast s x.equations)) is c.make_body.ensures.limit

@@ -1,0 +1,51 @@
+-- What the code keeps.
+use Rattle.std.specs.Prelude.{ℕ, ◌<◌, cond, nat_le, List, length, Option, Some, None, ⊤}
+use Rattle.std.specs.Option.{option_and_then}
+use Rattle.std.specs.Ordering.{nat_cmp}
+use Rattle.std.specs.BTreeMap.{get_by}
+use Rattle.pr_names.specs.Names.{at_name}
+use Rattle.pr_flat.specs.Shape.{shapes_of}
+use Rattle.pr_equations.specs.declared.givens.Standing.{Standing}
+use Rattle.pr_expand.specs.declared.stops.Stop.{Stop}
+use Rattle.pr_expand.specs.declared.stops.Stop.TheVariants.{Limit, Memory}
+use Rattle.pr_expand.specs.declared.ledgers.Ledger.{Ledger}
+use Rattle.pr_expand.specs.declared.ledgers.Made as made
+use Rattle.pr_expand.specs.declared.ledgers.AllMade as all
+use Rattle.pr_expand.specs.declared.ledgers.Progress as progress
+use Rattle.pr_expand.specs.declared.environment.Places.{Places}
+use Rattle.pr_expand.specs.declared.environment.Environment.{Environment}
+use Rattle.pr_equations.specs.Making.{Equations, Made}
+use Rattle.pr_equations.specs.Expressions.{Streams, AllMade}
+use Rattle.pr_equations.specs.Statements.{Progress}
+
+abbrev pub shapes_in : Ledger → Equations
+shapes_in l = shapes_of l.equations.items
+
+abbrev pub made_of : made.Made → Made
+made_of m = record { equations = shapes_in m.ledger; given = m.given }
+
+abbrev pub placed_in : Places → Option ℕ → Option Standing
+placed_in p None = p.alone
+placed_in p (Some n) = get_by (nat_cmp n) p.indexed
+
+-- what an instance stands for, by the places of each name
+abbrev pub streams_by : (List ℕ → Option Places) → Streams
+streams_by m = λ name place. option_and_then (λ (p : Places). placed_in p place) (m name)
+
+abbrev pub streams_in : Environment → Streams
+streams_in e = streams_by (at_name e.map)
+
+abbrev pub all_of : all.AllMade → AllMade
+all_of a = record { equations = shapes_in a.ledger; given = a.given.items }
+
+abbrev pub progress_of : progress.Progress → Progress
+progress_of p = record { streams = streams_in p.env; equations = shapes_in p.ledger }
+
+-- the limit comes where the equations are more than there may be
+abbrev pub IsPast : Stop → Equations → Type 0
+IsPast Limit es = 16384 < length es
+IsPast (Memory e) es = ⊤
+
+-- the body that is made, unless the counted one has more equations
+abbrev pub longer : ℕ → Made → Made → Made
+longer n counted body = cond (nat_le n (length body.equations)) body counted

@@ -1,0 +1,4 @@
+pub mod Keys
+pub mod Code
+pub mod Scopes
+pub mod Worlds

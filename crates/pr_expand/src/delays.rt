@@ -1,0 +1,73 @@
+//! Delays, each of which stands once.
+ghost use Rattle.std.specs.Prelude.{◌≡◌, IfErr, IfOk};
+ghost use Rattle.pr_equations.specs.Making.{delay_from, delayed, delayed_once};
+ghost use Rattle.pr_expand.specs.Code.{IsPast, made_of, shapes_in};
+
+use crate::keys::key_numbers;
+use crate::ledgers::{Ledger, Made};
+use crate::making::one;
+use crate::stops::Stop;
+use pr_equations::Given;
+use pr_flat::{Op, Operand};
+use std::alloc::{AllocError, Global};
+
+/// The number of the first delay of an operand after this number.
+fn find(
+    alloc: Global,
+    ledger: &Ledger,
+    operand: Operand,
+    init: u64,
+) -> Result<Option<u32>, AllocError>
+    ensures { IfOk result (λ o. o ≡ delay_from 0 (shapes_in ledger.now) operand init) }
+{
+    let key = key_numbers(alloc, operand, init)?;
+    Ok(ledger.delays.get(key.as_slice()).copied())
+}
+
+/// One sample earlier.
+fn delay_once(alloc: Global, ledger: Ledger, operand: Operand, init: u64) -> Result<Made, Stop>
+    ensures value { IfOk result (λ m. made_of m ≡ delayed_once operand init (shapes_in ledger)) }
+    ensures limit { IfErr result (λ s. IsPast s (delayed_once operand init (shapes_in ledger)).equations) }
+{
+    match find(alloc, &ledger, operand, init)? {
+        Some(number) => Ok(Made {
+            ledger,
+            given: Given {
+                operand: Operand::Eq(number),
+                signed: false,
+            },
+        }),
+        None => {
+            let given = Given {
+                operand,
+                signed: false,
+            };
+            one(alloc, ledger, Op::Delay(init), given, None)
+        }
+    }
+}
+
+/// So many samples earlier.
+pub fn delay(
+    alloc: Global,
+    ledger: Ledger,
+    given: Given,
+    init: u64,
+    samples: u64,
+) -> Result<Made, Stop>
+    ensures value { IfOk result (λ m. made_of m ≡ delayed samples given init (shapes_in ledger)) }
+    ensures limit { IfErr result (λ s. IsPast s (delayed samples given init (shapes_in ledger)).equations) }
+{
+    let signed = given.signed;
+    let mut ledger = ledger;
+    let mut operand = given.operand;
+    for _k in 0..samples {
+        let once = delay_once(alloc, ledger, operand, init)?;
+        ledger = once.ledger;
+        operand = once.given.operand;
+    }
+    Ok(Made {
+        ledger,
+        given: Given { operand, signed },
+    })
+}

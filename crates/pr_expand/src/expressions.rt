@@ -1,0 +1,588 @@
+//! The equations of expressions and statements, with functions inlined and loops unrolled.
+ghost use Rattle.std.specs.Prelude.{◌≡◌, ◌-◌, IfErr, IfOk, OnOk, None, Some, map, option_map, slice_get, take};
+ghost use Rattle.pr_names.specs.Names.{KeepsNames, known_in};
+ghost use Rattle.pr_equations.specs.Making.{Equations, declare_last};
+ghost use Rattle.pr_equations.specs.Expressions.{all_made, assigned, called, declared_at_operator, declared_else, function_of, made_with, plan_of};
+ghost use Rattle.pr_equations.specs.Statements.{change_of, changes_of, let_change, rec_change, turns, with_index};
+ghost use Rattle.pr_equations.specs.Statements as statements;
+ghost use Rattle.pr_equations.specs.Programs as programs;
+ghost use Rattle.pr_equations.specs.Programs.{no_streams, signed_function};
+ghost use Rattle.pr_expand.specs.Code.{IsPast, all_of, longer, made_of, progress_of, shapes_in, streams_in};
+ghost use Rattle.pr_expand.specs.Scopes.{IsScene, callee_in, defined, visible_in};
+
+use crate::environment::Environment;
+use crate::ledgers::{AllMade, Ledger, Made, Progress, cut};
+use crate::making::{choose, fit, one, two, with_width};
+use crate::operands::{
+    concatenate, declared, gives, op_of, place_at, refer, refer_earlier, shift, value_of,
+};
+use crate::stops::Stop;
+use pr_equations::{Given, Standing};
+use pr_flat::{Op, Operand};
+use pr_lang::{Expr, Fixed, Item, Name, Param, Ref, Stmt};
+use pr_names::{Callee, Static, Statics, amount};
+use std::alloc::Global;
+
+/// The function that a name stands for.
+fn callee_of(statics: &Statics, name: &Name) -> Option<Callee>
+    ensures value { result ≡ callee_in (known_in statics.now name.now) }
+{
+    if let Some(known) = statics.get(name) {
+        if let Static::Function(callee) = known {
+            return Some(*callee);
+        }
+    }
+    None
+}
+
+/// The equations of an expression.
+#[cycle(make)]
+fn make(
+    alloc: Global,
+    items: &[Item],
+    statics: &mut Statics,
+    env: &Environment,
+    ledger: Ledger,
+    expr: &Expr,
+) -> Result<Made, Stop>
+    requires { IsScene items.now statics.old }
+    ensures value { IfOk result (λ m. made_of m ≡ (plan_of expr.now).making (visible_in items.now statics.old) (streams_in env.now) (shapes_in ledger)) }
+    ensures limit { IfErr result (λ s. IsPast s ((plan_of expr.now).making (visible_in items.now statics.old) (streams_in env.now) (shapes_in ledger)).equations) }
+    ensures names { OnOk result (KeepsNames statics.old statics.new) }
+{
+    match expr {
+        Expr::Number(number) => Ok(gives(ledger, Operand::Const(*number), false)),
+        Expr::Refer(target) => Ok(refer(statics, env, ledger, target)),
+        Expr::Delay(target, back) => refer_earlier(alloc, statics, env, ledger, target, back),
+        Expr::Slice(inner, high, low) => {
+            let high = value_of(statics, high);
+            let low = value_of(statics, low);
+            let a = make(alloc, items, statics, env, ledger, inner)?;
+            one(alloc, a.ledger, Op::Slice(high, low), a.given, None)
+        }
+        Expr::Not(inner) => {
+            let a = make(alloc, items, statics, env, ledger, inner)?;
+            one(alloc, a.ledger, Op::Not, a.given, None)
+        }
+        Expr::Binary(op, first, second) => {
+            let by = shift(*op, amount(statics, second));
+            let a = make(alloc, items, statics, env, ledger, first)?;
+            match by {
+                Some(by) => one(alloc, a.ledger, by, a.given, None),
+                None => {
+                    let b = make(alloc, items, statics, env, a.ledger, second)?;
+                    two(alloc, b.ledger, op_of(*op), a.given, b.given)
+                }
+            }
+        }
+        Expr::Choose(condition, first, second) => {
+            let c = make(alloc, items, statics, env, ledger, condition)?;
+            let a = make(alloc, items, statics, env, c.ledger, first)?;
+            let b = make(alloc, items, statics, env, a.ledger, second)?;
+            choose(alloc, b.ledger, c.given, a.given, b.given)
+        }
+        Expr::Call(name, args) => {
+            let all = make_all(alloc, items, statics, env, ledger, args)?;
+            call(alloc, items, statics, name, all)
+        }
+        Expr::Cat(parts) => {
+            let all = make_all(alloc, items, statics, env, ledger, parts)?;
+            concatenate(alloc, all)
+        }
+        Expr::Paren(inner) => make(alloc, items, statics, env, ledger, inner),
+    }
+}
+
+/// The equations of several expressions, one after the other.
+#[cycle(make)]
+fn make_all(
+    alloc: Global,
+    items: &[Item],
+    statics: &mut Statics,
+    env: &Environment,
+    ledger: Ledger,
+    exprs: &[Expr],
+) -> Result<AllMade, Stop>
+    requires { IsScene items.now statics.old }
+    ensures value { IfOk result (λ a. all_of a ≡ all_made (map plan_of exprs.now) (visible_in items.now statics.old) (streams_in env.now) (shapes_in ledger)) }
+    ensures limit { IfErr result (λ s. IsPast s (all_made (map plan_of exprs.now) (visible_in items.now statics.old) (streams_in env.now) (shapes_in ledger)).equations) }
+    ensures names { OnOk result (KeepsNames statics.old statics.new) }
+{
+    let mut ledger = ledger;
+    let mut given = Vec::new(alloc);
+    for expr in exprs {
+        let part = make(alloc, items, statics, env, ledger, expr)?;
+        ledger = part.ledger;
+        match given.push(part.given) {
+            Err(failed) => return Err(Stop::Memory(failed.into())),
+            Ok(()) => {}
+        }
+    }
+    Ok(AllMade { ledger, given })
+}
+
+/// The item of this number.
+fn item_at(items: &[Item], number: u32) -> Option<&Item>
+    ensures { option_map (λ i. i.now) result ≡ slice_get items.now number }
+{
+    let number = number as usize;
+    if number < items.len() {
+        return Some(&items[number]);
+    }
+    None
+}
+
+/// A call, whose arguments are made.
+#[cycle(make)]
+fn call(
+    alloc: Global,
+    items: &[Item],
+    statics: &mut Statics,
+    name: &Name,
+    all: AllMade,
+) -> Result<Made, Stop>
+    requires { IsScene items.now statics.old }
+    ensures value { IfOk result (λ m. made_of m ≡ called (function_of (known_in statics.old name.now) ((visible_in items.now statics.old).functions name.now)) (all_of all)) }
+    ensures limit { IfErr result (λ s. IsPast s (called (function_of (known_in statics.old name.now) ((visible_in items.now statics.old).functions name.now)) (all_of all)).equations) }
+    ensures names { OnOk result (KeepsNames statics.old statics.new) }
+{
+    match callee_of(statics, name) {
+        None => Ok(gives(all.ledger, Operand::Const(0), false)),
+        Some(callee) => match callee.item {
+            None => Ok(signed(all)),
+            Some(item) => {
+                let frame = statics.enter(alloc, item);
+                let made = call_item(alloc, items, statics, item_at(items, item), all)?;
+                statics.leave(frame);
+                Ok(made)
+            }
+        },
+    }
+}
+
+/// The argument, read as signed.
+fn signed(all: AllMade) -> Made
+    ensures { made_of result ≡ signed_function all.given.items (shapes_in all.ledger) }
+{
+    match all.given.as_slice() {
+        [given] => {
+            let operand = given.operand;
+            gives(all.ledger, operand, true)
+        }
+        _ => gives(all.ledger, Operand::Const(0), false),
+    }
+}
+
+/// A call of the function that an item defines.
+#[cycle(make)]
+fn call_item(
+    alloc: Global,
+    items: &[Item],
+    statics: &mut Statics,
+    item: Option<&Item>,
+    all: AllMade,
+) -> Result<Made, Stop>
+    requires { IsScene items.now statics.old }
+    ensures value { IfOk result (λ m. made_of m ≡ defined (option_map (λ i. i.now) item.entry) (visible_in items.now statics.old) all.given.items (shapes_in all.ledger)) }
+    ensures limit { IfErr result (λ s. IsPast s (defined (option_map (λ i. i.now) item.entry) (visible_in items.now statics.old) all.given.items (shapes_in all.ledger)).equations) }
+    ensures names { OnOk result (KeepsNames statics.old statics.new) }
+{
+    match item {
+        None => Ok(gives(all.ledger, Operand::Const(0), false)),
+        Some(item) => match item {
+            Item::Input { name: _, width: _ } => Ok(gives(all.ledger, Operand::Const(0), false)),
+            Item::Output {
+                name: _,
+                width: _,
+                value: _,
+            } => Ok(gives(all.ledger, Operand::Const(0), false)),
+            Item::Const { name: _, value: _ } => { Ok(gives(all.ledger, Operand::Const(0), false)) }
+            Item::Table { name: _, values: _ } => {
+                Ok(gives(all.ledger, Operand::Const(0), false))
+            }
+            Item::Function {
+                name: _,
+                params,
+                width,
+                body,
+                result,
+            } => {
+                let begun = with_arguments(alloc, params, all)?;
+                run(alloc, items, statics, begun, *width, body, result)
+            }
+            Item::Step(_) => Ok(gives(all.ledger, Operand::Const(0), false)),
+        },
+    }
+}
+
+/// The statements of a function's body, and its result.
+#[cycle(make)]
+fn run(
+    alloc: Global,
+    items: &[Item],
+    statics: &mut Statics,
+    begun: Progress,
+    width: Option<u64>,
+    body: &[Stmt],
+    last: &Expr,
+) -> Result<Made, Stop>
+    requires { IsScene items.now statics.old }
+    ensures value { IfOk result (λ m. made_of m ≡ assigned width last.now (visible_in items.now statics.old) (changes_of body.now (visible_in items.now statics.old) (progress_of begun)).streams (changes_of body.now (visible_in items.now statics.old) (progress_of begun)).equations) }
+    ensures limit { IfErr result (λ s. IsPast s (assigned width last.now (visible_in items.now statics.old) (changes_of body.now (visible_in items.now statics.old) (progress_of begun)).streams (changes_of body.now (visible_in items.now statics.old) (progress_of begun)).equations).equations) }
+    ensures names { OnOk result (KeepsNames statics.old statics.new) }
+{
+    let Progress { env, ledger } = make_stmts(alloc, items, statics, begun, body)?;
+    make_assigned(alloc, items, statics, &env, ledger, width, last)
+}
+
+/// An argument under its parameter's declared width.
+fn passed(alloc: Global, ledger: Ledger, width: Option<u64>, given: Given) -> Result<Made, Stop>
+    ensures value { IfOk result (λ m. made_of m ≡ programs.passed width given (shapes_in ledger)) }
+    ensures limit { IfErr result (λ s. IsPast s (programs.passed width given (shapes_in ledger)).equations) }
+{
+    match declared(width) {
+        None => Ok(gives(ledger, given.operand, given.signed)),
+        Some(width) => fit(alloc, ledger, given, width),
+    }
+}
+
+/// The streams of a function's parameters.
+fn with_arguments(alloc: Global, params: &[Param], all: AllMade) -> Result<Progress, Stop>
+    ensures value { IfOk result (λ p. progress_of p ≡ programs.with_arguments params.now all.given.items (record { streams = no_streams; equations = shapes_in all.ledger })) }
+    ensures limit { IfErr result (λ s. IsPast s (programs.with_arguments params.now all.given.items (record { streams = no_streams; equations = shapes_in all.ledger })).equations) }
+{
+    let mut env = Environment::new(alloc);
+    let mut ledger = all.ledger;
+    let count = params.len().min(all.given.len());
+    for i in 0..count {
+        let made = passed(alloc, ledger, params[i].width, all.given[i])?;
+        ledger = made.ledger;
+        let standing = Standing::Stream {
+            given: made.given,
+            init: 0,
+        };
+        env.set(alloc, &params[i].name, None, standing)?;
+    }
+    Ok(Progress { env, ledger })
+}
+
+/// Whether an expression is an operator, without parentheses.
+fn is_operator(expr: &Expr) -> bool
+    ensures { result ≡ (plan_of expr.now).is_operator }
+{
+    match expr {
+        Expr::Number(_) => false,
+        Expr::Refer(_) => false,
+        Expr::Delay(_, _) => false,
+        Expr::Slice(_, _, _) => true,
+        Expr::Not(_) => true,
+        Expr::Binary(_, _, _) => true,
+        Expr::Choose(_, _, _) => true,
+        Expr::Call(_, _) => false,
+        Expr::Cat(parts) => parts.len() >= 2,
+        Expr::Paren(inner) => is_operator(inner),
+    }
+}
+
+/// What is assigned, at its declared width.
+#[cycle(make)]
+pub fn make_assigned(
+    alloc: Global,
+    items: &[Item],
+    statics: &mut Statics,
+    env: &Environment,
+    ledger: Ledger,
+    width: Option<u64>,
+    expr: &Expr,
+) -> Result<Made, Stop>
+    requires { IsScene items.now statics.old }
+    ensures value { IfOk result (λ m. made_of m ≡ assigned width expr.now (visible_in items.now statics.old) (streams_in env.now) (shapes_in ledger)) }
+    ensures limit { IfErr result (λ s. IsPast s (assigned width expr.now (visible_in items.now statics.old) (streams_in env.now) (shapes_in ledger)).equations) }
+    ensures names { OnOk result (KeepsNames statics.old statics.new) }
+{
+    let width = declared(width);
+    let made = make(alloc, items, statics, env, ledger, expr)?;
+    assign(alloc, made, width, is_operator(expr))
+}
+
+/// A declared width for what is made.
+fn assign(alloc: Global, made: Made, width: Option<u8>, operator: bool) -> Result<Made, Stop>
+    ensures value { IfOk result (λ m. made_of m ≡ declared_else operator width (declared_at_operator operator width (made_of made))) }
+    ensures limit { IfErr result (λ s. IsPast s (declared_else operator width (declared_at_operator operator width (made_of made))).equations) }
+{
+    match width {
+        None => Ok(made),
+        Some(width) => {
+            if operator {
+                Ok(declare(made, width))
+            } else {
+                fit(alloc, made.ledger, made.given, width)
+            }
+        }
+    }
+}
+
+/// The operator's own equation gets the declared width.
+fn declare(made: Made, width: u8) -> Made
+    ensures { made_of result ≡ made_with (made_of made) (declare_last width (shapes_in made.ledger)) }
+{
+    Made {
+        ledger: with_width(made.ledger, width),
+        given: made.given,
+    }
+}
+
+/// The equations of statements, one after the other.
+#[cycle(make)]
+fn make_stmts(
+    alloc: Global,
+    items: &[Item],
+    statics: &mut Statics,
+    begun: Progress,
+    stmts: &[Stmt],
+) -> Result<Progress, Stop>
+    requires { IsScene items.now statics.old }
+    ensures value { IfOk result (λ p. progress_of p ≡ changes_of stmts.now (visible_in items.now statics.old) (progress_of begun)) }
+    ensures limit { IfErr result (λ s. IsPast s (changes_of stmts.now (visible_in items.now statics.old) (progress_of begun)).equations) }
+    ensures names { OnOk result (KeepsNames statics.old statics.new) }
+{
+    let mut at = begun;
+    for stmt in stmts {
+        at = make_stmt(alloc, items, statics, at, stmt)?;
+    }
+    Ok(at)
+}
+
+/// The equations of a statement.
+#[cycle(make)]
+pub fn make_stmt(
+    alloc: Global,
+    items: &[Item],
+    statics: &mut Statics,
+    begun: Progress,
+    stmt: &Stmt,
+) -> Result<Progress, Stop>
+    requires { IsScene items.now statics.old }
+    ensures value { IfOk result (λ p. progress_of p ≡ change_of stmt.now (visible_in items.now statics.old) (progress_of begun)) }
+    ensures limit { IfErr result (λ s. IsPast s (change_of stmt.now (visible_in items.now statics.old) (progress_of begun)).equations) }
+    ensures names { OnOk result (KeepsNames statics.old statics.new) }
+{
+    match stmt {
+        Stmt::Let {
+            target,
+            width,
+            value,
+        } => make_let(alloc, items, statics, begun, target, *width, value),
+        Stmt::Rec {
+            target,
+            width,
+            init,
+            body,
+        } => make_rec(alloc, items, statics, begun, target, *width, init, body),
+        Stmt::For {
+            index,
+            low,
+            high,
+            body,
+        } => {
+            let from = value_of(statics, low);
+            let to = value_of(statics, high);
+            make_turns(alloc, items, statics, begun, index, from, to, body)
+        }
+    }
+}
+
+/// The turns of a loop.
+#[cycle(make)]
+fn make_turns(
+    alloc: Global,
+    items: &[Item],
+    statics: &mut Statics,
+    begun: Progress,
+    index: &Name,
+    from: u64,
+    to: u64,
+    body: &[Stmt],
+) -> Result<Progress, Stop>
+    requires { IsScene items.now statics.old }
+    ensures value { IfOk result (λ p. progress_of p ≡ turns (to - from) from (λ at. changes_of body.now (with_index index.now at (visible_in items.now statics.old))) (progress_of begun)) }
+    ensures limit { IfErr result (λ s. IsPast s (turns (to - from) from (λ at. changes_of body.now (with_index index.now at (visible_in items.now statics.old))) (progress_of begun)).equations) }
+    ensures names { OnOk result (KeepsNames statics.old statics.new) }
+{
+    let mut now = begun;
+    for at in from..to {
+        now = make_turn(alloc, items, statics, now, index, at, body)?;
+    }
+    Ok(now)
+}
+
+/// One turn of a loop, with the index at this value.
+#[cycle(make)]
+fn make_turn(
+    alloc: Global,
+    items: &[Item],
+    statics: &mut Statics,
+    begun: Progress,
+    index: &Name,
+    at: u64,
+    body: &[Stmt],
+) -> Result<Progress, Stop>
+    requires { IsScene items.now statics.old }
+    ensures value { IfOk result (λ p. progress_of p ≡ changes_of body.now (with_index index.now at (visible_in items.now statics.old)) (progress_of begun)) }
+    ensures limit { IfErr result (λ s. IsPast s (changes_of body.now (with_index index.now at (visible_in items.now statics.old)) (progress_of begun)).equations) }
+    ensures names { OnOk result (KeepsNames statics.old statics.new) }
+{
+    let was = statics.swap_index(alloc, index, Some(Static::Index(at)))?;
+    let ended = make_stmts(alloc, items, statics, begun, body)?;
+    let _turn = statics.swap_index(alloc, index, was)?;
+    Ok(ended)
+}
+
+/// An assignment.
+#[cycle(make)]
+fn make_let(
+    alloc: Global,
+    items: &[Item],
+    statics: &mut Statics,
+    begun: Progress,
+    target: &Ref,
+    width: Option<u64>,
+    value: &Expr,
+) -> Result<Progress, Stop>
+    requires { IsScene items.now statics.old }
+    ensures value { IfOk result (λ p. progress_of p ≡ let_change target.now width value.now (visible_in items.now statics.old) (progress_of begun)) }
+    ensures limit { IfErr result (λ s. IsPast s (let_change target.now width value.now (visible_in items.now statics.old) (progress_of begun)).equations) }
+    ensures names { OnOk result (KeepsNames statics.old statics.new) }
+{
+    let at = place_at(statics, target);
+    let Progress { env, ledger } = begun;
+    let made = make_assigned(alloc, items, statics, &env, ledger, width, value)?;
+    named(alloc, env, &target.name, at, made)
+}
+
+/// An instance that is assigned; it is 0 before its first sample.
+pub fn named(
+    alloc: Global,
+    env: Environment,
+    name: &Name,
+    at: Option<u64>,
+    made: Made,
+) -> Result<Progress, Stop>
+    ensures value { IfOk result (λ p. progress_of p ≡ statements.named name.now at (streams_in env) (made_of made)) }
+    ensures limit { (es : Equations) → IfErr result (λ s. IsPast s es) }
+{
+    let mut env = env;
+    let standing = Standing::Stream {
+        given: made.given,
+        init: 0,
+    };
+    env.set(alloc, name, at, standing)?;
+    Ok(Progress {
+        env,
+        ledger: made.ledger,
+    })
+}
+
+/// The body of a recurrence of this number.
+#[cycle(make)]
+fn make_body(
+    alloc: Global,
+    items: &[Item],
+    statics: &mut Statics,
+    env: &Environment,
+    ledger: Ledger,
+    width: Option<u8>,
+    body: &Expr,
+) -> Result<Made, Stop>
+    requires { IsScene items.now statics.old }
+    ensures value { IfOk result (λ m. made_of m ≡ declared_at_operator (plan_of body.now).is_operator width ((plan_of body.now).making (visible_in items.now statics.old) (streams_in env.now) (shapes_in ledger))) }
+    ensures limit { IfErr result (λ s. IsPast s (declared_at_operator (plan_of body.now).is_operator width ((plan_of body.now).making (visible_in items.now statics.old) (streams_in env.now) (shapes_in ledger))).equations) }
+    ensures names { OnOk result (KeepsNames statics.old statics.new) }
+{
+    let made = make(alloc, items, statics, env, ledger, body)?;
+    match width {
+        None => Ok(made),
+        Some(width) => {
+            if is_operator(body) {
+                Ok(declare(made, width))
+            } else {
+                Ok(made)
+            }
+        }
+    }
+}
+
+/// The body of a recurrence that stands: the one that is made, unless the counted one has more equations. Then that one is made
+/// again.
+#[cycle(make)]
+fn settle(
+    alloc: Global,
+    items: &[Item],
+    statics: &mut Statics,
+    env: &Environment,
+    first: usize,
+    counted: u32,
+    made: Made,
+    width: Option<u8>,
+    body: &Expr,
+) -> Result<Made, Stop>
+    requires { IsScene items.now statics.old }
+    ensures value { IfOk result (λ m. made_of m ≡ longer counted (declared_at_operator (plan_of body.now).is_operator width ((plan_of body.now).making (visible_in items.now statics.old) (streams_in env.now) (take first (shapes_in made.ledger)))) (made_of made)) }
+    ensures limit { IfErr result (λ s. IsPast s (longer counted (declared_at_operator (plan_of body.now).is_operator width ((plan_of body.now).making (visible_in items.now statics.old) (streams_in env.now) (take first (shapes_in made.ledger)))) (made_of made)).equations) }
+    ensures names { OnOk result (KeepsNames statics.old statics.new) }
+{
+    if counted as usize <= made.ledger.equations.len() {
+        return Ok(made);
+    }
+    let ledger = cut(alloc, made.ledger, first)?;
+    make_body(alloc, items, statics, env, ledger, width, body)
+}
+
+/// A recurrence: its body is made once to count its equations, and once more when its number is known.
+#[cycle(make)]
+fn make_rec(
+    alloc: Global,
+    items: &[Item],
+    statics: &mut Statics,
+    begun: Progress,
+    target: &Ref,
+    width: Option<u64>,
+    init: &Fixed,
+    body: &Expr,
+) -> Result<Progress, Stop>
+    requires { IsScene items.now statics.old }
+    ensures value { IfOk result (λ p. progress_of p ≡ rec_change target.now width init.now body.now (visible_in items.now statics.old) (progress_of begun)) }
+    ensures limit { IfErr result (λ s. IsPast s (rec_change target.now width init.now body.now (visible_in items.now statics.old) (progress_of begun)).equations) }
+    ensures names { OnOk result (KeepsNames statics.old statics.new) }
+{
+    let at = place_at(statics, target);
+    let init = value_of(statics, init);
+    let width = declared(width);
+    let Progress { env, ledger } = begun;
+    let mut env = env;
+    let first = ledger.equations.len();
+    env.set(alloc, &target.name, at, Standing::Own(0))?;
+    let counted = make_body(alloc, items, statics, &env, ledger, width, body)?;
+    let number = counted.ledger.equations.len() as u32;
+    let ledger = cut(alloc, counted.ledger, first)?;
+    env.set(alloc, &target.name, at, Standing::Own(number))?;
+    let made = make_body(alloc, items, statics, &env, ledger, width, body)?;
+    env.set(alloc, &target.name, at, Standing::Own(0))?;
+    let made = settle(
+        alloc, items, statics, &env, first, number, made, width, body,
+    )?;
+    let op = Op::Rec {
+        init,
+        first: first as u32,
+    };
+    let made = one(alloc, made.ledger, op, made.given, width)?;
+    let given = Given {
+        operand: made.given.operand,
+        signed: false,
+    };
+    env.set(alloc, &target.name, at, Standing::Stream { given, init })?;
+    Ok(Progress {
+        env,
+        ledger: made.ledger,
+    })
+}

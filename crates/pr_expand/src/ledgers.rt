@@ -1,0 +1,94 @@
+//! The equations so far.
+ghost use Rattle.std.specs.Prelude.{◌≡◌, ℕ, ◌≤◌, ◌-◌, [], vec_len, IfOk, take};
+ghost use Rattle.std.proofs.Props.{props};
+ghost use Rattle.pr_names.specs.Names.{at_name};
+ghost use Rattle.pr_flat.specs.declared.equations.Operand.{Operand};
+ghost use Rattle.pr_flat.specs.Shape.{shapes_of};
+ghost use Rattle.pr_equations.specs.Making.{delay_from};
+ghost use Rattle.pr_expand.specs.Keys.{delay_key};
+
+use crate::environment::Environment;
+use crate::keys::{forgotten, key_of};
+use pr_equations::Given;
+use pr_flat::{Equation, Operand};
+use std::alloc::{AllocError, Global};
+use std::collections::BTreeMap;
+
+/// The equations so far, in order, and the first delay of each operand after each number.
+#[derive(Debug, Drop)]
+pub struct Ledger {
+    pub equations: Vec<Equation>,
+    pub delays: BTreeMap<Vec<u64>, u32>,
+    pub ghost few: { vec_len equations ≤ 16384 },
+    pub ghost found: { (q : Operand) (c : ℕ) → at_name delays (delay_key q c) ≡ delay_from 0 (shapes_of equations.items) q c } by { Prim.hlevel props },
+}
+
+/// What comes of an expression: the equations with its own, and its operand.
+#[derive(Debug, Drop)]
+pub struct Made {
+    pub ledger: Ledger,
+    pub given: Given,
+}
+
+/// What comes of several expressions.
+#[derive(Debug, Drop)]
+pub struct AllMade {
+    pub ledger: Ledger,
+    pub given: Vec<Given>,
+}
+
+/// The streams that are assigned, and the equations so far.
+#[derive(Drop)]
+pub struct Progress {
+    pub env: Environment,
+    pub ledger: Ledger,
+}
+
+/// The equations of a program, and what each of its outputs gives.
+#[derive(Debug, Drop)]
+pub struct Expansion {
+    pub equations: Vec<Equation>,
+    pub outputs: Vec<Operand>,
+    pub ghost few: { vec_len equations ≤ 16384 },
+}
+
+/// No equations.
+pub fn no_equations(alloc: Global) -> Ledger
+    ensures { result.equations.items ≡ [] }
+{
+    Ledger {
+        equations: Vec::new(alloc),
+        delays: BTreeMap::new(alloc),
+    }
+}
+
+/// The equations but for the last one.
+fn without_last(alloc: Global, ledger: Ledger) -> Result<Ledger, AllocError>
+    ensures equations { IfOk result (λ l. l.equations.items ≡ take (vec_len ledger.equations - 1) ledger.equations.items) }
+    ensures count { IfOk result (λ l. vec_len l.equations ≡ vec_len ledger.equations - 1) }
+{
+    let Ledger {
+        mut equations,
+        delays,
+    } = ledger;
+    match equations.pop() {
+        None => Ok(Ledger { equations, delays }),
+        Some(last) => {
+            let key = key_of(alloc, &last)?;
+            let number = equations.len() as u32;
+            let delays = forgotten(delays, key, number);
+            Ok(Ledger { equations, delays })
+        }
+    }
+}
+
+/// The first equations, so many.
+pub fn cut(alloc: Global, ledger: Ledger, count: usize) -> Result<Ledger, AllocError>
+    ensures { IfOk result (λ l. l.equations.items ≡ take count ledger.equations.items) }
+{
+    let mut ledger = ledger;
+    'shorter: while ledger.equations.len() > count {
+        ledger = without_last(alloc, ledger)?;
+    }
+    Ok(ledger)
+}

@@ -1,0 +1,299 @@
+//! Equations that are made one after the other.
+ghost use Rattle.std.specs.Prelude.{◌≡◌, ◌++◌, [], ◌∷◌, false, IfErr, IfOk, Some, None, length};
+ghost use Rattle.pr_flat.specs.Shape.{equation_shape};
+ghost use Rattle.pr_equations.specs.Making.{declare_last, fitted, is_signed, kinds_read, made, with_equation};
+ghost use Rattle.pr_expand.specs.Code.{IsPast, made_of, shapes_in};
+
+use crate::keys::{key_of, noted};
+use crate::ledgers::{Ledger, Made};
+use crate::stops::Stop;
+use pr_equations::Given;
+use pr_flat::{Equation, Op, Operand};
+use std::alloc::{AllocError, Global};
+
+/// The most equations that a program may have.
+const MOST_EQUATIONS: usize = 16384;
+
+/// One equation more.
+fn push(alloc: Global, ledger: Ledger, equation: Equation, signed: bool) -> Result<Made, Stop>
+    ensures value { IfOk result (λ m. made_of m ≡ made (shapes_in ledger ++ equation_shape equation ∷ []) (Operand.Eq (length (shapes_in ledger))) signed) }
+    ensures limit { IfErr result (λ s. IsPast s (shapes_in ledger ++ equation_shape equation ∷ [])) }
+{
+    let Ledger {
+        mut equations,
+        delays,
+    } = ledger;
+    let number = equations.len();
+    if number >= MOST_EQUATIONS {
+        return Err(Stop::Limit);
+    }
+    let key = key_of(alloc, &equation)?;
+    let delays = noted(delays, key, number as u32)?;
+    match equations.push(equation) {
+        Err(failed) => Err(Stop::Memory(failed.into())),
+        Ok(()) => Ok(Made {
+            ledger: Ledger { equations, delays },
+            given: Given {
+                operand: Operand::Eq(number as u32),
+                signed,
+            },
+        }),
+    }
+}
+
+/// An equation on one operand.
+fn on_one(
+    alloc: Global,
+    op: Op,
+    a: Operand,
+    declared: Option<u8>,
+    kind: bool,
+) -> Result<Equation, AllocError>
+    ensures { IfOk result (λ e. equation_shape e ≡ record { op = op; args = a ∷ []; declared = declared; kinds = kind ∷ [] }) }
+{
+    Ok(Equation {
+        op,
+        args: vec![in alloc; a]?,
+        declared,
+        kinds: vec![in alloc; kind]?,
+    })
+}
+
+/// An equation on two operands.
+fn on_two(
+    alloc: Global,
+    op: Op,
+    a: Operand,
+    b: Operand,
+    first: bool,
+    second: bool,
+) -> Result<Equation, AllocError>
+    ensures { IfOk result (λ e. equation_shape e ≡ record { op = op; args = a ∷ b ∷ []; declared = None; kinds = first ∷ second ∷ [] }) }
+{
+    Ok(Equation {
+        op,
+        args: vec![in alloc; a, b]?,
+        declared: None,
+        kinds: vec![in alloc; first, second]?,
+    })
+}
+
+/// A choice of two operands.
+fn on_three(
+    alloc: Global,
+    c: Operand,
+    a: Operand,
+    b: Operand,
+    first: bool,
+    second: bool,
+) -> Result<Equation, AllocError>
+    ensures { IfOk result (λ e. equation_shape e ≡ record { op = Op.Choose; args = c ∷ a ∷ b ∷ []; declared = None; kinds = false ∷ first ∷ second ∷ [] }) }
+{
+    Ok(Equation {
+        op: Op::Choose,
+        args: vec![in alloc; c, a, b]?,
+        declared: None,
+        kinds: vec![in alloc; false, first, second]?,
+    })
+}
+
+/// How an operation reads its one operand.
+fn kind_of_one(op: Op, a: bool) -> bool
+    ensures { kinds_read op (a ∷ []) ≡ result ∷ [] }
+{
+    match op {
+        Op::Input => a,
+        Op::Add => a,
+        Op::Sub => a,
+        Op::Mul => a,
+        Op::And => a,
+        Op::Or => a,
+        Op::Xor => a,
+        Op::Not => a,
+        Op::Equal => a,
+        Op::NotEqual => a,
+        Op::Less => a,
+        Op::LessEqual => a,
+        Op::Greater => a,
+        Op::GreaterEqual => a,
+        Op::Choose => false,
+        Op::Left(_) => a,
+        Op::Right(_) => a,
+        Op::LeftBy => a,
+        Op::RightBy => a,
+        Op::Slice(_, _) => false,
+        Op::Cat => false,
+        Op::Fit => a,
+        Op::Delay(_) => false,
+        Op::Rec { init: _, first: _ } => a,
+    }
+}
+
+/// Whether an operation on one operand gives a signed result.
+fn signed_of_one(op: Op, a: bool) -> bool
+    ensures { is_signed op (a ∷ []) ≡ result }
+{
+    match op {
+        Op::Input => false,
+        Op::Add => false,
+        Op::Sub => false,
+        Op::Mul => false,
+        Op::And => false,
+        Op::Or => false,
+        Op::Xor => false,
+        Op::Not => a,
+        Op::Equal => false,
+        Op::NotEqual => false,
+        Op::Less => false,
+        Op::LessEqual => false,
+        Op::Greater => false,
+        Op::GreaterEqual => false,
+        Op::Choose => false,
+        Op::Left(_) => a,
+        Op::Right(_) => a,
+        Op::LeftBy => false,
+        Op::RightBy => false,
+        Op::Slice(_, _) => false,
+        Op::Cat => false,
+        Op::Fit => a,
+        Op::Delay(_) => a,
+        Op::Rec { init: _, first: _ } => false,
+    }
+}
+
+/// An input.
+pub fn input(alloc: Global, ledger: Ledger, width: u8) -> Result<Made, Stop>
+    ensures value { IfOk result (λ m. made_of m ≡ with_equation Op.Input [] (Some width) (shapes_in ledger)) }
+    ensures limit { IfErr result (λ s. IsPast s (with_equation Op.Input [] (Some width) (shapes_in ledger)).equations) }
+{
+    let equation = Equation {
+        op: Op::Input,
+        args: Vec::new(alloc),
+        declared: Some(width),
+        kinds: Vec::new(alloc),
+    };
+    push(alloc, ledger, equation, false)
+}
+
+/// An operation on one operand.
+pub fn one(
+    alloc: Global,
+    ledger: Ledger,
+    op: Op,
+    a: Given,
+    declared: Option<u8>,
+) -> Result<Made, Stop>
+    ensures value { IfOk result (λ m. made_of m ≡ with_equation op (a ∷ []) declared (shapes_in ledger)) }
+    ensures limit { IfErr result (λ s. IsPast s (with_equation op (a ∷ []) declared (shapes_in ledger)).equations) }
+{
+    let kind = kind_of_one(op, a.signed);
+    let equation = on_one(alloc, op, a.operand, declared, kind)?;
+    push(alloc, ledger, equation, signed_of_one(op, kind))
+}
+
+/// How an operation reads its two operands.
+fn kinds_of_two(op: Op, a: bool, b: bool) -> (bool, bool)
+    ensures { kinds_read op (a ∷ b ∷ []) ≡ result.0 ∷ result.1 ∷ [] }
+{
+    match op {
+        Op::Input => (a, b),
+        Op::Add => (a, b),
+        Op::Sub => (a, b),
+        Op::Mul => (a, b),
+        Op::And => (a, b),
+        Op::Or => (a, b),
+        Op::Xor => (a, b),
+        Op::Not => (a, b),
+        Op::Equal => (a, b),
+        Op::NotEqual => (a, b),
+        Op::Less => (a, b),
+        Op::LessEqual => (a, b),
+        Op::Greater => (a, b),
+        Op::GreaterEqual => (a, b),
+        Op::Choose => (false, b),
+        Op::Left(_) => (a, b),
+        Op::Right(_) => (a, b),
+        Op::LeftBy => (a, false),
+        Op::RightBy => (a, false),
+        Op::Slice(_, _) => (false, false),
+        Op::Cat => (false, false),
+        Op::Fit => (a, b),
+        Op::Delay(_) => (false, false),
+        Op::Rec { init: _, first: _ } => (a, b),
+    }
+}
+
+/// Whether an operation on two operands gives a signed result.
+fn signed_of_two(op: Op, a: bool, b: bool) -> bool
+    ensures { is_signed op (a ∷ b ∷ []) ≡ result }
+{
+    match op {
+        Op::Input => false,
+        Op::Add => a || b,
+        Op::Sub => a || b,
+        Op::Mul => a || b,
+        Op::And => a || b,
+        Op::Or => a || b,
+        Op::Xor => a || b,
+        Op::Not => false,
+        Op::Equal => false,
+        Op::NotEqual => false,
+        Op::Less => false,
+        Op::LessEqual => false,
+        Op::Greater => false,
+        Op::GreaterEqual => false,
+        Op::Choose => false,
+        Op::Left(_) => false,
+        Op::Right(_) => false,
+        Op::LeftBy => a,
+        Op::RightBy => a,
+        Op::Slice(_, _) => false,
+        Op::Cat => false,
+        Op::Fit => false,
+        Op::Delay(_) => false,
+        Op::Rec { init: _, first: _ } => false,
+    }
+}
+
+/// An operation on two operands.
+pub fn two(alloc: Global, ledger: Ledger, op: Op, a: Given, b: Given) -> Result<Made, Stop>
+    ensures value { IfOk result (λ m. made_of m ≡ with_equation op (a ∷ b ∷ []) None (shapes_in ledger)) }
+    ensures limit { IfErr result (λ s. IsPast s (with_equation op (a ∷ b ∷ []) None (shapes_in ledger)).equations) }
+{
+    let (first, second) = kinds_of_two(op, a.signed, b.signed);
+    let equation = on_two(alloc, op, a.operand, b.operand, first, second)?;
+    push(alloc, ledger, equation, signed_of_two(op, first, second))
+}
+
+/// The first of two operands where the condition is 1, and else the second.
+pub fn choose(alloc: Global, ledger: Ledger, c: Given, a: Given, b: Given) -> Result<Made, Stop>
+    ensures value { IfOk result (λ m. made_of m ≡ with_equation Op.Choose (c ∷ a ∷ b ∷ []) None (shapes_in ledger)) }
+    ensures limit { IfErr result (λ s. IsPast s (with_equation Op.Choose (c ∷ a ∷ b ∷ []) None (shapes_in ledger)).equations) }
+{
+    let equation = on_three(alloc, c.operand, a.operand, b.operand, a.signed, b.signed)?;
+    push(alloc, ledger, equation, a.signed || b.signed)
+}
+
+/// The same operand, under a declared width.
+pub fn fit(alloc: Global, ledger: Ledger, a: Given, width: u8) -> Result<Made, Stop>
+    ensures value { IfOk result (λ m. made_of m ≡ fitted width a (shapes_in ledger)) }
+    ensures limit { IfErr result (λ s. IsPast s (fitted width a (shapes_in ledger)).equations) }
+{
+    one(alloc, ledger, Op::Fit, a, Some(width))
+}
+
+/// The last equation gets a declared width.
+pub fn with_width(ledger: Ledger, width: u8) -> Ledger
+    ensures { shapes_in result ≡ declare_last width (shapes_in ledger) }
+{
+    let Ledger {
+        mut equations,
+        delays,
+    } = ledger;
+    let count = equations.len();
+    if count == 0 {
+        return Ledger { equations, delays };
+    }
+    equations[count - 1].declared = Some(width);
+    Ledger { equations, delays }
+}
