@@ -3,3 +3,4 @@ pub mod Reading
 pub mod Rules
 pub mod Marks
 pub mod Outcome
+pub mod Fabrics

@@ -1,5 +1,5 @@
 -- Checkpoints: a count of samples before a configuration in format 2.
-use Rattle.std.specs.Prelude.{◌≡◌, ◌≤◌, ℕ, ◌+◌, ◌*◌, ◌/◌, ◌%◌, ◌^◌, ◌==◌, Bool, true, nat_le, List, [], ◌∷◌, ◌++◌, slice_index, Option, None}
+use Rattle.std.specs.Prelude.{◌≡◌, ◌≤◌, ℕ, ◌+◌, ◌*◌, ◌/◌, ◌%◌, ◌^◌, ◌==◌, true, nat_le, List, [], ◌∷◌, ◌++◌, slice_index, Option, None}
 use Rattle.pr_conf.specs.Shape.{Shape}
 use Rattle.pr_code.specs.Spelling.{format_2, bytes_of_words, words_of, are_widths_within}
 use Rattle.pr_code.specs.Reading.{words_of_bytes}
@@ -27,10 +27,6 @@ mark_rules words =
 unfoldable pub bad_mark : ℕ → ℕ → List ℕ → Option Broken
 bad_mark N P bytes =
     or_else (first_broken (mark_rules (words_of_bytes bytes)) 0 (words_of_bytes bytes)) (bad_from format_2 N P 3 bytes)
-
--- the second word of a file for the wide fabric, 32 columns and 16 registers
-abbrev pub is_wide : List ℕ → Bool
-is_wide bytes = slice_index (words_of_bytes bytes) 1 == 0x200010
 
 -- a file of a checkpoint
 pub record IsMark (N P count : ℕ) (c : Shape) (bytes : List ℕ) : Type 0 where

@@ -1,6 +1,7 @@
 //! Which fabric a configuration is for.
 
-ghost use Rattle.std.specs.Prelude.{◌≡◌, ◌↔◌, ◌∷◌, [], take, drop};
+ghost use Rattle.std.specs.Prelude.{◌≡◌, ◌↔◌};
+ghost use Rattle.pr_code.specs.Fabrics.{second_word, wide_word};
 
 /// A fabric of the product.
 #[derive(Clone, Copy, PartialEq, Eq, Debug)]
@@ -14,7 +15,7 @@ pub enum Fabric {
 /// The fabric that a file's second word names: the wide one where it says 32 columns and 16 registers, and else the
 /// base one.
 pub fn fabric_of(bytes: &[u8]) -> Fabric
-    ensures { (result ≡ Fabric.Wide) ↔ (take 4 (drop 4 bytes.now) ≡ 0 ∷ 32 ∷ 0 ∷ 16 ∷ []) }
+    ensures { (result ≡ Fabric.Wide) ↔ (second_word bytes.now ≡ wide_word) }
 {
     match bytes {
         [_, _, _, _, 0, 32, 0, 16, ..] => Fabric::Wide,

@@ -26,7 +26,7 @@ use Rattle.pr_exec.specs.Ready.{IsReady}
 use Rattle.pr_exec.specs.Runs.{Course, course, outcome_by, events_on, HasAll, IsWhole, IsBroken, IsBegun, IsStopped, IsEnd, IsRun}
 
 -- ---- the samples
-fed_is : (widths ws : List ℕ) (limit most : ℕ) (file : List ℕ) → ws ≡ widths → limit ≡ 2 ^ 44 → most ≡ 2 ^ 40 → fed_of ws limit most file ≡ fed_in widths file
+pub fed_is : (widths ws : List ℕ) (limit most : ℕ) (file : List ℕ) → ws ≡ widths → limit ≡ 2 ^ 44 → most ≡ 2 ^ 40 → fed_of ws limit most file ≡ fed_in widths file
 unfolding fed_in
 fed_is widths ws limit most file w l m = ap (λ (x : List ℕ). fed_of x limit most file) w ∙ (ap (λ (n : ℕ). fed_of widths n most file) l ∙ ap (λ (n : ℕ). fed_of widths (2 ^ 44) n file) m)
 

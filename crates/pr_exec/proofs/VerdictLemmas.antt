@@ -20,11 +20,27 @@ use Rattle.pr_modes.proofs.VerdictLemmas.{passes_configuration}
 use Rattle.pr_exec.specs.Stalls.{HasStall, after_text, after_stall, bad_or, first_bad}
 use Rattle.pr_exec.specs.Samples.{ended_by, samples_verdict, run_verdict}
 use Rattle.pr_exec.specs.Runs.{Course, course, HasAll, IsEnd}
-use Rattle.pr_exec.specs.Executions.{Job, HasRun, IsNoStall, HasExecuted, IsVerdict}
+use Rattle.pr_exec.specs.Executions.{Job, HasRun, IsNoStall, IsNeither, HasExecuted, IsVerdict}
 
 -- a count that rose later rose
 pub rose_earlier : (a b c : ℕ) → a ≤ b → Rose b c → Rose a c
 rose_earlier a b c le rose = omega (arith, le, rose)
+
+-- what a run was made of was read before
+pub later_run : {N P : ℕ} (j : Job) (before mid now : View) (old new : Tape) (c : Shape) (machine : Going N P) (outcome : Outcome)
+    → mid.told ≡ before.told → before.faults ≤ mid.faults → ((q : List ℕ) → q ≢ j.first → mid.reach q ≡ before.reach q)
+    → HasRun (IsNoStall j) c j mid now old new machine outcome → HasRun (IsNeither j) c j before now old new machine outcome
+later_run j before mid now old new c machine outcome told later reach run = record {
+  turns = run.turns;
+  stall = subst (λ (t : Told). HasStall t j.stall run.turns) told run.stall;
+  start = run.start;
+  later = record {
+    told = run.later.told ∙ told;
+    faults = omega (arith, later, run.later.faults);
+    reach = λ q kept. run.later.reach q kept.1 ∙ reach q kept.0;
+  };
+  run = run.run;
+}
 
 -- the file of the configuration was read before
 pub has_executed : {N P : ℕ} (j : Job) (before mid now : View) (old new : Tape) (c : Shape) (machine : Going N P) (outcome : Outcome) → HasConfiguration before.told j.first N P c
@@ -33,17 +49,7 @@ pub has_executed : {N P : ℕ} (j : Job) (before mid now : View) (old new : Tape
 has_executed j before mid now old new c machine outcome has told later reach run = record {
   conf = c;
   configuration = has;
-  run = record {
-    turns = run.turns;
-    stall = subst (λ (t : Told). HasStall t j.stall run.turns) told run.stall;
-    start = run.start;
-    later = record {
-      told = run.later.told ∙ told;
-      faults = omega (arith, later, run.later.faults);
-      reach = λ q kept. run.later.reach q kept.1 ∙ reach q kept.0;
-    };
-    run = run.run;
-  };
+  run = later_run j before mid now old new c machine outcome told later reach run;
 }
 
 -- ---- the verdict
@@ -71,33 +77,47 @@ end_owed : (N P : ℕ) (files : List ℕ → Option (List ℕ)) (r : Course) (ro
 end_owed N P files r rows h Outcome.Done sb ob on is le write end = inl (sym (file_end files r rows End is end.0))
 end_owed N P files r rows h (Outcome.Limit which) sb ob on is le write end = inl (sym (file_end files r rows (Limit which) is end.0))
 end_owed N P files r rows h (Outcome.BadSample line) sb ob on is le write end = inl (sym (file_end files r rows (BadSample line) is end.0))
+end_owed N P files r rows h (Outcome.Syntax token) sb ob on is le write end = absurd end
+end_owed N P files r rows h (Outcome.Scope rule item) sb ob on is le write end = absurd end
+end_owed N P files r rows h (Outcome.NoWidth equation) sb ob on is le write end = absurd end
 end_owed N P files r rows h (Outcome.BadConfig rule place) sb ob on is le write end = absurd end
 end_owed N P files r rows h (Outcome.BadStall place) sb ob on is le write end = absurd end
 end_owed N P files r rows h Outcome.Memory sb ob on is le write end = absurd end
+end_owed N P files r rows h Outcome.NotYet sb ob on is le write end = absurd end
 end_owed N P files r rows h Outcome.WriteFault sb ob on is le write end = inr (inr (inl (refl, write refl)))
 end_owed N P files r rows h Outcome.ReadFault sb ob on is le write end = elim (subst (λ (t : Told). HasReadCause t r.name r.start.faults r.now.faults) is end.0.cause) as (λ k. IsOwed (samples_verdict r.conf.inputs (files r.name)) sb r.now.faults ob on Outcome.ReadFault) [
   | inl missing ↦ inl (sym (ap (λ (o : Option (List ℕ)). samples_verdict r.conf.inputs o) missing))
   | inr rose ↦ inr (inl (refl, rose_earlier sb r.start.faults r.now.faults le rose))
 ]
 
+-- the stall file and the samples decide where the configuration is there
+pub ran_owed : {N P : ℕ} (j : Job) (before now : View) (old new : Tape) (c : Shape) (machine : Going N P) (outcome : Outcome) (files : List ℕ → Option (List ℕ)) (ob on : ℕ) → HasRun (IsNeither j) c j before now old new machine outcome
+    → before.told ≡ Some files → (outcome ≡ Outcome.WriteFault → Rose ob on) → IsOwed (after_stall files j.stall (samples_verdict c.inputs (files j.second))) before.faults now.faults ob on outcome
+ran_owed {N} {P} j before now old new c machine outcome files ob on run told write =
+    let stall : after_stall files j.stall (samples_verdict c.inputs (files j.second)) ≡ samples_verdict c.inputs (files j.second) =
+    passes_stall files j.stall run.turns _ (subst (λ (t : Told). HasStall t j.stall run.turns) told run.stall) in
+    subst (λ (v : Outcome). IsOwed v before.faults now.faults ob on outcome) (sym stall)
+    (end_owed N P files (course c j.stripes run.turns j.second run.start now old new) run.run.rows run.run.history outcome before.faults ob on (run.later.told ∙ told) run.later.faults write run.run.end)
+
 pub run_owed : {N P : ℕ} (j : Job) (before now : View) (old new : Tape) (machine : Going N P) (outcome : Outcome) (files : List ℕ → Option (List ℕ)) (ob on : ℕ) → HasExecuted j before now old new machine outcome
     → before.told ≡ Some files → (outcome ≡ Outcome.WriteFault → Rose ob on) → IsOwed (run_verdict files j.first j.second j.stall) before.faults now.faults ob on outcome
 run_owed {N} {P} j before now old new machine outcome files ob on has told write =
     let conf = has.configuration in
-    let run = has.run in
     let file : files j.first ≡ Some conf.bytes = subst (λ (t : Told). IsText t j.first conf.bytes) told conf.file in
     let next : List ℕ → Outcome = λ bytes. after_stall files j.stall (samples_verdict (configuration_in bytes).inputs (files j.second)) in
     let first : run_verdict files j.first j.second j.stall ≡ next conf.bytes = passes_configuration (files j.first) conf.bytes next file conf.short conf.loadable.good in
-    let second : next conf.bytes ≡ samples_verdict (configuration_in conf.bytes).inputs (files j.second) =
-    passes_stall files j.stall run.turns _ (subst (λ (t : Told). HasStall t j.stall run.turns) told run.stall) in
-    let third : samples_verdict (configuration_in conf.bytes).inputs (files j.second) ≡ samples_verdict has.conf.inputs (files j.second) =
-    ap (λ (c : Shape). samples_verdict c.inputs (files j.second)) (sym conf.loadable.read) in
-    subst (λ (v : Outcome). IsOwed v before.faults now.faults ob on outcome) (sym (first ∙ (second ∙ third)))
-    (end_owed N P files (course has.conf j.stripes run.turns j.second run.start now old new) run.run.rows run.run.history outcome before.faults ob on (run.later.told ∙ told) run.later.faults write run.run.end)
+    let second : next conf.bytes ≡ after_stall files j.stall (samples_verdict has.conf.inputs (files j.second)) =
+    ap (λ (c : Shape). after_stall files j.stall (samples_verdict c.inputs (files j.second))) (sym conf.loadable.read) in
+    subst (λ (v : Outcome). IsOwed v before.faults now.faults ob on outcome) (sym (first ∙ second))
+    (ran_owed j before now old new has.conf machine outcome files ob on has.run told write)
 
 -- ---- single outcomes
+-- a run takes no memory, and is a run of what is built
+pub ran_memory : {N P : ℕ} (j : Job) (before now : View) (old new : Tape) (c : Shape) (machine : Going N P) (outcome : Outcome) → HasRun (IsNeither j) c j before now old new machine outcome → outcome ≡ Outcome.Memory → ⊥
+ran_memory {N} {P} j before now old new c machine outcome run is = subst (λ (o : Outcome). IsEnd N P (course c j.stripes run.turns j.second run.start now old new) run.run.rows run.run.history o) is run.run.end
+
 pub no_memory : {N P : ℕ} (j : Job) (before now : View) (old new : Tape) (machine : Going N P) (outcome : Outcome) → HasExecuted j before now old new machine outcome → outcome ≡ Outcome.Memory → ⊥
-no_memory {N} {P} j before now old new machine outcome has is = subst (λ (o : Outcome). IsEnd N P (course has.conf j.stripes has.run.turns j.second has.run.start now old new) has.run.run.rows has.run.run.history o) is has.run.run.end
+no_memory j before now old new machine outcome has is = ran_memory j before now old new has.conf machine outcome has.run is
 
 fault_of : (told : Told) (j : Job) (outcome : Outcome) (sb sn : ℕ) → outcome ≡ Outcome.ReadFault → (told ≡ None → Rose sb sn)
     → ((files : List ℕ → Option (List ℕ)) → told ≡ Some files → IsOwed (run_verdict files j.first j.second j.stall) sb sn 0 0 outcome) → IsVerdict told j outcome ⊎ Rose sb sn
@@ -109,17 +129,18 @@ fault_of (Some files) j outcome sb sn is none owed = elim (owed files refl) as (
   | inr (inr (inr memory)) ↦ absurd (let e : Outcome.ReadFault ≡ Outcome.Memory = sym is ∙ memory in cc)
 ]
 
-untold_fault : {N P : ℕ} (j : Job) (before now : View) (old new : Tape) (machine : Going N P) (outcome : Outcome) → HasExecuted j before now old new machine outcome → outcome ≡ Outcome.ReadFault
+-- where no file is told, a read that failed was a fault of the outside
+pub untold_fault : {N P : ℕ} (j : Job) (before now : View) (old new : Tape) (c : Shape) (machine : Going N P) (outcome : Outcome) → HasRun (IsNeither j) c j before now old new machine outcome → outcome ≡ Outcome.ReadFault
     → before.told ≡ None → Rose before.faults now.faults
-untold_fault {N} {P} j before now old new machine outcome has is untold =
-    let end = subst (λ (o : Outcome). IsEnd N P (course has.conf j.stripes has.run.turns j.second has.run.start now old new) has.run.run.rows has.run.run.history o) is has.run.run.end in
-    elim (subst (λ (t : Told). HasReadCause t j.second has.run.start.faults now.faults) (has.run.later.told ∙ untold) end.0.cause) as (λ k. Rose before.faults now.faults) [
+untold_fault {N} {P} j before now old new c machine outcome run is untold =
+    let end = subst (λ (o : Outcome). IsEnd N P (course c j.stripes run.turns j.second run.start now old new) run.run.rows run.run.history o) is run.run.end in
+    elim (subst (λ (t : Told). HasReadCause t j.second run.start.faults now.faults) (run.later.told ∙ untold) end.0.cause) as (λ k. Rose before.faults now.faults) [
       | inl missing ↦ absurd missing
-      | inr rose ↦ rose_earlier before.faults has.run.start.faults now.faults has.run.later.faults rose
+      | inr rose ↦ rose_earlier before.faults run.start.faults now.faults run.later.faults rose
     ]
 
 pub run_fault : {N P : ℕ} (j : Job) (before now : View) (old new : Tape) (machine : Going N P) (outcome : Outcome) → HasExecuted j before now old new machine outcome → outcome ≡ Outcome.ReadFault
     → IsVerdict before.told j outcome ⊎ Rose before.faults now.faults
 run_fault j before now old new machine outcome has is =
-    fault_of before.told j outcome before.faults now.faults is (untold_fault j before now old new machine outcome has is)
+    fault_of before.told j outcome before.faults now.faults is (untold_fault j before now old new has.conf machine outcome has.run is)
     (λ files told. run_owed j before now old new machine outcome files 0 0 has told (λ write. absurd (let e : Outcome.ReadFault ≡ Outcome.WriteFault = sym is ∙ write in cc)))

@@ -85,12 +85,10 @@ pub record IsStopped (N P : ℕ) (r : Course) (rows : List (List ℕ)) (history 
 abbrev pub IsEnd : ℕ → ℕ → Course → List (List ℕ) → History → Outcome → Type 0
 IsEnd N P r rows history Outcome.Done = HasAll r rows End × IsWhole N P r rows history
 IsEnd N P r rows history (Outcome.Limit which) = HasAll r rows (Limit which) × IsWhole N P r rows history
-IsEnd N P r rows history (Outcome.BadConfig rule place) = ⊥
-IsEnd N P r rows history (Outcome.BadStall place) = ⊥
 IsEnd N P r rows history (Outcome.BadSample line) = HasAll r rows (BadSample line) × IsWhole N P r rows history
 IsEnd N P r rows history Outcome.ReadFault = IsBroken r rows × IsWhole N P r rows history
 IsEnd N P r rows history Outcome.WriteFault = IsStopped N P r rows history
-IsEnd N P r rows history Outcome.Memory = ⊥
+IsEnd N P r rows history outcome = ⊥
 
 -- a run: the first samples of the file, the history for which the machine stands, and what the outcome says of them
 pub record IsRun {N P : ℕ} (r : Course) (machine : Going N P) (outcome : Outcome) : Type 0 where

@@ -34,14 +34,11 @@ pub record HasBadStall (told : Told) (name : Option (List ℕ)) (place : ℕ) : 
 
 -- why there is none
 abbrev pub IsStallRefusal : Told → Option (List ℕ) → ℕ → ℕ → Outcome → Type 0
-IsStallRefusal told name before now Outcome.Done = ⊥
 IsStallRefusal told name before now (Outcome.Limit which) = (which ≡ Cap.StallBytes) × IsSomeAnd name (λ n. IsLong told n 1048576)
-IsStallRefusal told name before now (Outcome.BadConfig rule place) = ⊥
 IsStallRefusal told name before now (Outcome.BadStall place) = HasBadStall told name place
-IsStallRefusal told name before now (Outcome.BadSample line) = ⊥
 IsStallRefusal told name before now Outcome.ReadFault = IsSomeAnd name (λ n. HasReadCause told n before now)
-IsStallRefusal told name before now Outcome.WriteFault = ⊥
 IsStallRefusal told name before now Outcome.Memory = ⊤
+IsStallRefusal told name before now outcome = ⊥
 
 -- ---- the verdict
 -- a byte is bad, or the next points decide

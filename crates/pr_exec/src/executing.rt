@@ -18,8 +18,12 @@ use pr_edge::{Shelf, Sink};
 use pr_modes::{Loadable, Outcome, read_configuration};
 use std::alloc::Global;
 
-/// Runs a configuration on the samples of a file, under the stall file where there is one.
-fn execute<const N: usize, const P: usize, S: Shelf, K: Sink>(
+/// Runs a configuration on the samples of a file, on so many stripes, under the stall file where there is one. The line of
+/// each result goes to `out`.
+///
+/// The stall text is read first, and then the samples as the run asks for them. Where the stall text is refused, or there is
+/// no memory, nothing is written. After the run has begun no memory is taken.
+pub fn execute<const N: usize, const P: usize, S: Shelf, K: Sink>(
     alloc: Global,
     conf: Configuration<N, P>,
     samples: &str,

@@ -8,4 +8,5 @@ mod running;
 mod stalling;
 
 pub use benches::Bench;
-pub use executing::exec;
+pub use executing::{exec, execute};
+pub use running::Over;

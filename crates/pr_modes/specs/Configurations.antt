@@ -1,17 +1,13 @@
 -- Configuration files, on the fabric that they name.
-use Rattle.std.specs.Prelude.{◌≡◌, ◌≤◌, ℕ, Bool, List, [], ◌∷◌, length, take, drop, nat_eq, Option, Some, None, ⊤, if◌then◌else◌}
-use Rattle.std.specs.Cmp.Lexicographic.{pointwise}
+use Rattle.std.specs.Prelude.{◌≡◌, ◌≤◌, ℕ, List, length, Option, Some, None, ⊤, if◌then◌else◌}
 use Rattle.pr_base.specs.declared.caps.Cap.{Cap}
 use Rattle.pr_edge.specs.Files.{Told, HasReadCause}
 use Rattle.pr_conf.specs.Shape.{Shape}
+use Rattle.pr_code.specs.Fabrics.{names_wide}
 use Rattle.pr_code.specs.Spelling.{IsFile}
 use Rattle.pr_code.specs.Rules.{Broken, bad_word, shape_read}
 use Rattle.pr_modes.specs.declared.outcomes.Outcome.{Outcome}
 use Rattle.pr_modes.specs.Files.{IsText, IsLong}
-
--- the second word of a file says 32 columns and 16 registers
-abbrev pub names_wide : List ℕ → Bool
-names_wide bytes = pointwise nat_eq (take 4 (drop 4 bytes)) (0 ∷ 32 ∷ 0 ∷ 16 ∷ [])
 
 -- the fabric of a file: the wide one where it names it, and else the base one
 abbrev pub columns_of : List ℕ → ℕ
@@ -52,22 +48,14 @@ pub record HasBroken (told : Told) (name : List ℕ) (rule place : ℕ) : Type 0
 
 -- why bytes are no configuration
 abbrev pub IsWordRefusal : Option Broken → Outcome → Type 0
-IsWordRefusal broken Outcome.Done = ⊥
-IsWordRefusal broken (Outcome.Limit which) = ⊥
 IsWordRefusal broken (Outcome.BadConfig rule place) = broken ≡ Some (record { rule = rule; place = place })
-IsWordRefusal broken (Outcome.BadStall place) = ⊥
-IsWordRefusal broken (Outcome.BadSample line) = ⊥
-IsWordRefusal broken Outcome.ReadFault = ⊥
-IsWordRefusal broken Outcome.WriteFault = ⊥
 IsWordRefusal broken Outcome.Memory = ⊤
+IsWordRefusal broken outcome = ⊥
 
 -- why no configuration was read from a file
 abbrev pub IsConfigurationRefusal : Told → List ℕ → ℕ → ℕ → Outcome → Type 0
-IsConfigurationRefusal told name before now Outcome.Done = ⊥
 IsConfigurationRefusal told name before now (Outcome.Limit which) = (which ≡ Cap.ConfigBytes) × IsLong told name 16777216
 IsConfigurationRefusal told name before now (Outcome.BadConfig rule place) = HasBroken told name rule place
-IsConfigurationRefusal told name before now (Outcome.BadStall place) = ⊥
-IsConfigurationRefusal told name before now (Outcome.BadSample line) = ⊥
 IsConfigurationRefusal told name before now Outcome.ReadFault = HasReadCause told name before now
-IsConfigurationRefusal told name before now Outcome.WriteFault = ⊥
 IsConfigurationRefusal told name before now Outcome.Memory = ⊤
+IsConfigurationRefusal told name before now outcome = ⊥

@@ -17,11 +17,7 @@ pub record IsLong (told : Told) (name : List ℕ) (limit : ℕ) : Type 0 where
 
 -- why a file was not read whole
 abbrev pub IsFileRefusal : Told → List ℕ → ℕ → Cap → ℕ → ℕ → Outcome → Type 0
-IsFileRefusal told name limit cap before now Outcome.Done = ⊥
 IsFileRefusal told name limit cap before now (Outcome.Limit which) = (which ≡ cap) × IsLong told name limit
-IsFileRefusal told name limit cap before now (Outcome.BadConfig rule place) = ⊥
-IsFileRefusal told name limit cap before now (Outcome.BadStall place) = ⊥
-IsFileRefusal told name limit cap before now (Outcome.BadSample line) = ⊥
 IsFileRefusal told name limit cap before now Outcome.ReadFault = HasReadCause told name before now
-IsFileRefusal told name limit cap before now Outcome.WriteFault = ⊥
 IsFileRefusal told name limit cap before now Outcome.Memory = ⊤
+IsFileRefusal told name limit cap before now outcome = ⊥

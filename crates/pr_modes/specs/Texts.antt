@@ -18,13 +18,9 @@ text_in Form.File N P c = bytes_of_words (words_of N P c)
 -- what became of a text that was to be written, by what the sink tells and its count of faults, before and after
 abbrev pub IsPut : List ℕ → Tape → Tape → ℕ → ℕ → Outcome → Type 0
 IsPut text old new before now Outcome.Done = Appends old new text
-IsPut text old new before now (Outcome.Limit which) = ⊥
-IsPut text old new before now (Outcome.BadConfig rule place) = ⊥
-IsPut text old new before now (Outcome.BadStall place) = ⊥
-IsPut text old new before now (Outcome.BadSample line) = ⊥
-IsPut text old new before now Outcome.ReadFault = ⊥
 IsPut text old new before now Outcome.WriteFault = AppendsFront old new text × Rose before now
 IsPut text old new before now Outcome.Memory = new ≡ old
+IsPut text old new before now outcome = ⊥
 
 -- no configuration was read, and nothing is written
 pub record IsRefused (told : Told) (name : List ℕ) (before now : ℕ) (old new : Tape) (outcome : Outcome) : Type 0 where

@@ -7,7 +7,24 @@ use pr_base::Cap;
 pub enum Outcome {
     /// All was read, and all that was asked for is written.
     Done,
-    /// A file passed this limit.
+    /// A token of the program breaks the grammar.
+    Syntax {
+        /// The place of the token, from 0.
+        token: u32,
+    },
+    /// The program breaks a rule of scope.
+    Scope {
+        /// The number of the rule.
+        rule: u8,
+        /// The number of the item, from 0.
+        item: u32,
+    },
+    /// An equation of the program has no width.
+    NoWidth {
+        /// The number of the equation, from 0.
+        equation: u32,
+    },
+    /// A file, or a quantity of its program, passed this limit.
     Limit(Cap),
     /// A word of the configuration breaks a rule.
     BadConfig {
@@ -32,4 +49,6 @@ pub enum Outcome {
     WriteFault,
     /// There was no memory, and nothing is written.
     Memory,
+    /// The program is lawful, and what was asked for is not built for it yet. Nothing is written.
+    NotYet,
 }

@@ -297,18 +297,17 @@ fn held_output(rt: HostRuntime) -> Result<(), Fail> {
 #[test]
 fn ends_of_samples(rt: HostRuntime) -> Result<(), Fail> {
     let alloc = rt.alloc();
-    let cases: [(&str, RunEnd, &str); 4] = [
-        (
-            "",
-            RunEnd::Done {
-                cycles: 0,
-                stalls: 0,
-                results: 0,
-            },
-            "",
-        ),
+    let none = RunEnd::Done {
+        cycles: 0,
+        stalls: 0,
+        results: 0,
+    };
+    let cases: [(&str, bool, RunEnd, &str); 5] = [
+        ("", false, none, ""),
+        ("", true, none, "end cycles 0 stalls 0 records 0\n"),
         (
             "5 3\n255 1",
+            false,
             RunEnd::Done {
                 cycles: 4,
                 stalls: 0,
@@ -318,16 +317,17 @@ fn ends_of_samples(rt: HostRuntime) -> Result<(), Fail> {
         ),
         (
             "5 3\n255 1\n7 x\n1 1\n2 2\n",
+            false,
             RunEnd::BadSample { line: 3 },
             "6\n254\n",
         ),
-        ("256 1\n", RunEnd::BadSample { line: 1 }, ""),
+        ("256 1\n", false, RunEnd::BadSample { line: 1 }, ""),
     ];
-    for (text, end, lines) in cases {
+    for (text, log, end, lines) in cases {
         let samples = Vec::from_slice(alloc, text.as_bytes())?;
         let mut shelf = shelf_of(alloc, samples, Vec::new(alloc))?;
         let mut out = MemSink::make(alloc, 100, Vec::new(alloc))?;
-        let got = outcome(alloc, xor(alloc)?, 16, b"", false, &mut shelf, &mut out)?;
+        let got = outcome(alloc, xor(alloc)?, 16, b"", log, &mut shelf, &mut out)?;
         assert_eq!(rt; got, end);
         assert_eq!(rt; out.bytes(), lines.as_bytes());
     }
