@@ -1,12 +1,2 @@
-pub mod TokensLemmas
-pub mod FormsLemmas
 pub mod NotesLemmas
-pub mod WordsLemmas
-pub mod ConfigurationLemmas
-pub mod ExecutionLemmas
-pub mod SamplesLemmas
-pub mod ConfigureLemmas
-pub mod ResultsLemmas
-pub mod DriveLemmas
-pub mod ToolLemmas
-pub mod Completeness
+pub mod CallLemmas

@@ -33,6 +33,9 @@ status_of Answer.NotYet = 13
 
 abbrev pub answer_by : Outcome → Answer
 answer_by Outcome.Done = Answer.Ok
+answer_by (Outcome.Syntax token) = Answer.Syntax token
+answer_by (Outcome.Scope rule item) = Answer.Scope rule item
+answer_by (Outcome.NoWidth equation) = Answer.NoWidth equation
 answer_by (Outcome.Limit which) = Answer.Limit which
 answer_by (Outcome.BadConfig rule place) = Answer.BadConfig rule place
 answer_by (Outcome.BadStall place) = Answer.BadStall place
@@ -40,3 +43,4 @@ answer_by (Outcome.BadSample line) = Answer.BadSample line
 answer_by Outcome.ReadFault = Answer.ReadFault
 answer_by Outcome.WriteFault = Answer.WriteFault
 answer_by Outcome.Memory = Answer.Memory
+answer_by Outcome.NotYet = Answer.NotYet

@@ -2,12 +2,4 @@ pub mod Answers
 pub mod Notes
 pub mod Noted
 pub mod Words
-pub mod Tokens
-pub mod Forms
-pub mod Samples
-pub mod Parsed
-pub mod Configured
-pub mod Driven
-pub mod Verdict
-pub mod Reading
-pub mod Executed
+pub mod Calls

@@ -1,9 +1,9 @@
 -- What the words of a command line ask for, and which of it is built.
-use Rattle.std.specs.Prelude.{◌≡◌, ◌⊎◌, ℕ, Bool, true, false, List, Option, Some, None, map, nat_eq, string_bytes, String}
+use Rattle.std.specs.Prelude.{◌≡◌, ◌≢◌, ◌⊎◌, ℕ, Bool, true, false, List, Option, Some, None, map, string_bytes, String, ⊤}
 use Rattle.std.specs.declared.alloc.Global.{Global}
 use Rattle.pr_code.specs.declared.fabrics.Fabric.{Fabric}
-use Rattle.pr_words.specs.Lawful.{Order, Task, Run, Show, Migrate, Exec, lawful_words}
-use Rattle.pr_modes.specs.declared.texts.Form.{Form}
+use Rattle.pr_words.specs.Lawful.{Order, Task, Run, Show, Migrate, Exec, Eval, lawful_words}
+use Rattle.pr_tool.specs.declared.notes.Bounds.{Bounds}
 
 -- what is asked for, if the words are lawful
 abbrev pub Asked : Type 0
@@ -12,58 +12,70 @@ Asked = Option Order
 abbrev pub asked_by : List (String Global) → Asked
 asked_by words = lawful_words (map string_bytes words)
 
--- these are the options that stand where none is given
-abbrev pub is_usual : (stripes : ℕ) → (stall : Option (List ℕ)) → (fabric : Fabric) → (narrow : Bool) → Bool
-is_usual stripes None Fabric.Base false = nat_eq stripes 16
-is_usual stripes stall fabric narrow = false
-
-abbrev pub has_usual : Order → Bool
-has_usual order = is_usual order.stripes order.stall order.fabric order.narrow
+-- programs are built for the base fabric alone, and not narrowed
+abbrev pub is_plain : Fabric → Bool → Bool
+is_plain Fabric.Base false = true
+is_plain fabric narrow = false
 
 -- whether a task is built with the options of an order
-abbrev pub is_built : Task → Order → Bool
-is_built (Run program samples) order = has_usual order
-is_built (Exec configuration samples) order = true
-is_built (Show configuration) order = true
-is_built (Migrate configuration) order = true
-is_built task order = false
+abbrev pub is_built : Order → Task → Bool
+is_built order (Run program samples) = is_plain order.fabric order.narrow
+is_built order (Exec configuration samples) = true
+is_built order (Eval program samples) = true
+is_built order (Show configuration) = true
+is_built order (Migrate configuration) = true
+is_built order task = false
 
 -- a thing that is not built yet is asked for
 pub record IsLater (asked : Asked) : Type 0 where
   pub order : Order
   pub lawful : asked ≡ Some order
-  pub unbuilt : is_built order.task order ≡ false
+  pub unbuilt : is_built order order.task ≡ false
 
--- a run of a program file on a file of samples is asked for, with the usual options
-pub record IsRunOrder (asked : Asked) (program samples : List ℕ) : Type 0 where
+-- an evaluation or a run of a program file on a file of samples is asked for
+pub record IsProgramOrder (asked : Asked) (first second : List ℕ) : Type 0 where
   pub order : Order
   pub lawful : asked ≡ Some order
-  pub task : order.task ≡ Run program samples
-  pub usual : has_usual order ≡ true
+  pub task : (order.task ≡ Eval first second) ⊎ (order.task ≡ Run first second)
 
--- nothing that is built is asked for
-abbrev pub IsUnbuilt : Asked → Type 0
-IsUnbuilt asked = (asked ≡ None) ⊎ IsLater asked
+-- a fact where a thing is built, and another where it is not
+abbrev pub WhereBuilt : Bool → Type 0 → Type 0 → Type 0
+WhereBuilt true there else = there
+WhereBuilt false there else = else
 
--- the task of writing this text of a configuration file
-abbrev pub text_task : Form → List ℕ → Task
-text_task Form.Summary name = Show name
-text_task Form.File name = Migrate name
+-- ---- files
+-- this is no file that a run on samples reads
+abbrev pub IsNoneOf : Order → List ℕ → List ℕ → List ℕ → Type 0
+IsNoneOf order first second q = (q ≢ first) × (q ≢ second) × (order.stall ≢ Some q)
 
--- a text of a configuration file is asked for
-pub record IsTextOrder (asked : Asked) (form : Form) (name : List ℕ) : Type 0 where
-  pub order : Order
-  pub lawful : asked ≡ Some order
-  pub task : order.task ≡ text_task form name
+-- this is no file that the task reads
+abbrev pub IsOtherFile : Order → Task → List ℕ → Type 0
+IsOtherFile order (Run program samples) q = WhereBuilt (is_plain order.fabric order.narrow) (IsNoneOf order program samples q) ⊤
+IsOtherFile order (Exec configuration samples) q = IsNoneOf order configuration samples q
+IsOtherFile order (Eval program samples) q = (q ≢ program) × (q ≢ samples)
+IsOtherFile order (Show configuration) q = q ≢ configuration
+IsOtherFile order (Migrate configuration) q = q ≢ configuration
+IsOtherFile order task q = ⊤
 
--- the configuration file of which a task writes a text
-abbrev pub configuration_of : Task → Option (List ℕ)
-configuration_of (Show configuration) = Some configuration
-configuration_of (Migrate configuration) = Some configuration
-configuration_of task = None
+-- this is not the first file of a run
+abbrev pub IsLaterFile : Task → List ℕ → Type 0
+IsLaterFile (Run program samples) q = q ≢ program
+IsLaterFile task q = ⊤
 
--- a text of a configuration file of this name is asked for
-pub record IsConfigurationOrder (asked : Asked) (name : List ℕ) : Type 0 where
-  pub order : Order
-  pub lawful : asked ≡ Some order
-  pub reads : configuration_of order.task ≡ Some name
+abbrev pub IsOther : Asked → List ℕ → Type 0
+IsOther None q = ⊤
+IsOther (Some order) q = IsOtherFile order order.task q
+
+abbrev pub IsLaterThanFirst : Asked → List ℕ → Type 0
+IsLaterThanFirst None q = ⊤
+IsLaterThanFirst (Some order) q = IsLaterFile order.task q
+
+-- ---- limits
+-- the limits of a task; an evaluation reads a file of samples whole
+abbrev pub bounds_for : Task → Bounds
+bounds_for (Eval program samples) = record { input_bytes = 16; sample_bytes = 16777216 }
+bounds_for task = record { input_bytes = 16; sample_bytes = 17592186044416 }
+
+abbrev pub bounds_in : Asked → Bounds
+bounds_in None = record { input_bytes = 16; sample_bytes = 17592186044416 }
+bounds_in (Some order) = bounds_for order.task

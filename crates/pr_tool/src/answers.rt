@@ -105,6 +105,9 @@ pub fn answer_of(outcome: Outcome) -> Answer
 {
     match outcome {
         Outcome::Done => Answer::Ok,
+        Outcome::Syntax { token } => Answer::Syntax { token },
+        Outcome::Scope { rule, item } => Answer::Scope { rule, item },
+        Outcome::NoWidth { equation } => Answer::NoWidth { equation },
         Outcome::Limit(which) => Answer::Limit { which },
         Outcome::BadConfig { rule, place } => Answer::BadConfig { rule, place },
         Outcome::BadStall { place } => Answer::BadStall { place },
@@ -112,5 +115,6 @@ pub fn answer_of(outcome: Outcome) -> Answer
         Outcome::ReadFault => Answer::ReadFault,
         Outcome::WriteFault => Answer::WriteFault,
         Outcome::Memory => Answer::Memory,
+        Outcome::NotYet => Answer::NotYet,
     }
 }

@@ -28,6 +28,12 @@ impl Bounds {
         sample_bytes: 17_592_186_044_416,
     };
 
+    /// Those of an evaluation.
+    pub const EVAL: Bounds = Bounds {
+        input_bytes: 16,
+        sample_bytes: 16_777_216,
+    };
+
     /// The number that the quantity may not pass.
     pub fn number(&self, which: Cap) -> u64
         ensures { result ≡ cap_number self.now which }

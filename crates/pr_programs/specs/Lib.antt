@@ -1,0 +1,5 @@
+pub mod Samples
+pub mod Evaluations
+pub mod Results
+pub mod Starts
+pub mod Verdicts

@@ -1,0 +1,130 @@
+//! Reads and writes that fail, and statuses.
+
+use crate::calls::{answer_over, answer_to};
+use crate::files::{XOR, files, named};
+use pr_edge::{MemShelf, MemSink, SureSink};
+use pr_tool::Answer;
+use std::alloc::{AllocError, Global};
+use std::process::Abort;
+use std::test::Fail;
+
+/// Calls the tool, where this write fails, and checks that it says so and writes this text before.
+fn check_fault(
+    rt: &impl Abort,
+    alloc: Global,
+    words: &[&str],
+    call: u64,
+    text: &[u8],
+) -> Result<(), AllocError> {
+    let mut out = MemSink::make(alloc, 200, vec![in alloc; call]?)?;
+    let mut note = SureSink::make(alloc, 100)?;
+    let answer = answer_to(alloc, words, files(alloc, 92)?, &mut out, &mut note)?;
+    assert_eq!(rt; answer, Answer::WriteFault);
+    assert_eq!(rt; out.bytes(), text);
+    assert_eq!(rt; note.bytes(), b"write fault\n".as_slice());
+    Ok(())
+}
+
+#[test]
+fn writes_that_fail(rt: HostRuntime) -> Result<(), Fail> {
+    let alloc = rt.alloc();
+    check_fault(&rt, alloc, &["run", "p", "s"], 1, b"")?;
+    check_fault(&rt, alloc, &["run", "p", "s"], 2, b"6\n")?;
+    check_fault(&rt, alloc, &["eval", "p", "s"], 1, b"")?;
+    check_fault(&rt, alloc, &["exec", "c", "s"], 1, b"")?;
+    check_fault(&rt, alloc, &["exec", "c", "s"], 2, b"6\n")?;
+    Ok(())
+}
+
+/// The lines of the program on its samples.
+const LINES: &[u8] = b"6\n254\n";
+
+/// Runs the program on two stripes and under a stall text, where these calls fail. What is written is the first bytes of
+/// the lines.
+fn answer_on_two(
+    rt: &impl Abort,
+    alloc: Global,
+    reads: Vec<u64>,
+    writes: Vec<u64>,
+) -> Result<Answer, AllocError> {
+    let files = vec![in alloc;
+        named(alloc, "p", XOR)?,
+        named(alloc, "s", "5 3\n255 1\n")?,
+        named(alloc, "l", "iobo..b")?,
+    ]?;
+    let mut shelf = MemShelf::make(alloc, files, reads)?;
+    let mut out = MemSink::make(alloc, 100, writes)?;
+    let mut note = SureSink::make(alloc, 100)?;
+    let words = ["run", "p", "s", "--stripes", "2", "--stall", "l"];
+    let answer = answer_over(alloc, &words, &mut shelf, &mut out, &mut note)?;
+    assert!(rt; LINES.starts_with(out.bytes()));
+    assert!(rt; answer != Answer::Ok || out.bytes() == LINES);
+    Ok(answer)
+}
+
+/// Each of the three files takes two reads: one finds its bytes, the other its end.
+#[test]
+fn every_read_fails(rt: HostRuntime) -> Result<(), Fail> {
+    let alloc = rt.alloc();
+    for call in 1..7u64 {
+        let reads = vec![in alloc; call]?;
+        let answer = answer_on_two(&rt, alloc, reads, Vec::new(alloc))?;
+        assert_eq!(rt; answer, Answer::ReadFault, "read {call}");
+    }
+    let answer = answer_on_two(&rt, alloc, vec![in alloc; 7]?, Vec::new(alloc))?;
+    assert_eq!(rt; answer, Answer::Ok);
+    Ok(())
+}
+
+/// Each of the two lines takes one write.
+#[test]
+fn every_write_fails(rt: HostRuntime) -> Result<(), Fail> {
+    let alloc = rt.alloc();
+    for call in 1..3u64 {
+        let writes = vec![in alloc; call]?;
+        let answer = answer_on_two(&rt, alloc, Vec::new(alloc), writes)?;
+        assert_eq!(rt; answer, Answer::WriteFault, "write {call}");
+    }
+    let answer = answer_on_two(&rt, alloc, Vec::new(alloc), vec![in alloc; 3]?)?;
+    assert_eq!(rt; answer, Answer::Ok);
+    Ok(())
+}
+
+/// Words, and the answer, its status and the text that they come to where no note can be written.
+const UNNOTED: [(&[&str], Answer, u8, &[u8]); 5] = [
+    (
+        &["exec", "c", "b"],
+        Answer::BadSample { line: 3 },
+        7,
+        b"6\n254\n",
+    ),
+    (
+        &["exec", "c", "s", "--stall", "t"],
+        Answer::BadStall { place: 2 },
+        8,
+        b"",
+    ),
+    (
+        &["show", "s"],
+        Answer::BadConfig { rule: 2, place: 0 },
+        9,
+        b"",
+    ),
+    (&["show", "n"], Answer::ReadFault, 10, b""),
+    (&["fly"], Answer::Usage, 2, b""),
+];
+
+#[test]
+fn notes_that_fail(rt: HostRuntime) -> Result<(), Fail> {
+    let alloc = rt.alloc();
+    for (words, wanted, status, text) in UNNOTED {
+        let mut out = SureSink::make(alloc, 100)?;
+        let mut note = MemSink::make(alloc, 0, Vec::new(alloc))?;
+        let answer = answer_to(alloc, words, files(alloc, 92)?, &mut out, &mut note)?;
+        assert_eq!(rt; answer, wanted);
+        assert_eq!(rt; answer.status(), status);
+        assert_eq!(rt; out.bytes(), text);
+        assert!(rt; note.bytes().is_empty());
+    }
+    Ok(())
+}

@@ -1,0 +1,11 @@
+//! Calls of the tool over files in memory: words, answers, results and notes.
+#![tactic(auto)]
+
+#[cfg(test)]
+mod calls;
+#[cfg(test)]
+mod examples;
+#[cfg(test)]
+mod faults;
+#[cfg(test)]
+mod files;
