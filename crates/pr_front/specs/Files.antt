@@ -39,12 +39,16 @@ pub record HasRefusal (told : Told) (name : List ℕ) (f : FrontFault) : Type 0 
   pub short : length text ≤ 1048576
   pub refused : IsRefusal text f
 
--- why no program was read from a file
+-- the file of a program is too long, or a point refuses its text
+abbrev pub IsRefusedProgram : Told → List ℕ → Outcome → Type 0
+IsRefusedProgram told name (Outcome.Syntax token) = HasRefusal told name (fault.Syntax token)
+IsRefusedProgram told name (Outcome.Scope rule item) = HasRefusal told name (fault.Scope rule item)
+IsRefusedProgram told name (Outcome.NoWidth equation) = HasRefusal told name (fault.NoWidth equation)
+IsRefusedProgram told name (Outcome.Limit which) = ((which ≡ Cap.ProgramBytes) × IsLong told name 1048576) ⊎ HasRefusal told name (fault.Limit which)
+IsRefusedProgram told name outcome = ⊥
+
+-- why no program was read from a file, by the shelf's count of faults before and after
 abbrev pub IsProgramRefusal : Told → List ℕ → ℕ → ℕ → Outcome → Type 0
-IsProgramRefusal told name before now (Outcome.Syntax token) = HasRefusal told name (fault.Syntax token)
-IsProgramRefusal told name before now (Outcome.Scope rule item) = HasRefusal told name (fault.Scope rule item)
-IsProgramRefusal told name before now (Outcome.NoWidth equation) = HasRefusal told name (fault.NoWidth equation)
-IsProgramRefusal told name before now (Outcome.Limit which) = ((which ≡ Cap.ProgramBytes) × IsLong told name 1048576) ⊎ HasRefusal told name (fault.Limit which)
 IsProgramRefusal told name before now Outcome.ReadFault = HasReadCause told name before now
 IsProgramRefusal told name before now Outcome.Memory = ⊤
-IsProgramRefusal told name before now outcome = ⊥
+IsProgramRefusal told name before now outcome = IsRefusedProgram told name outcome

@@ -22,6 +22,7 @@ use Rattle.pr_flat.specs.declared.equations.Op.TheVariants.{Input}
 use Rattle.pr_flat.specs.Shape.{EquationShape, EachEquation}
 use Rattle.pr_flat.specs.Facts.{is_input, is_width, is_in_body, op_at, is_lawful_operand, is_lawful_output, reads_equation, reads_past, DependsOnPast, ReadsPast, Reads, IsApart, IsFlat}
 use Rattle.pr_flat.proofs.WidthLemmas.{PastOf, one_equation}
+use Rattle.pr_flat.proofs.WidthsUnique.{is_ordered_operand, IsOrdered}
 use Rattle.pr_meaning.specs.Programs.{function_at}
 use Rattle.pr_equations.specs.Making.{Equations, with_equation, constant}
 use Rattle.pr_equations.specs.Expressions.{Inlined, Visible, assigned}
@@ -266,6 +267,12 @@ operands-lawful es i (Const c ∷ args) all numbers =
 operands-lawful es i (Eq j ∷ args) all numbers = and_from (nat_lt j i) (list_all (is_lawful_operand es i) args) (lt-ltb j i all.0.0) (operands-lawful es i args all.1 numbers)
 operands-lawful es i (Past rec k ∷ args) all numbers = and_from (is_lawful_operand es i (Past rec k)) (list_all (is_lawful_operand es i) args) (past-lawful es i rec k all.0.0 (ended-body es i all.0.1.0 rec all.0.1.1)) (operands-lawful es i args all.1 numbers)
 
+operands-ordered : (es : Equations) (i : ℕ) (args : List Operand) → AllByRecursion (IsRead Outside es i) args → list_all (is_ordered_operand es i) args ≡ true
+operands-ordered es i [] all = refl
+operands-ordered es i (Const c ∷ args) all = operands-ordered es i args all.1
+operands-ordered es i (Eq j ∷ args) all = and_from (nat_lt j i) (list_all (is_ordered_operand es i) args) (lt-ltb j i all.0.0) (operands-ordered es i args all.1)
+operands-ordered es i (Past rec k ∷ args) all = and_from (is_ordered_operand es i (Past rec k)) (list_all (is_ordered_operand es i) args) (past-lawful es i rec k all.0.0 (ended-body es i all.0.1.0 rec all.0.1.1)) (operands-ordered es i args all.1)
+
 outputs-lawful : (es : Equations) (outputs : List Operand) → AreOutputs es outputs → list_all is_number outputs ≡ true → list_all (is_lawful_output (length es)) outputs ≡ true
 outputs-lawful es [] all numbers = refl
 outputs-lawful es (Const c ∷ outputs) all numbers =
@@ -300,9 +307,23 @@ flat es outputs state given few numbers input output =
       apart = apart es outputs sound given;
     }
 
+-- what the items of a program without an offence make
+sound-program : (program : Program) → (none : offence program ≡ None) → SoundWorld (program-inverted program none).last (items_change 0 program.items.items start)
+sound-program program none = let walk = program-inverted program none in items-made SoundWorld sound-item 0 program.items.items scope.start walk.last start walk.all sound-start
+
 -- the equations of a program without an offence are flat, if they are few and their constants have 64 bits
 pub program-flat : (program : Program) → offence program ≡ None → length (equations_of program).equations ≤ 16384 → have_numbers (equations_of program).equations (equations_of program).outputs ≡ true → IsFlat (equations_of program).equations (equations_of program).outputs
 program-flat program none few numbers =
     let walk = program-inverted program none in
-    let sound : SoundWorld walk.last (items_change 0 program.items.items start) = items-made SoundWorld sound-item 0 program.items.items scope.start walk.last start walk.all sound-start in
+    let sound = sound-program program none in
     flat (equations_of program).equations (equations_of program).outputs sound.progress.state sound.outputs few numbers (sound.input walk.input) (sound.output walk.output)
+
+-- and they have their order, however many they are
+pub program-ordered : (program : Program) → offence program ≡ None → IsOrdered (equations_of program).equations
+program-ordered program none =
+    let each = (sound-program program none).progress.state.each in
+    let es = (equations_of program).equations in
+    record {
+      operands = λ i e there. operands-ordered es i e.args (each i e there).operands;
+      bodies = λ i e there init first op. (each i e there).body init first op;
+    }

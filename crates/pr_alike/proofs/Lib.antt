@@ -1,0 +1,10 @@
+pub mod Lists
+pub mod Fixeds
+pub mod Refs
+pub mod Exprs
+pub mod Stmts
+pub mod Items
+pub mod Amounts
+pub mod Walks
+pub mod Meanings
+pub mod Makings
