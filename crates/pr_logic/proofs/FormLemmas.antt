@@ -1,9 +1,10 @@
 -- What a program is that is one logic operation.
-use Rattle.std.proofs.Common.{◌≡◌, ◌⊎◌, ◌<◌, ◌≤◌, ◌+◌, ◌-◌, ◌&&◌, ℕ, Bool, true, false, cond, Option, Some, None, List, [], ◌∷◌, ◌++◌, length, take, nat_le, refl, sym, ap, ◌∙◌, arith, inl, inr}
+use Rattle.std.proofs.Common.{◌≡◌, ◌<◌, ◌≤◌, ◌+◌, ◌-◌, ◌&&◌, ℕ, Bool, true, false, cond, Option, Some, None, option_map, List, [], ◌∷◌, ◌++◌, length, take, get_or, nat_le, refl, sym, ap, ◌∙◌, arith}
 use Rattle.std.specs.List.{slice_get, list_all}
+use Rattle.std.specs.Option.{option_or}
 use Rattle.std.proofs.lemmas.Bool.{and_parts}
 use Rattle.std.proofs.lemmas.Bool.Decides.{nat_tests}
-use Rattle.std.proofs.lemmas.List.{take_more, take_all}
+use Rattle.std.proofs.lemmas.List.{take_more, take_all, length-take-le}
 use Rattle.std.proofs.lemmas.Option.{get_or_from_slice_get, slice_get_within}
 use Rattle.pr_lang.specs.declared.trees.Item.{Item}
 use Rattle.pr_logic.specs.declared.forms.Logic.{Logic}
@@ -22,8 +23,8 @@ pub record IsLogic (items : List Item) (f : LogicProgram) : Type 0 where
   pub output : output_part last ≡ Some operation
   pub count : f.inputs ≡ length inputs
   pub operator : f.operator ≡ operation.operator
-  pub left : last_input 0 None inputs operation.left ≡ Some f.left
-  pub right : last_input 0 None inputs operation.right ≡ Some f.right
+  pub left : last_input inputs operation.left ≡ Some f.left
+  pub right : last_input inputs operation.right ≡ Some f.right
 
 -- the parts of a program of two places
 record AreParts (inputs : ℕ) (logic : Logic) (left right : Option ℕ) (f : LogicProgram) : Type 0 where
@@ -67,7 +68,7 @@ is_logic items f e =
     let tested = by_test (nat_le (length inputs) 16 && list_all is_byte_input inputs) (placed_output inputs (output_part last)) f there.2 in
     let tests = and_parts (nat_le (length inputs) 16) (list_all is_byte_input inputs) tested.0 in
     let out = by_output inputs (output_part last) f tested.1 in
-    let parts = parts_of (length inputs) out.0.operator (last_input 0 None inputs out.0.left) (last_input 0 None inputs out.0.right) f out.2 in
+    let parts = parts_of (length inputs) out.0.operator (last_input inputs out.0.left) (last_input inputs out.0.right) f out.2 in
     record {
       inputs = inputs;
       last = last;
@@ -83,24 +84,15 @@ is_logic items f e =
     }
 
 -- the last input of a name stands among the inputs
-pub last_input-below : (items : List Item) (i : ℕ) (found : Option ℕ) (q : List ℕ) (k : ℕ) → last_input i found items q ≡ Some k → (found ≡ Some k) ⊎ ((i ≤ k) × (k < i + length items))
-last_input-below [] i found q k e = inl e
-last_input-below (item ∷ items) i found q k e = elim (is_input_of q item) as (λ b. last_input (i + 1) (cond b (Some i) found) items q ≡ Some k → (found ≡ Some k) ⊎ ((i ≤ k) × (k < i + length (item ∷ items)))) [
-  | true ↦ λ h. elim (last_input-below items (i + 1) (Some i) q k h) [
-    | inl same ↦ let at : i ≡ k = cc in inr (omega (arith, at), omega (arith, at))
-    | inr later ↦ inr (omega (arith, later.0), omega (arith, later.1))
-  ]
-  | false ↦ λ h. elim (last_input-below items (i + 1) found q k h) [
-    | inl same ↦ inl same
-    | inr later ↦ inr (omega (arith, later.0), omega (arith, later.1))
-  ]
-] e
-
-inside : (items : List Item) (q : List ℕ) (k : ℕ) → last_input 0 None items q ≡ Some k → k < length items
-inside items q k e = elim (last_input-below items 0 None q k e) [
-  | inl same ↦ absurd (cc)
-  | inr later ↦ omega (arith, later.1)
-]
+inside : (items : List Item) (q : List ℕ) (k : ℕ) → last_input items q ≡ Some k → k < length items
+inside [] q k e = absurd (cc)
+inside (item ∷ items) q k e = elim (last_input items q) as (λ o. last_input items q ≡ o → option_or (option_map (λ (n : ℕ). n + 1) o) (cond (is_input_of q item) (Some 0) None) ≡ Some k → k < length (item ∷ items)) [
+  | Some n ↦ λ later h. let low = inside items q n later in let at : n + 1 ≡ k = cc in omega (arith, low, at)
+  | None ↦ λ none h. elim (is_input_of q item) as (λ b. cond b (Some 0) None ≡ Some k → k < length (item ∷ items)) [
+    | true ↦ λ here. let at : 0 ≡ k = cc in omega (arith, at)
+    | false ↦ λ here. absurd (cc)
+  ] h
+] refl e
 
 pub has_inputs : (items : List Item) (f : LogicProgram) → program_in items ≡ Some f → HasInputs f
 has_inputs items f e =
@@ -114,10 +106,24 @@ has_inputs items f e =
       right = omega (arith, right, is.count);
     }
 
--- one more item
-pub last_input-more : (items : List Item) (i : ℕ) (found : Option ℕ) (item : Item) (q : List ℕ) → last_input i found (items ++ item ∷ []) q ≡ cond (is_input_of q item) (Some (i + length items)) (last_input i found items q)
-last_input-more [] i found item q = let e : i ≡ i + 0 = omega arith in ap (λ (n : ℕ). cond (is_input_of q item) (Some n) found) e
-last_input-more (x ∷ items) i found item q =
-    let e : i + 1 + length items ≡ i + length (x ∷ items) = omega arith in
-    last_input-more items (i + 1) (cond (is_input_of q x) (Some i) found) item q
-    ∙ ap (λ (n : ℕ). cond (is_input_of q item) (Some n) (last_input (i + 1) (cond (is_input_of q x) (Some i) found) items q)) e
+-- one more item is the last input if it is one
+pub last_input-more : (items : List Item) (item : Item) (q : List ℕ) → last_input (items ++ item ∷ []) q ≡ cond (is_input_of q item) (Some (length items)) (last_input items q)
+last_input-more [] item q = refl
+last_input-more (x ∷ items) item q =
+    let first : Option ℕ = cond (is_input_of q x) (Some 0) None in
+    let next : length items + 1 ≡ length (x ∷ items) = omega arith in
+    ap (λ (o : Option ℕ). option_or (option_map (λ (n : ℕ). n + 1) o) first) (last_input-more items item q)
+    ∙ elim (is_input_of q item) as (λ b. option_or (option_map (λ (n : ℕ). n + 1) (cond b (Some (length items)) (last_input items q))) first ≡ cond b (Some (length (x ∷ items))) (last_input (x ∷ items) q)) [
+      | true ↦ ap (λ (n : ℕ). Some n) next
+      | false ↦ refl
+    ]
+
+-- one more turn of a search from the first item on, of which it is known whether the item is an input of this name
+pub last_input-turn : (items : List Item) (q : List ℕ) (i : ℕ) (item : Item) (is : Bool) → i < length items → item ≡ get_or items i item → is_input_of q item ≡ is → last_input (take (i + 1) items) q ≡ cond is (Some i) (last_input (take i items) q)
+last_input-turn items q i item is below at tested =
+    let before = take i items in
+    let whole : length before ≡ i = length-take-le i items (omega (arith, below)) in
+    ap (λ (xs : List Item). last_input xs q) (take_more items i item below ∙ ap (λ (x : Item). before ++ x ∷ []) (sym at))
+    ∙ (last_input-more before item q
+    ∙ (ap (λ (b : Bool). cond b (Some (length before)) (last_input before q)) tested
+    ∙ ap (λ (n : ℕ). cond is (Some n) (last_input before q)) whole))

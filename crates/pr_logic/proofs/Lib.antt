@@ -4,3 +4,4 @@ pub mod FormLemmas
 pub mod OperationLemmas
 pub mod MeaningLemmas
 pub mod ThroughLemmas
+pub mod AlikeForms

@@ -29,7 +29,7 @@ bound xs k = record { init = 0; stream = input_stream 8 k xs }
 -- these items, all inputs of 8 bits, have made this
 record AreMade (xs : List (List ℕ)) (seen : List Item) (w : World) : Type 0 where
   visible : w.visible ≡ at_first
-  streams : (q : List ℕ) → w.streams q None ≡ option_map (bound xs) (last_input 0 None seen q)
+  streams : (q : List ℕ) → w.streams q None ≡ option_map (bound xs) (last_input seen q)
   count : w.inputs ≡ length seen
   outputs : w.outputs ≡ []
 
@@ -38,11 +38,10 @@ with_byte xs name seen w h = record {
   visible = h.visible;
   streams = λ q. (
       let item = Input name 8 in
-      let here : w.inputs ≡ 0 + length seen = omega (arith, h.count) in
-      elim (bytes_eq name q) as (λ b. cond (b && true) (Some (bound xs w.inputs)) (w.streams q None) ≡ option_map (bound xs) (cond b (Some (0 + length seen)) (last_input 0 None seen q))) [
-        | true ↦ ap (λ (k : ℕ). Some (bound xs k)) here
+      elim (bytes_eq name q) as (λ b. cond (b && true) (Some (bound xs w.inputs)) (w.streams q None) ≡ option_map (bound xs) (cond b (Some (length seen)) (last_input seen q))) [
+        | true ↦ ap (λ (k : ℕ). Some (bound xs k)) h.count
         | false ↦ h.streams q
-      ] ∙ ap (option_map (bound xs)) (sym (last_input-more seen 0 None item q)));
+      ] ∙ ap (option_map (bound xs)) (sym (last_input-more seen item q)));
   count = (let n = length-append seen (Input name 8 ∷ []) in omega (arith, h.count, n));
   outputs = h.outputs;
 }
@@ -94,19 +93,19 @@ operated_is xs Logic.Or i j = refl
 operated_is xs Logic.Xor i j = refl
 
 value_is : (xs : List (List ℕ)) (inputs : List Item) (w : World) (value : Expr) (o : Named) (i j : ℕ) → AreMade xs inputs w → (part_of value).operation ≡ Some o → built_in o.left ≡ None → built_in o.right ≡ None
-    → last_input 0 None inputs o.left ≡ Some i → last_input 0 None inputs o.right ≡ Some j
+    → last_input inputs o.left ≡ Some i → last_input inputs o.right ≡ Some j
     → assigned None (meaning value w.visible (length xs) (sources (length xs) w.streams)) ≡ Some (logic_stream xs o.operator i j)
 value_is xs inputs w value o i j h is left right at_left at_right =
     let env = sources (length xs) w.streams in
     let known : (q : List ℕ) → built_in q ≡ None → w.visible.known q ≡ None = λ q none. ap (λ (v : Visible). v.known q) h.visible ∙ none in
-    let stream : (q : List ℕ) (k : ℕ) → last_input 0 None inputs q ≡ Some k → env.now q None ≡ Some (input_stream 8 k xs) =
+    let stream : (q : List ℕ) (k : ℕ) → last_input inputs q ≡ Some k → env.now q None ≡ Some (input_stream 8 k xs) =
     λ q k at. ap (option_map (λ (b : Bound). b.stream)) (h.streams q ∙ ap (option_map (bound xs)) at) in
     ap (assigned None) (operation_means value o is w.visible (length xs) env (known o.left left) (known o.right right)
     ∙ ap₂ (λ (x y : Option Stream). operate (length xs) (op_in o.operator) (x ∷ y ∷ [])) (stream o.left i at_left) (stream o.right j at_right))
     ∙ operated_is xs o.operator i j
 
 outputs_are : (xs : List (List ℕ)) (at : ℕ) (inputs : List Item) (w : World) (last : Item) (o : Named) (i j : ℕ) → AreMade xs inputs w → output_part last ≡ Some o → built_in o.left ≡ None → built_in o.right ≡ None
-    → last_input 0 None inputs o.left ≡ Some i → last_input 0 None inputs o.right ≡ Some j
+    → last_input inputs o.left ≡ Some i → last_input inputs o.right ≡ Some j
     → option_map (λ (k : World). k.outputs) (items_change xs at (last ∷ []) w) ≡ Some (logic_stream xs o.operator i j ∷ [])
 outputs_are xs at inputs w (Output name None value) o i j h is left right at_left at_right =
     let s = logic_stream xs o.operator i j in

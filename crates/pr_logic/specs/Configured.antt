@@ -1,4 +1,4 @@
--- The configuration of a program of the first form: the inputs in the first stage, the operator in the second.
+-- The configuration of a logic operation: the inputs in the first stage, the operator in the second.
 use Rattle.std.specs.Prelude.{ℕ, zero, suc, ◌+◌, ◌==◌, ◌||◌, ◌≤◌, ◌<◌, Bool, List, [], ◌∷◌, nat_lt, replicate, if◌then◌else◌}
 use Rattle.pr_base.specs.declared.choices.Mode.TheVariants as Mode
 use Rattle.pr_base.specs.declared.choices.Carry.TheVariants as Carry

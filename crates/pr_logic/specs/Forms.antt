@@ -1,6 +1,7 @@
 -- Programs that are one logic operation: inputs of 8 bits, and then one output, which is an operator on two of them.
-use Rattle.std.specs.Prelude.{◌&&◌, ◌==◌, ◌+◌, ◌-◌, ℕ, Bool, false, Option, Some, None, List, [], ◌∷◌, length, take, nat_le, bytes_eq, if◌then◌else◌}
+use Rattle.std.specs.Prelude.{◌&&◌, ◌==◌, ◌+◌, ◌-◌, ℕ, Bool, false, Option, Some, None, option_map, List, [], ◌∷◌, length, take, nat_le, bytes_eq, if◌then◌else◌}
 use Rattle.std.specs.List.{slice_get, list_all}
+use Rattle.std.specs.Option.{option_or}
 use Rattle.pr_lang.specs.declared.trees.BinOp.{BinOp}
 use Rattle.pr_lang.specs.declared.trees.BinOp.TheVariants as binary
 use Rattle.pr_lang.specs.declared.trees.Fixed.{Fixed}
@@ -59,11 +60,10 @@ abbrev pub is_input_of : List ℕ → Item → Bool
 is_input_of q (Input name width) = bytes_eq name q
 is_input_of q item = false
 
--- the place of the last input of this name, where the first of these items has this place and the items before it have
--- their last one at `found`
-abbrev pub last_input : ℕ → Option ℕ → List Item → List ℕ → Option ℕ
-last_input i found [] q = found
-last_input i found (item ∷ items) q = last_input (i + 1) (if is_input_of q item then Some i else found) items q
+-- the place of the last input of this name among these items: that of the last after the first item, or else the first item's
+abbrev pub last_input : List Item → List ℕ → Option ℕ
+last_input [] q = None
+last_input (item ∷ items) q = option_or (option_map (λ k. k + 1) (last_input items q)) (if is_input_of q item then Some 0 else None)
 
 abbrev pub program_of : ℕ → Logic → Option ℕ → Option ℕ → Option LogicProgram
 program_of inputs operator (Some left) (Some right) = Some (record { inputs = inputs; operator = operator; left = left; right = right })
@@ -71,7 +71,7 @@ program_of inputs operator left right = None
 
 -- these inputs and an operation on two of them
 abbrev pub placed_in : List Item → Named → Option LogicProgram
-placed_in inputs o = program_of (length inputs) o.operator (last_input 0 None inputs o.left) (last_input 0 None inputs o.right)
+placed_in inputs o = program_of (length inputs) o.operator (last_input inputs o.left) (last_input inputs o.right)
 
 abbrev pub placed_output : List Item → Option Named → Option LogicProgram
 placed_output inputs None = None

@@ -124,7 +124,7 @@ fn is_input(item: &Item, name: &Name) -> bool
 
 /// The place of the last input of this name, if there is one.
 fn place_of(items: &[Item], name: &Name) -> Option<usize>
-    ensures { result ≡ last_input 0 None items.now name.now }
+    ensures { result ≡ last_input items.now name.now }
 {
     let mut found = None;
     for (i, item) in items.iter().enumerate() {

@@ -3,6 +3,8 @@
 
 mod configuring;
 mod forms;
+mod laws;
 
 pub use configuring::configure;
 pub use forms::{Logic, LogicProgram, logic_program};
+pub use laws::form_law;

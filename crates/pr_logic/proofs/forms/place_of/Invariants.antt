@@ -1,6 +1,6 @@
-use Rattle.std.proofs.Common.{◌≡◌, drop, None}
+use Rattle.std.proofs.Common.{◌≡◌, take}
 use Rattle.pr_logic.specs.Forms.{last_input}
 use Rattle.pr_logic.proofs.forms.place_of.Given as goal
 
 abbrev pub invariant-loop-i : goal.invariant-loop-i
-invariant-loop-i l = last_input l.i l.found (drop l.i l.items) l.name ≡ last_input 0 None l.items l.name
+invariant-loop-i l = l.found ≡ last_input (take l.i l.items) l.name
