@@ -1,5 +1,5 @@
 -- From the run of a machine to the run of a configuration on the samples of a file.
-use Rattle.std.proofs.Common.{◌≡◌, ◌⊎◌, ◌^◌, ℕ, Bool, true, false, List, [], ◌++◌, length, take, drop, map, Some, refl, sym, ap, ap₂, ◌∙◌, subst, arith, append-nil, inl, inr}
+use Rattle.std.proofs.Common.{◌≡◌, ◌⊎◌, ◌≤◌, ◌^◌, ℕ, Bool, true, false, List, [], ◌++◌, length, take, drop, map, Some, refl, sym, ap, ap₂, ◌∙◌, subst, arith, append-nil, inl, inr}
 use Rattle.std.proofs.lemmas.List.{map-append, take-append-drop, take_all, drop_all}
 use Rattle.pr_base.specs.Rows.{row_bytes, written}
 use Rattle.pr_edge.specs.Files.{HasReadCause}
@@ -11,7 +11,8 @@ use Rattle.pr_samples.specs.declared.stall.Stall.{Stall}
 use Rattle.pr_samples.specs.Fed.{Ending, End, BadSample, Limit, fed_of, fed_within}
 use Rattle.pr_samples.specs.Feed.{name_of, widths_of, place_of, fed, SameFile, Tells, IsOver}
 use Rattle.pr_machine.specs.Stands.{History, conf_of, stripes_of}
-use Rattle.pr_script.specs.Counts.{IsFront}
+use Rattle.pr_script.specs.Script.{most_cycles}
+use Rattle.pr_script.specs.Counts.{IsFront, cycles_in}
 use Rattle.pr_script.specs.Text.{Line, history_lines, closing_lines, text_of}
 use Rattle.pr_script.proofs.TextLaws.{text-append, run_is_written}
 use Rattle.pr_run.specs.declared.ending.RunEnd.{RunEnd}
@@ -194,5 +195,6 @@ run_of b m f end ran = record {
   stands = ran.stands;
   first = λ file tells. rows_first b f ran.rows ran.last ran.read file tells;
   unread = λ lost. (ran.read.missing lost).1;
+  cycles = subst (λ (n : ℕ). cycles_in ran.history ≤ most_cycles (length (conf_of b.machine).stages) (stripes_of b.machine) (stall_turns b.stall) n) ran.read.count ran.cycles;
   end = end_of b f ran.rows ran.last ran.history end ran.read ran.answer;
 }

@@ -15,7 +15,8 @@ use Rattle.pr_run.specs.Turns.{Going}
 use Rattle.pr_modes.specs.declared.outcomes.Outcome.{Outcome}
 use Rattle.pr_modes.specs.Files.{IsText}
 use Rattle.pr_modes.specs.Configurations.{HasConfiguration, configuration_in}
-use Rattle.pr_modes.specs.Verdicts.{IsOwed}
+use Rattle.pr_modes.specs.Owed.{IsOwed, outcome_faults}
+use Rattle.pr_modes.proofs.OwedLemmas.{owed_read}
 use Rattle.pr_modes.proofs.VerdictLemmas.{passes_configuration}
 use Rattle.pr_exec.specs.Stalls.{HasStall, after_text, after_stall, bad_or, first_bad}
 use Rattle.pr_exec.specs.Samples.{ended_by, samples_verdict, run_verdict}
@@ -73,7 +74,7 @@ file_end files r rows ending is all = elim (files r.name) as (λ o. files r.name
 
 -- the last point decides
 end_owed : (N P : ℕ) (files : List ℕ → Option (List ℕ)) (r : Course) (rows : List (List ℕ)) (h : History) (outcome : Outcome) (sb ob on : ℕ) → r.start.told ≡ Some files → sb ≤ r.start.faults
-    → (outcome ≡ Outcome.WriteFault → Rose ob on) → IsEnd N P r rows h outcome → IsOwed (samples_verdict r.conf.inputs (files r.name)) sb r.now.faults ob on outcome
+    → (outcome ≡ Outcome.WriteFault → Rose ob on) → IsEnd N P r rows h outcome → IsOwed outcome_faults (λ o. o ≡ samples_verdict r.conf.inputs (files r.name)) sb r.now.faults ob on outcome
 end_owed N P files r rows h Outcome.Done sb ob on is le write end = inl (sym (file_end files r rows End is end.0))
 end_owed N P files r rows h (Outcome.Limit which) sb ob on is le write end = inl (sym (file_end files r rows (Limit which) is end.0))
 end_owed N P files r rows h (Outcome.BadSample line) sb ob on is le write end = inl (sym (file_end files r rows (BadSample line) is end.0))
@@ -85,22 +86,22 @@ end_owed N P files r rows h (Outcome.BadStall place) sb ob on is le write end = 
 end_owed N P files r rows h Outcome.Memory sb ob on is le write end = absurd end
 end_owed N P files r rows h Outcome.NotYet sb ob on is le write end = absurd end
 end_owed N P files r rows h Outcome.WriteFault sb ob on is le write end = inr (inr (inl (refl, write refl)))
-end_owed N P files r rows h Outcome.ReadFault sb ob on is le write end = elim (subst (λ (t : Told). HasReadCause t r.name r.start.faults r.now.faults) is end.0.cause) as (λ k. IsOwed (samples_verdict r.conf.inputs (files r.name)) sb r.now.faults ob on Outcome.ReadFault) [
+end_owed N P files r rows h Outcome.ReadFault sb ob on is le write end = elim (subst (λ (t : Told). HasReadCause t r.name r.start.faults r.now.faults) is end.0.cause) as (λ k. IsOwed outcome_faults (λ o. o ≡ samples_verdict r.conf.inputs (files r.name)) sb r.now.faults ob on Outcome.ReadFault) [
   | inl missing ↦ inl (sym (ap (λ (o : Option (List ℕ)). samples_verdict r.conf.inputs o) missing))
   | inr rose ↦ inr (inl (refl, rose_earlier sb r.start.faults r.now.faults le rose))
 ]
 
 -- the stall file and the samples decide where the configuration is there
 pub ran_owed : {N P : ℕ} (j : Job) (before now : View) (old new : Tape) (c : Shape) (machine : Going N P) (outcome : Outcome) (files : List ℕ → Option (List ℕ)) (ob on : ℕ) → HasRun (IsNeither j) c j before now old new machine outcome
-    → before.told ≡ Some files → (outcome ≡ Outcome.WriteFault → Rose ob on) → IsOwed (after_stall files j.stall (samples_verdict c.inputs (files j.second))) before.faults now.faults ob on outcome
+    → before.told ≡ Some files → (outcome ≡ Outcome.WriteFault → Rose ob on) → IsOwed outcome_faults (λ o. o ≡ after_stall files j.stall (samples_verdict c.inputs (files j.second))) before.faults now.faults ob on outcome
 ran_owed {N} {P} j before now old new c machine outcome files ob on run told write =
     let stall : after_stall files j.stall (samples_verdict c.inputs (files j.second)) ≡ samples_verdict c.inputs (files j.second) =
     passes_stall files j.stall run.turns _ (subst (λ (t : Told). HasStall t j.stall run.turns) told run.stall) in
-    subst (λ (v : Outcome). IsOwed v before.faults now.faults ob on outcome) (sym stall)
+    subst (λ (v : Outcome). IsOwed outcome_faults (λ o. o ≡ v) before.faults now.faults ob on outcome) (sym stall)
     (end_owed N P files (course c j.stripes run.turns j.second run.start now old new) run.run.rows run.run.history outcome before.faults ob on (run.later.told ∙ told) run.later.faults write run.run.end)
 
 pub run_owed : {N P : ℕ} (j : Job) (before now : View) (old new : Tape) (machine : Going N P) (outcome : Outcome) (files : List ℕ → Option (List ℕ)) (ob on : ℕ) → HasExecuted j before now old new machine outcome
-    → before.told ≡ Some files → (outcome ≡ Outcome.WriteFault → Rose ob on) → IsOwed (run_verdict files j.first j.second j.stall) before.faults now.faults ob on outcome
+    → before.told ≡ Some files → (outcome ≡ Outcome.WriteFault → Rose ob on) → IsOwed outcome_faults (λ o. o ≡ run_verdict files j.first j.second j.stall) before.faults now.faults ob on outcome
 run_owed {N} {P} j before now old new machine outcome files ob on has told write =
     let conf = has.configuration in
     let file : files j.first ≡ Some conf.bytes = subst (λ (t : Told). IsText t j.first conf.bytes) told conf.file in
@@ -108,7 +109,7 @@ run_owed {N} {P} j before now old new machine outcome files ob on has told write
     let first : run_verdict files j.first j.second j.stall ≡ next conf.bytes = passes_configuration (files j.first) conf.bytes next file conf.short conf.loadable.good in
     let second : next conf.bytes ≡ after_stall files j.stall (samples_verdict has.conf.inputs (files j.second)) =
     ap (λ (c : Shape). after_stall files j.stall (samples_verdict c.inputs (files j.second))) (sym conf.loadable.read) in
-    subst (λ (v : Outcome). IsOwed v before.faults now.faults ob on outcome) (sym (first ∙ second))
+    subst (λ (v : Outcome). IsOwed outcome_faults (λ o. o ≡ v) before.faults now.faults ob on outcome) (sym (first ∙ second))
     (ran_owed j before now old new has.conf machine outcome files ob on has.run told write)
 
 -- ---- single outcomes
@@ -120,14 +121,10 @@ pub no_memory : {N P : ℕ} (j : Job) (before now : View) (old new : Tape) (mach
 no_memory j before now old new machine outcome has is = ran_memory j before now old new has.conf machine outcome has.run is
 
 fault_of : (told : Told) (j : Job) (outcome : Outcome) (sb sn : ℕ) → outcome ≡ Outcome.ReadFault → (told ≡ None → Rose sb sn)
-    → ((files : List ℕ → Option (List ℕ)) → told ≡ Some files → IsOwed (run_verdict files j.first j.second j.stall) sb sn 0 0 outcome) → IsVerdict told j outcome ⊎ Rose sb sn
+    → ((files : List ℕ → Option (List ℕ)) → told ≡ Some files → IsOwed outcome_faults (λ o. o ≡ run_verdict files j.first j.second j.stall) sb sn 0 0 outcome) → IsVerdict told j outcome ⊎ Rose sb sn
 fault_of None j outcome sb sn is none owed = inr (none refl)
-fault_of (Some files) j outcome sb sn is none owed = elim (owed files refl) as (λ k. (outcome ≡ run_verdict files j.first j.second j.stall) ⊎ Rose sb sn) [
-  | inl same ↦ inl same
-  | inr (inl rose) ↦ inr rose.1
-  | inr (inr (inl write)) ↦ absurd (let e : Outcome.ReadFault ≡ Outcome.WriteFault = sym is ∙ write.0 in cc)
-  | inr (inr (inr memory)) ↦ absurd (let e : Outcome.ReadFault ≡ Outcome.Memory = sym is ∙ memory in cc)
-]
+fault_of (Some files) j outcome sb sn is none owed =
+    owed_read outcome_faults (λ o. o ≡ run_verdict files j.first j.second j.stall) sb sn 0 0 outcome (λ e. cc) (λ e. cc) is (owed files refl)
 
 -- where no file is told, a read that failed was a fault of the outside
 pub untold_fault : {N P : ℕ} (j : Job) (before now : View) (old new : Tape) (c : Shape) (machine : Going N P) (outcome : Outcome) → HasRun (IsNeither j) c j before now old new machine outcome → outcome ≡ Outcome.ReadFault

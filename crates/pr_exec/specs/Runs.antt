@@ -1,13 +1,13 @@
 -- What a run of a configuration on the samples of a file comes to.
-use Rattle.std.specs.Prelude.{◌≡◌, ◌⊎◌, ℕ, false, List, [], length, take, Some}
+use Rattle.std.specs.Prelude.{◌≡◌, ◌⊎◌, ◌≤◌, ℕ, false, List, [], length, take, Some}
 use Rattle.pr_edge.specs.Files.{IsMissing, HasReadCause}
 use Rattle.pr_edge.specs.Tape.{Tape, Appends, AppendsFront}
 use Rattle.pr_conf.specs.Shape.{Shape}
 use Rattle.pr_samples.specs.Fed.{Ending, End, BadSample, Limit}
 use Rattle.pr_samples.specs.Feed.{Tells}
 use Rattle.pr_machine.specs.Stands.{Stands, History}
-use Rattle.pr_script.specs.Script.{Held, script}
-use Rattle.pr_script.specs.Counts.{IsFront}
+use Rattle.pr_script.specs.Script.{Held, script, most_cycles}
+use Rattle.pr_script.specs.Counts.{IsFront, cycles_in}
 use Rattle.pr_script.specs.Text.{history_lines, text_of}
 use Rattle.pr_run.specs.declared.ending.RunEnd.{RunEnd}
 use Rattle.pr_run.specs.Setting.{View}
@@ -90,11 +90,13 @@ IsEnd N P r rows history Outcome.ReadFault = IsBroken r rows × IsWhole N P r ro
 IsEnd N P r rows history Outcome.WriteFault = IsStopped N P r rows history
 IsEnd N P r rows history outcome = ⊥
 
--- a run: the first samples of the file, the history for which the machine stands, and what the outcome says of them
+-- a run: the first samples of the file, the history for which the machine stands, with no more cycles than are enough for
+-- these samples, and what the outcome says of them
 pub record IsRun {N P : ℕ} (r : Course) (machine : Going N P) (outcome : Outcome) : Type 0 where
   pub rows : List (List ℕ)
   pub history : History
   pub stands : Stands machine r.conf r.stripes history
   pub first : (file : List ℕ) → Tells r.start.told r.name file → rows ≡ take (length rows) (fed_in r.conf.inputs file).samples
   pub unread : IsMissing r.start.told r.name → rows ≡ []
+  pub cycles : cycles_in history ≤ most_cycles (length r.conf.stages) r.stripes r.turns (length rows)
   pub end : IsEnd N P r rows history outcome

@@ -3,7 +3,7 @@ ghost use Rattle.std.specs.Prelude.{◌≡◌, ◌≢◌, ◌≤◌, ◌⊎◌, 
 ghost use Rattle.pr_edge.specs.Count.{Rose};
 ghost use Rattle.pr_conf.specs.Configuration.{shape_of};
 ghost use Rattle.pr_run.specs.Setting.{view};
-ghost use Rattle.pr_modes.specs.Verdicts.{IsOwed};
+ghost use Rattle.pr_modes.specs.Owed.{IsOwed, outcome_faults};
 ghost use Rattle.pr_exec.specs.Stalls.{IsStallRefusal};
 ghost use Rattle.pr_exec.specs.Samples.{run_verdict};
 ghost use Rattle.pr_exec.specs.Executions.{job, HasRun, IsNoStall, IsVerdict};
@@ -40,6 +40,7 @@ pub fn execute<const N: usize, const P: usize, S: Shelf, K: Sink>(
         (K.told out.old) (K.told out.new) o.machine o.outcome) }
     ensures refused { IfErr result (IsStallRefusal (S.told shelf.old) (option_map (λ s. s.now) stall.entry) (S.faults shelf.old) (S.faults shelf.new)) }
     ensures unwritten { OnErr result (K.told out.new ≡ K.told out.old) }
+    ensures unread { OnErr result ((q : List ℕ) → option_map (λ s. s.now) stall.entry ≢ Some q → S.reach shelf.new q ≡ S.reach shelf.old q) }
     ensures write_fault { IfOk result (λ o. o.outcome ≡ Outcome.WriteFault → Rose (K.faults out.old) (K.faults out.new)) }
     ensures told { S.told shelf.new ≡ S.told shelf.old }
     ensures others { (q : List ℕ) → q ≢ samples.now → option_map (λ s. s.now) stall.entry ≢ Some q → S.reach shelf.new q ≡ S.reach shelf.old q }
@@ -86,7 +87,7 @@ pub fn exec<S: Shelf, K: Sink>(
 
     // Over told files it is the verdict on them, unless a fault was counted or memory was wanting.
     ensures verdict { (files : List ℕ → Option (List ℕ)) → S.told shelf.old ≡ Some files
-        → IsOwed (run_verdict files configuration.now samples.now (option_map (λ s. s.now) stall.entry)) (S.faults shelf.old) (S.faults shelf.new) (K.faults out.old) (K.faults out.new) result }
+        → IsOwed outcome_faults (λ o. o ≡ run_verdict files configuration.now samples.now (option_map (λ s. s.now) stall.entry)) (S.faults shelf.old) (S.faults shelf.new) (K.faults out.old) (K.faults out.new) result }
     ensures read_fault { result ≡ Outcome.ReadFault → IsVerdict (S.told shelf.old) (job configuration.now samples.now (option_map (λ s. s.now) stall.entry) stripes) result ⊎ Rose (S.faults shelf.old) (S.faults shelf.new) }
     ensures write_fault { result ≡ Outcome.WriteFault → Rose (K.faults out.old) (K.faults out.new) }
     ensures memory { result ≡ Outcome.Memory → (K.told out.new ≡ K.told out.old) × (bench.new ≡ bench.old) }

@@ -1,12 +1,11 @@
 -- Verdicts on configuration files.
-use Rattle.std.proofs.Common.{◌≡◌, ◌⊎◌, ◌≤◌, ℕ, Bool, false, List, length, nat_lt, Some, None, Option, ap, inl, inr, ◌∙◌, arith, cond}
+use Rattle.std.proofs.Common.{◌≡◌, ◌≤◌, ℕ, Bool, false, List, length, nat_lt, Some, None, Option, ap, ◌∙◌, arith, cond}
 use Rattle.std.proofs.lemmas.Bool.Decides.{nat_tests}
 use Rattle.pr_base.specs.declared.caps.Cap.{Cap}
-use Rattle.pr_edge.specs.Count.{IsSteady}
 use Rattle.pr_code.specs.Rules.{Broken}
 use Rattle.pr_modes.specs.declared.outcomes.Outcome.{Outcome}
 use Rattle.pr_modes.specs.Configurations.{broken_in}
-use Rattle.pr_modes.specs.Verdicts.{broken_or, after_configuration, IsOwed}
+use Rattle.pr_modes.specs.Verdicts.{broken_or, after_configuration}
 
 -- where the file is good, the next points decide
 pub passes_configuration : (file : Option (List ℕ)) (bytes : List ℕ) (next : List ℕ → Outcome) → file ≡ Some bytes → length bytes ≤ 16777216 → broken_in bytes ≡ None → after_configuration file next ≡ next bytes
@@ -15,10 +14,3 @@ passes_configuration file bytes next is short good =
     ap (λ (f : Option (List ℕ)). after_configuration f next) is
     ∙ (ap (λ (b : Bool). cond b (Outcome.Limit Cap.ConfigBytes) (broken_or (broken_in bytes) (next bytes))) test
     ∙ ap (λ (o : Option Broken). broken_or o (next bytes)) good)
-
--- where no count rose, the verdict came or memory was wanting
-pub owed_steady : (verdict : Outcome) (sb sn ob on : ℕ) (outcome : Outcome) → IsOwed verdict sb sn ob on outcome → IsSteady sb sn → IsSteady ob on → (outcome ≡ verdict) ⊎ (outcome ≡ Outcome.Memory)
-owed_steady verdict sb sn ob on outcome (inl same) shelf sink = inl same
-owed_steady verdict sb sn ob on outcome (inr (inl read)) shelf sink = absurd (omega (arith, read.1, shelf))
-owed_steady verdict sb sn ob on outcome (inr (inr (inl write))) shelf sink = absurd (omega (arith, write.1, sink))
-owed_steady verdict sb sn ob on outcome (inr (inr (inr memory))) shelf sink = inr memory

@@ -1,4 +1,5 @@
 pub mod Files
+pub mod Owed
 pub mod Configurations
 pub mod Loadables
 pub mod Verdicts

@@ -1,7 +1,6 @@
 -- What a mode is to come to, by the files alone.
-use Rattle.std.specs.Prelude.{◌≡◌, ◌⊎◌, ℕ, List, length, nat_lt, Option, Some, None, if◌then◌else◌}
+use Rattle.std.specs.Prelude.{ℕ, List, length, nat_lt, Option, Some, None, if◌then◌else◌}
 use Rattle.pr_base.specs.declared.caps.Cap.{Cap}
-use Rattle.pr_edge.specs.Count.{Rose}
 use Rattle.pr_code.specs.Rules.{Broken}
 use Rattle.pr_modes.specs.declared.outcomes.Outcome.{Outcome}
 use Rattle.pr_modes.specs.Configurations.{broken_in}
@@ -20,12 +19,3 @@ after_configuration (Some bytes) next =
 -- a mode that reads a configuration file and nothing else
 abbrev pub configuration_verdict : Option (List ℕ) → Outcome
 configuration_verdict file = after_configuration file (λ bytes. Outcome.Done)
-
--- the outcome is the verdict, or a fault that was counted, or want of memory; by the counts of the shelf and of the sink,
--- before and after
-abbrev pub IsOwed : Outcome → ℕ → ℕ → ℕ → ℕ → Outcome → Type 0
-IsOwed verdict shelf_before shelf_now sink_before sink_now outcome =
-    (outcome ≡ verdict)
-    ⊎ (((outcome ≡ Outcome.ReadFault) × Rose shelf_before shelf_now)
-    ⊎ (((outcome ≡ Outcome.WriteFault) × Rose sink_before sink_now)
-    ⊎ (outcome ≡ Outcome.Memory)))

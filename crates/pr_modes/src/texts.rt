@@ -3,7 +3,8 @@ ghost use Rattle.std.specs.Prelude.{◌≡◌, ◌≢◌, ◌≤◌, ◌⊎◌, 
 ghost use Rattle.pr_edge.specs.Count.{Rose};
 ghost use Rattle.pr_edge.specs.Files.{HasReadCause};
 ghost use Rattle.pr_conf.specs.Configuration.{shape_of};
-ghost use Rattle.pr_modes.specs.Verdicts.{configuration_verdict, IsOwed};
+ghost use Rattle.pr_modes.specs.Verdicts.{configuration_verdict};
+ghost use Rattle.pr_modes.specs.Owed.{IsOwed, outcome_faults};
 ghost use Rattle.pr_modes.specs.Texts.{text_in, IsPut, IsRefused, IsWritten};
 
 use crate::loading::{Loadable, read_configuration};
@@ -71,7 +72,7 @@ pub fn write_configuration<S: Shelf, K: Sink>(
 
     // Over told files it is the verdict on them, unless a fault was counted or memory was wanting.
     ensures verdict { (files : List ℕ → Option (List ℕ)) → S.told shelf.old ≡ Some files
-        → IsOwed (configuration_verdict (files name.now)) (S.faults shelf.old) (S.faults shelf.new) (K.faults out.old) (K.faults out.new) result }
+        → IsOwed outcome_faults (λ o. o ≡ configuration_verdict (files name.now)) (S.faults shelf.old) (S.faults shelf.new) (K.faults out.old) (K.faults out.new) result }
     ensures read_fault { result ≡ Outcome.ReadFault → HasReadCause (S.told shelf.old) name.now (S.faults shelf.old) (S.faults shelf.new) × (K.told out.new ≡ K.told out.old) }
     ensures write_fault { result ≡ Outcome.WriteFault → Rose (K.faults out.old) (K.faults out.new) }
     ensures memory { result ≡ Outcome.Memory → K.told out.new ≡ K.told out.old }

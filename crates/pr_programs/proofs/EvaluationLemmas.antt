@@ -1,20 +1,17 @@
 -- From the parts of an evaluation to what it comes to.
-use Rattle.std.proofs.Common.{◌≡◌, ◌⊎◌, ◌≤◌, ℕ, List, length, refl, sym, subst, ◌∙◌, ap, inl, inr}
+use Rattle.std.proofs.Common.{◌≡◌, ◌≤◌, ℕ, List, length, refl, sym, subst, inl, inr}
 use Rattle.pr_base.specs.declared.caps.Cap.{Cap}
-use Rattle.pr_base.specs.Rows.{written}
 use Rattle.pr_edge.specs.Files.{Told, HasReadCause}
 use Rattle.pr_edge.specs.Tape.{Tape, Appends, AppendsFront}
 use Rattle.pr_lang.specs.declared.trees.Program.{Program}
 use Rattle.pr_samples.specs.declared.feed.Got.{Got}
 use Rattle.pr_samples.specs.Fed.{Ending, End, BadSample, Limit}
-use Rattle.pr_meaning.specs.Programs.{out}
 use Rattle.pr_modes.specs.declared.outcomes.Outcome.{Outcome}
 use Rattle.pr_modes.specs.Files.{IsText, IsFileRefusal}
 use Rattle.pr_exec.specs.Samples.{fed_in}
 use Rattle.pr_exec.proofs.VerdictLemmas.{rose_earlier}
 use Rattle.pr_front.specs.declared.fronts.Front.{Front}
 use Rattle.pr_front.specs.Files.{HasProgram, IsLoaded}
-use Rattle.pr_programs.specs.Samples.{EndsBy, AreFed}
 use Rattle.pr_programs.specs.Evaluations.{inputs_of, HasSamples, IsWhole, IsEnd, IsEvaluated}
 use Rattle.pr_programs.specs.Results.{outcome_by, AreResults, IsPut}
 

@@ -1,7 +1,8 @@
 -- What the rules of scope say of the inputs of a program.
-use Rattle.std.proofs.Common.{◌≡◌, ◌≤◌, ◌+◌, ◌&&◌, ◌==◌, ℕ, Bool, true, false, cond, Option, Some, None, List, [], ◌∷◌, ◌++◌, length, replicate, All, nat_le, bytes_eq, Ok, refl, sym, ap, ◌∙◌, subst, arith, rules, true≢false}
+use Rattle.std.proofs.Common.{◌≡◌, ◌≤◌, ◌+◌, ◌==◌, ℕ, true, false, cond, Some, None, option_map, List, [], ◌∷◌, ◌++◌, length, replicate, All, nat_le, Ok, refl, sym, ap, ◌∙◌, subst, arith, rules, true≢false}
 use Rattle.std.specs.Bool.{⊤}
 use Rattle.std.specs.List.{list_all}
+use Rattle.std.specs.Option.{option_or}
 use Rattle.std.proofs.lemmas.Bool.{and_parts, eqb-true}
 use Rattle.std.proofs.lemmas.Bool.Decides.{nat_tests}
 use Rattle.std.proofs.lemmas.List.Elements.{All-append, All-cons}
@@ -11,7 +12,7 @@ use Rattle.pr_lang.specs.declared.trees.Item.TheVariants.{Input, Output, Const, 
 use Rattle.pr_lang.specs.declared.trees.Program.{Program}
 use Rattle.pr_names.specs.Names.{Known, built_in}
 use Rattle.pr_scope.specs.Statements.{is_width}
-use Rattle.pr_scope.specs.Walk.{World, start, item_change, inputs_after, program_walk, offence}
+use Rattle.pr_scope.specs.Walk.{World, start, item_change, inputs_after, offence}
 use Rattle.pr_lawful.specs.Items.{widths_of_inputs}
 use Rattle.pr_lawful.proofs.InvertedItems.{input-inverted, output-inverted, constant-inverted, table-inverted, function-inverted, step-inverted, AllItems, program-inverted, inputs-walked}
 use Rattle.pr_logic.specs.declared.forms.LogicProgram.{LogicProgram}
@@ -73,24 +74,31 @@ inputs_unknown at (item ∷ items) more w w' bytes is known =
     let one = input_kept at item w is.0 tests.0 is.1 known in
     (one.0, inputs_unknown (at + 1) items more is.0 w' tests.1 is.2 one.1)
 
-name_unknown : (items : List Item) (i : ℕ) (found : Option ℕ) (q : List ℕ) (k : ℕ) → AreUnknown items → (found ≡ Some k → built_in q ≡ None) → last_input i found items q ≡ Some k → built_in q ≡ None
-name_unknown [] i found q k unknown before is = before is
-name_unknown (Input name width ∷ items) i found q k unknown before is = elim (bytes_eq name q) as (λ b. bytes_eq name q ≡ b → last_input (i + 1) (cond b (Some i) found) items q ≡ Some k → built_in q ≡ None) [
-  | true ↦ λ e h. name_unknown items (i + 1) (Some i) q k unknown.1 (λ same. ap built_in (sym ((bytes_eq-Decides name q).0 e)) ∙ unknown.0) h
-  | false ↦ λ e h. name_unknown items (i + 1) found q k unknown.1 before h
+-- nor is a name that an input has
+input_unknown : (item : Item) (q : List ℕ) → IsUnknown item → is_input_of q item ≡ true → built_in q ≡ None
+input_unknown (Input name width) q unknown is = ap built_in (sym ((bytes_eq-Decides name q).0 is)) ∙ unknown
+input_unknown (Output name width value) q unknown is = absurd (true≢false (sym is))
+input_unknown (Const name value) q unknown is = absurd (true≢false (sym is))
+input_unknown (Table name values) q unknown is = absurd (true≢false (sym is))
+input_unknown (Function name params width body result) q unknown is = absurd (true≢false (sym is))
+input_unknown (Step stmt) q unknown is = absurd (true≢false (sym is))
+
+name_unknown : (items : List Item) (q : List ℕ) (k : ℕ) → AreUnknown items → last_input items q ≡ Some k → built_in q ≡ None
+name_unknown [] q k unknown is = absurd (cc)
+name_unknown (item ∷ items) q k unknown is = elim (last_input items q) as (λ o. last_input items q ≡ o → option_or (option_map (λ (n : ℕ). n + 1) o) (cond (is_input_of q item) (Some 0) None) ≡ Some k → built_in q ≡ None) [
+  | Some n ↦ λ later h. name_unknown items q n unknown.1 later
+  | None ↦ λ none h. elim (is_input_of q item) as (λ b. is_input_of q item ≡ b → cond b (Some 0) None ≡ Some k → built_in q ≡ None) [
+    | true ↦ λ here at. input_unknown item q unknown.0 here
+    | false ↦ λ other at. absurd (cc)
+  ] refl h
 ] refl is
-name_unknown (Output name width value ∷ items) i found q k unknown before is = name_unknown items (i + 1) found q k unknown.1 before is
-name_unknown (Const name value ∷ items) i found q k unknown before is = name_unknown items (i + 1) found q k unknown.1 before is
-name_unknown (Table name values ∷ items) i found q k unknown before is = name_unknown items (i + 1) found q k unknown.1 before is
-name_unknown (Function name params width body result ∷ items) i found q k unknown before is = name_unknown items (i + 1) found q k unknown.1 before is
-name_unknown (Step stmt ∷ items) i found q k unknown before is = name_unknown items (i + 1) found q k unknown.1 before is
 
 -- the operands of a logic operation are nothing that is built in
-pub operand_unknown : (program : Program) (f : LogicProgram) (is : IsLogic program.items.items f) → offence program ≡ None → (q : List ℕ) (k : ℕ) → last_input 0 None is.inputs q ≡ Some k → built_in q ≡ None
+pub operand_unknown : (program : Program) (f : LogicProgram) (is : IsLogic program.items.items f) → offence program ≡ None → (q : List ℕ) (k : ℕ) → last_input is.inputs q ≡ Some k → built_in q ≡ None
 operand_unknown program f is none q k at =
     let walk = program-inverted program none in
     let all = subst (λ (items : List Item). AllItems 0 items start walk.last) is.all walk.all in
-    name_unknown is.inputs 0 None q k (inputs_unknown 0 is.inputs (is.last ∷ []) start walk.last is.bytes all refl) (λ e. absurd (cc)) at
+    name_unknown is.inputs q k (inputs_unknown 0 is.inputs (is.last ∷ []) start walk.last is.bytes all refl) at
 
 byte_widths : (items : List Item) (last : Item) (o : Named) → list_all is_byte_input items ≡ true → output_part last ≡ Some o → widths_of_inputs (items ++ last ∷ []) ≡ replicate (length items) 8
 byte_widths [] (Output name width value) o bytes out = refl

@@ -1,5 +1,5 @@
 -- From the parts of a run of a program to what it comes to.
-use Rattle.std.proofs.Common.{◌≡◌, ◌≢◌, ◌≤◌, ℕ, List, Option, Some, None, refl, sym, ap, subst, ◌∙◌, inl, inr}
+use Rattle.std.proofs.Common.{◌≡◌, ◌≢◌, ◌≤◌, ℕ, List, Option, Some, None, refl, sym, subst, ◌∙◌, inl, inr}
 use Rattle.pr_edge.specs.Files.{Told}
 use Rattle.pr_edge.specs.Tape.{Tape}
 use Rattle.pr_run.specs.Setting.{View}
@@ -14,7 +14,7 @@ use Rattle.pr_front.specs.Files.{IsLoaded}
 use Rattle.pr_logic.specs.declared.forms.LogicProgram.{LogicProgram}
 use Rattle.pr_logic.specs.Configured.{logic_shape}
 use Rattle.pr_logic.specs.Forms.{program_in}
-use Rattle.pr_programs.specs.Starts.{HasLogic, HasOther, IsStartRefusal, HasStarted}
+use Rattle.pr_programs.specs.Starts.{HasLogic, IsStartRefusal, IsUnbuiltRun, HasStarted}
 use Rattle.pr_programs.proofs.CompiledLemmas.{compiled}
 use Rattle.pr_programs.proofs.EvaluationLemmas.{program_of, cause_earlier}
 
@@ -23,6 +23,9 @@ has_logic told name f l loaded is = record { program = f.scoped.program; widths 
 
 pub other_refusal : (j : Job) (before now : View) (f : Front) (o : Option LogicProgram) → IsLoaded before.told j.first f → o ≡ program_in f.scoped.program.items.items → o ≡ None → IsStartRefusal j before now Outcome.NotYet
 other_refusal j before now f o loaded is none = inr (inl (refl, record { program = f.scoped.program; widths = f.widths; has = program_of before.told j.first f loaded; other = sym is ∙ none }))
+
+pub unbuilt : (told : Told) (name : List ℕ) (before now : ℕ) (f : Front) → IsLoaded told name f → IsUnbuiltRun told name before now Outcome.NotYet
+unbuilt told name before now f loaded = inr (refl, record { program = f.scoped.program; widths = f.widths; has = program_of told name f loaded })
 
 -- a stall text that was refused after the program was read
 later_stall : (told : Told) (stall : Option (List ℕ)) (before mid now : ℕ) (outcome : Outcome) → before ≤ mid → IsStallRefusal told stall mid now outcome → IsStallRefusal told stall before now outcome

@@ -1,12 +1,12 @@
 -- What the mode comes to that evaluates a program on samples.
-use Rattle.std.specs.Prelude.{◌≡◌, ◌⊎◌, ◌≤◌, ℕ, List, length, nat_lt, Option, Some, None, ⊤, if◌then◌else◌}
+use Rattle.std.specs.Prelude.{◌≡◌, ◌⊎◌, ◌≤◌, ℕ, List, length, nat_lt, Option, Some, None, if◌then◌else◌}
 use Rattle.pr_base.specs.declared.caps.Cap.{Cap}
 use Rattle.pr_base.specs.Rows.{written}
 use Rattle.pr_edge.specs.Count.{Rose}
 use Rattle.pr_edge.specs.Files.{Told, HasReadCause}
 use Rattle.pr_edge.specs.Tape.{Tape, Appends, AppendsFront}
 use Rattle.pr_lang.specs.declared.trees.Program.{Program}
-use Rattle.pr_samples.specs.Fed.{Ending, End, BadSample, Limit}
+use Rattle.pr_samples.specs.Fed.{Fed, Ending, End, BadSample, Limit, ending_by}
 use Rattle.pr_scope.specs.Walk.{inputs_after, program_walk}
 use Rattle.pr_meaning.specs.Programs.{out}
 use Rattle.pr_modes.specs.declared.outcomes.Outcome.{Outcome}
@@ -17,6 +17,10 @@ use Rattle.pr_front.specs.Files.{HasProgram, IsProgramRefusal}
 -- the widths of a program's inputs
 abbrev pub inputs_of : Program → List ℕ
 inputs_of program = inputs_after (program_walk program)
+
+-- the samples of a file that an evaluation takes: it takes none of a file that has more bytes than it allows
+abbrev pub fed_whole : List ℕ → List ℕ → Fed
+fed_whole widths file = if nat_lt 16777216 (length file) then ending_by (Limit Cap.SampleBytes) else fed_in widths file
 
 -- the file has no more bytes than are allowed, these are all its samples, and they end so
 pub record HasSamples (told : Told) (name widths : List ℕ) (rows : List (List ℕ)) (ending : Ending) : Type 0 where
@@ -63,14 +67,14 @@ pub record IsEvaluated (told : Told) (first second : List ℕ) (before now : ℕ
   pub end : IsEnd told second program old new before now out_before out_now outcome
 
 -- ---- the verdict
--- a file of samples, if it is there
-abbrev pub samples_verdict : List ℕ → Option (List ℕ) → Outcome
-samples_verdict widths None = Outcome.ReadFault
-samples_verdict widths (Some file) = if nat_lt 16777216 (length file) then Outcome.Limit Cap.SampleBytes else ended_by (fed_in widths file).ending
+-- a file of samples that is read whole, if it is there
+abbrev pub whole_file_verdict : List ℕ → Option (List ℕ) → Outcome
+whole_file_verdict widths None = Outcome.ReadFault
+whole_file_verdict widths (Some file) = ended_by (fed_whole widths file).ending
 
 -- a program that no point refuses, and then its samples
 pub record IsLastVerdict (files : List ℕ → Option (List ℕ)) (first second : List ℕ) (outcome : Outcome) : Type 0 where
   pub program : Program
   pub widths : List ℕ
   pub has : HasProgram (Some files) first program widths
-  pub last : outcome ≡ samples_verdict (inputs_of program) (files second)
+  pub last : outcome ≡ whole_file_verdict (inputs_of program) (files second)

@@ -3,3 +3,4 @@ pub mod Evaluations
 pub mod Results
 pub mod Starts
 pub mod Verdicts
+pub mod Lines

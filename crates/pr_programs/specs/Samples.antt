@@ -1,9 +1,7 @@
 -- Samples that are read from a whole file.
-use Rattle.std.specs.Prelude.{◌≡◌, ◌≤◌, ℕ, List, length}
-use Rattle.pr_edge.specs.Files.{Told}
+use Rattle.std.specs.Prelude.{◌≡◌, ℕ, List}
 use Rattle.pr_samples.specs.declared.feed.Got.{Got}
 use Rattle.pr_samples.specs.Fed.{Ending, End, BadSample, Limit}
-use Rattle.pr_modes.specs.Files.{IsText}
 use Rattle.pr_exec.specs.Samples.{fed_in}
 
 -- the answer with which a feed ends so

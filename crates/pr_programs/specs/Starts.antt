@@ -1,19 +1,18 @@
 -- What the mode comes to that runs a program on samples.
-use Rattle.std.specs.Prelude.{◌≡◌, ◌⊎◌, ◌≤◌, ℕ, List, All, Some, None}
-use Rattle.pr_base.specs.Rows.{IsRow, written}
+use Rattle.std.specs.Prelude.{◌≡◌, ◌⊎◌, ℕ, List, All, Some, None}
+use Rattle.pr_base.specs.Rows.{IsRow}
 use Rattle.pr_edge.specs.Files.{Told}
-use Rattle.pr_edge.specs.Tape.{Tape, Appends}
+use Rattle.pr_edge.specs.Tape.{Tape}
 use Rattle.pr_conf.specs.Shape.{Shape}
 use Rattle.pr_conf.specs.Through.{result_numbers}
 use Rattle.pr_lang.specs.declared.trees.Program.{Program}
 use Rattle.pr_meaning.specs.Programs.{out}
-use Rattle.pr_samples.specs.Fed.{End}
 use Rattle.pr_run.specs.Setting.{View}
 use Rattle.pr_run.specs.Turns.{Going}
 use Rattle.pr_modes.specs.declared.outcomes.Outcome.{Outcome}
 use Rattle.pr_exec.specs.declared.benches.Bench.{Bench}
 use Rattle.pr_exec.specs.Stalls.{IsStallRefusal}
-use Rattle.pr_exec.specs.Samples.{pieces, fed_in}
+use Rattle.pr_exec.specs.Samples.{pieces}
 use Rattle.pr_exec.specs.Executions.{Job, HasRun, IsNeither}
 use Rattle.pr_front.specs.Files.{HasProgram, IsProgramRefusal}
 use Rattle.pr_logic.specs.declared.forms.LogicProgram.{LogicProgram}
@@ -48,11 +47,22 @@ IsStartRefusal j before now outcome =
     ⊎ (((outcome ≡ Outcome.NotYet) × HasOther before.told j.first)
     ⊎ (HasLogic before.told j.first × IsStallRefusal before.told j.stall before.faults now.faults outcome))
 
--- no run was begun: nothing is written, and the bench is as it was
+-- no run was begun: nothing is written, the bench is as it was, and the samples were not read
 pub record IsStartRefused (j : Job) (before now : View) (old new : Tape) (was bench : Bench) (outcome : Outcome) : Type 0 where
   pub cause : IsStartRefusal j before now outcome
   pub unwritten : new ≡ old
   pub kept : bench ≡ was
+  pub unread : (q : List ℕ) → IsNeither j q → now.reach q ≡ before.reach q
+
+-- the file has a program that no point refuses
+pub record HasPassed (told : Told) (name : List ℕ) : Type 0 where
+  pub program : Program
+  pub widths : List ℕ
+  pub has : HasProgram told name program widths
+
+-- what comes of a run that is not built, whatever its program is: the program is refused, or no point refuses it
+abbrev pub IsUnbuiltRun : Told → List ℕ → ℕ → ℕ → Outcome → Type 0
+IsUnbuiltRun told name before now outcome = IsProgramRefusal told name before now outcome ⊎ ((outcome ≡ Outcome.NotYet) × HasPassed told name)
 
 -- a run of the configuration of the program's logic operation
 pub record HasStarted {N P : ℕ} (j : Job) (before now : View) (old new : Tape) (machine : Going N P) (outcome : Outcome) : Type 0 where
@@ -67,11 +77,3 @@ abbrev pub IsStarted : Job → View → View → Tape → Tape → Bench → Out
 IsStarted j before now old new Bench.Nothing outcome = ⊥
 IsStarted j before now old new (Bench.Base machine) outcome = HasStarted j before now old new machine outcome
 IsStarted j before now old new (Bench.Wide machine) outcome = ⊥
-
--- ---- the lines of a program
--- the sink gained the lines of what the program of a file means on all samples of another
-pub record HasMeant (told : Told) (name file : List ℕ) (program : Program) (old new : Tape) : Type 0 where
-  pub widths : List ℕ
-  pub has : HasProgram told name program widths
-  pub ends : (fed_in (inputs_of program) file).ending ≡ End
-  pub text : Appends old new (written (out program (fed_in (inputs_of program) file).samples))

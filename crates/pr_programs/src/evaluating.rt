@@ -1,11 +1,11 @@
 //! A program that is evaluated on the samples of a file.
 ghost use Rattle.std.specs.Prelude.{◌≡◌, ◌≢◌, ◌≤◌, ◌⊎◌, ℕ, List, Option, Some, None, IfOk};
 ghost use Rattle.pr_edge.specs.Count.{Rose};
+ghost use Rattle.pr_modes.specs.Owed.{IsOwed, outcome_faults};
 ghost use Rattle.pr_scope.specs.Walk.{IsScoped};
-ghost use Rattle.pr_lang.specs.declared.trees.Program.{Program};
 ghost use Rattle.pr_programs.specs.Evaluations.{IsRefused, IsEvaluated};
-ghost use Rattle.pr_programs.specs.Starts.{HasMeant};
-ghost use Rattle.pr_programs.specs.Verdicts.{IsEvalVerdict, IsOwedBy};
+ghost use Rattle.pr_programs.specs.Lines.{AreEvalLines};
+ghost use Rattle.pr_programs.specs.Verdicts.{IsEvalVerdict};
 ghost use Rattle.pr_programs.specs.Results.{outcome_by, AreResults, IsPut};
 
 use crate::lines::lines_of;
@@ -80,14 +80,15 @@ pub fn eval<S: Shelf, K: Sink>(
     ensures ended { IsRefused (S.told shelf.old) program.now (S.faults shelf.old) (S.faults shelf.new) (K.told out.old) (K.told out.new) result
         ⊎ IsEvaluated (S.told shelf.old) program.now samples.now (S.faults shelf.old) (S.faults shelf.new) (K.told out.old) (K.told out.new) (K.faults out.old) (K.faults out.new) result }
 
-    // Where it came to its end, the lines of what the program means on all samples of the file are written.
-    ensures meant { (files : List ℕ → Option (List ℕ)) (file : List ℕ) → S.told shelf.old ≡ Some files → files samples.now ≡ Some file → result ≡ Outcome.Done
-        → (q : Program) × HasMeant (Some files) program.now file q (K.told out.old) (K.told out.new) }
+    // What it has written of the lines of what the program means on the samples of the file: all of them, or first bytes after
+    // a write fault, and nothing where the program is refused or a read failed.
+    ensures lines { (files : List ℕ → Option (List ℕ)) (file : List ℕ) → S.told shelf.old ≡ Some files → files samples.now ≡ Some file
+        → AreEvalLines files program.now file (K.told out.old) (K.told out.new) result }
     ensures read_fault { result ≡ Outcome.ReadFault → S.told shelf.old ≡ None → Rose (S.faults shelf.old) (S.faults shelf.new) }
 
     // Over told files it is the verdict on them, unless a fault was counted or memory was wanting.
     ensures verdict { (files : List ℕ → Option (List ℕ)) → S.told shelf.old ≡ Some files
-        → IsOwedBy (IsEvalVerdict files program.now samples.now) (S.faults shelf.old) (S.faults shelf.new) (K.faults out.old) (K.faults out.new) result }
+        → IsOwed outcome_faults (IsEvalVerdict files program.now samples.now) (S.faults shelf.old) (S.faults shelf.new) (K.faults out.old) (K.faults out.new) result }
     ensures write_fault { result ≡ Outcome.WriteFault → Rose (K.faults out.old) (K.faults out.new) }
     ensures memory { result ≡ Outcome.Memory → K.told out.new ≡ K.told out.old }
 

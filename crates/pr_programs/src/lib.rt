@@ -2,9 +2,13 @@
 #![tactic(auto)]
 
 mod evaluating;
+mod laws;
 mod lines;
+mod refusing;
 mod samples;
 mod starting;
 
 pub use evaluating::eval;
+pub use laws::verdict_law;
+pub use refusing::refuse_run;
 pub use starting::run;

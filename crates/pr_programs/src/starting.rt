@@ -1,13 +1,14 @@
 //! A program that is run on the samples of a file.
 ghost use Rattle.std.specs.Prelude.{◌≡◌, ◌≢◌, ◌≤◌, ◌⊎◌, ℕ, List, Option, Some, None, IfOk, IfErr, OnErr, option_map};
 ghost use Rattle.pr_edge.specs.Count.{Rose};
+ghost use Rattle.pr_modes.specs.Owed.{IsOwed, outcome_faults};
 ghost use Rattle.pr_run.specs.Setting.{view};
 ghost use Rattle.pr_exec.specs.Stalls.{IsStallRefusal};
 ghost use Rattle.pr_exec.specs.Executions.{job, HasRun, IsNoStall};
 ghost use Rattle.pr_logic.specs.Configured.{HasInputs, logic_shape};
-ghost use Rattle.pr_lang.specs.declared.trees.Program.{Program};
-ghost use Rattle.pr_programs.specs.Starts.{IsStartRefused, IsStarted, HasMeant};
-ghost use Rattle.pr_programs.specs.Verdicts.{IsRunVerdict, IsOwedBy};
+ghost use Rattle.pr_programs.specs.Starts.{IsStartRefused, IsStarted};
+ghost use Rattle.pr_programs.specs.Lines.{AreRunLines};
+ghost use Rattle.pr_programs.specs.Verdicts.{IsRunVerdict};
 
 use pr_edge::{Shelf, Sink};
 use pr_exec::{Bench, Over, execute};
@@ -35,6 +36,7 @@ fn start<S: Shelf, K: Sink>(
         (K.told out.old) (K.told out.new) o.machine o.outcome) }
     ensures refused { IfErr result (IsStallRefusal (S.told shelf.old) (option_map (λ s. s.now) stall.entry) (S.faults shelf.old) (S.faults shelf.new)) }
     ensures unwritten { OnErr result (K.told out.new ≡ K.told out.old) }
+    ensures unread { OnErr result ((q : List ℕ) → option_map (λ s. s.now) stall.entry ≢ Some q → S.reach shelf.new q ≡ S.reach shelf.old q) }
     ensures write_fault { IfOk result (λ o. o.outcome ≡ Outcome.WriteFault → Rose (K.faults out.old) (K.faults out.new)) }
     ensures told { S.told shelf.new ≡ S.told shelf.old }
     ensures others { (q : List ℕ) → q ≢ samples.now → option_map (λ s. s.now) stall.entry ≢ Some q → S.reach shelf.new q ≡ S.reach shelf.old q }
@@ -75,14 +77,18 @@ pub fn run<S: Shelf, K: Sink>(
         (view (S.told shelf.old) (S.reach shelf.old) (S.faults shelf.old)) (view (S.told shelf.new) (S.reach shelf.new) (S.faults shelf.new))
         (K.told out.old) (K.told out.new) bench.new result }
 
-    // Where it came to its end, the lines of what the program means on all samples of the file are written.
-    ensures meant { (files : List ℕ → Option (List ℕ)) (file : List ℕ) → S.told shelf.old ≡ Some files → files samples.now ≡ Some file → result ≡ Outcome.Done
-        → (q : Program) × HasMeant (Some files) program.now file q (K.told out.old) (K.told out.new) }
+    // What it has written of the lines of what the program means on the samples that were fed, at each outcome of a run that was
+    // begun: all of them, or first bytes after a write fault. It asked the machine for no more cycles than a turn of the stall text
+    // each and those that drain these samples.
+    ensures lines { (files : List ℕ → Option (List ℕ)) (file : List ℕ) → S.told shelf.old ≡ Some files → files samples.now ≡ Some file
+        → AreRunLines files (job program.now samples.now (option_map (λ s. s.now) stall.entry) stripes) file
+        (view (S.told shelf.old) (S.reach shelf.old) (S.faults shelf.old)) (view (S.told shelf.new) (S.reach shelf.new) (S.faults shelf.new))
+        (K.told out.old) (K.told out.new) bench.old bench.new result }
     ensures read_fault { result ≡ Outcome.ReadFault → S.told shelf.old ≡ None → Rose (S.faults shelf.old) (S.faults shelf.new) }
 
     // Over told files it is the verdict on them, unless a fault was counted or memory was wanting.
     ensures verdict { (files : List ℕ → Option (List ℕ)) → S.told shelf.old ≡ Some files
-        → IsOwedBy (IsRunVerdict files (job program.now samples.now (option_map (λ s. s.now) stall.entry) stripes)) (S.faults shelf.old) (S.faults shelf.new) (K.faults out.old) (K.faults out.new) result }
+        → IsOwed outcome_faults (IsRunVerdict files (job program.now samples.now (option_map (λ s. s.now) stall.entry) stripes)) (S.faults shelf.old) (S.faults shelf.new) (K.faults out.old) (K.faults out.new) result }
     ensures write_fault { result ≡ Outcome.WriteFault → Rose (K.faults out.old) (K.faults out.new) }
 
     ensures memory { result ≡ Outcome.Memory → (K.told out.new ≡ K.told out.old) × (bench.new ≡ bench.old) }

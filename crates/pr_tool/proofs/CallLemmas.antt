@@ -1,35 +1,28 @@
 -- From what a task comes to, to the answer.
-use Rattle.std.proofs.Common.{◌≡◌, ◌⊎◌, ℕ, Bool, true, false, List, Option, Some, None, refl, sym, ap, ◌∙◌, subst, arith, inl, inr, true≢false}
-use Rattle.pr_edge.specs.Count.{Rose, IsSteady}
+use Rattle.std.proofs.Common.{◌≡◌, ◌⊎◌, ℕ, Bool, true, false, List, Option, Some, None, refl, sym, ap, ◌∙◌, subst, inl, inr, true≢false}
+use Rattle.pr_edge.specs.Count.{Rose}
 use Rattle.pr_edge.specs.Files.{Told}
 use Rattle.pr_words.specs.Lawful.{Order, Task, Run, Trace, Compile, Show, Migrate, Exec, Eval, Gen, Share, Checkpoint, Move, Extend}
 use Rattle.pr_modes.specs.declared.outcomes.Outcome.{Outcome}
-use Rattle.pr_programs.specs.Verdicts.{IsOwedBy}
-use Rattle.pr_lang.specs.declared.trees.Program.{Program}
+use Rattle.pr_modes.specs.Owed.{IsOwed, outcome_faults}
+use Rattle.pr_modes.proofs.OwedLemmas.{owed_read}
 use Rattle.pr_exec.specs.Executions.{Job, job}
-use Rattle.pr_programs.specs.Starts.{HasMeant}
-use Rattle.pr_programs.proofs.MeantLemmas.{run_meant, eval_meant}
+use Rattle.pr_programs.specs.Lines.{AreRunLines, AreEvalLines}
+use Rattle.pr_programs.proofs.LinesLemmas.{run_lines, eval_lines}
 use Rattle.pr_tool.specs.declared.answers.Answer.{Answer}
-use Rattle.pr_tool.specs.Answers.{answer_by}
-use Rattle.pr_tool.specs.Words.{Asked, is_plain, is_built, IsLater, IsProgramOrder, WhereBuilt}
-use Rattle.pr_tool.specs.Calls.{Call, IsRunEnd, IsNotYetEnd, IsDone, ByOutcome, IsCalled, IsVerdict, IsToldVerdict, IsOwedAnswer}
+use Rattle.pr_tool.specs.Answers.{answer_by, answer_faults}
+use Rattle.pr_tool.specs.Words.{Asked, is_plain, is_built, IsLater, WhereBuilt}
+use Rattle.pr_tool.specs.Calls.{Call, IsRunEnd, IsUnbuiltEnd, IsDone, ByOutcome, IsCalled, IsVerdict, IsToldVerdict}
 
 -- ---- outcomes and answers
 pub by_outcome : (P : Outcome → Type 0) (outcome : Outcome) → P outcome → ByOutcome P (answer_by outcome)
 by_outcome P outcome is = record { outcome = outcome; answers = refl; is = is }
 
-pub owed_answer : (P : Outcome → Type 0) (sb sn ob on : ℕ) (outcome : Outcome) → IsOwedBy P sb sn ob on outcome → IsOwedAnswer (ByOutcome P) sb sn ob on (answer_by outcome)
+pub owed_answer : (P : Outcome → Type 0) (sb sn ob on : ℕ) (outcome : Outcome) → IsOwed outcome_faults P sb sn ob on outcome → IsOwed answer_faults (ByOutcome P) sb sn ob on (answer_by outcome)
 owed_answer P sb sn ob on outcome (inl is) = inl (by_outcome P outcome is)
 owed_answer P sb sn ob on outcome (inr (inl read)) = inr (inl (ap answer_by read.0, read.1))
 owed_answer P sb sn ob on outcome (inr (inr (inl write))) = inr (inr (inl (ap answer_by write.0, write.1)))
 owed_answer P sb sn ob on outcome (inr (inr (inr memory))) = inr (inr (inr (ap answer_by memory)))
-
--- where no count rose
-pub steady_answer : (P : Answer → Type 0) (sb sn ob on : ℕ) (answer : Answer) → IsOwedAnswer P sb sn ob on answer → IsSteady sb sn → IsSteady ob on → P answer ⊎ (answer ≡ Answer.Memory)
-steady_answer P sb sn ob on answer (inl is) shelf out = inl is
-steady_answer P sb sn ob on answer (inr (inl read)) shelf out = absurd (omega (arith, read.1, shelf))
-steady_answer P sb sn ob on answer (inr (inr (inl write))) shelf out = absurd (omega (arith, write.1, out))
-steady_answer P sb sn ob on answer (inr (inr (inr memory))) shelf out = inr memory
 
 -- the outcome that an answer is
 abbrev outcome_in : Answer → Option Outcome
@@ -61,9 +54,6 @@ outcome_back Outcome.WriteFault = refl
 outcome_back Outcome.Memory = refl
 outcome_back Outcome.NotYet = refl
 
-pub same_outcome : (o p : Outcome) → answer_by o ≡ answer_by p → o ≡ p
-same_outcome o p e = let both : Some o ≡ Some p = sym (outcome_back o) ∙ (ap outcome_in e ∙ outcome_back p) in cc
-
 -- ---- what follows of a call
 pub called_usage : (asked : Asked) (k : Call) (answer : Answer) → IsCalled asked k answer → answer ≡ Answer.Usage → asked ≡ None
 called_usage None k answer h e = refl
@@ -74,12 +64,8 @@ pub called_wrong : (asked : Asked) (k : Call) (answer : Answer) → IsCalled ask
 called_wrong None k answer h e = h.0
 called_wrong (Some order) k answer h e = absurd (cc)
 
-unbuilt_run : (built : Bool) (P : Type 0) (k : Call) (outcome : Outcome) → built ≡ false → WhereBuilt built P (IsNotYetEnd k outcome) → outcome ≡ Outcome.NotYet
-unbuilt_run false P k outcome e h = h.not_yet
-unbuilt_run true P k outcome e h = absurd (true≢false e)
-
-not_built : (order : Order) (task : Task) (k : Call) (outcome : Outcome) → is_built order task ≡ false → IsDone order task k outcome → outcome ≡ Outcome.NotYet
-not_built order (Run program samples) k outcome e h = unbuilt_run (is_plain order.fabric order.narrow) _ k outcome e h
+not_built : (order : Order) (task : Task) (k : Call) (outcome : Outcome) → is_built task ≡ false → IsDone order task k outcome → outcome ≡ Outcome.NotYet
+not_built order (Run program samples) k outcome e h = absurd (true≢false e)
 not_built order (Trace program samples) k outcome e h = h.not_yet
 not_built order (Compile program) k outcome e h = h.not_yet
 not_built order (Exec configuration samples) k outcome e h = absurd (true≢false e)
@@ -97,38 +83,52 @@ called_later None k answer h later = absurd (let no : None ≡ Some later.order 
 called_later (Some order) k answer (inl memory) later = inr memory.0
 called_later (Some order) k answer (inr by) later =
     let same : order ≡ later.order = cc in
-    inl (by.answers ∙ ap answer_by (not_built order order.task k by.outcome (ap (λ (o : Order). is_built o o.task) same ∙ later.unbuilt) by.is))
+    inl (by.answers ∙ ap answer_by (not_built order order.task k by.outcome (ap (λ (o : Order). is_built o.task) same ∙ later.unbuilt) by.is))
 
 -- where the files are told the verdict tells a read fault, and where they are not a count does
 pub told_fault : (told : Told) (asked : Asked) (sb sn ob on : ℕ) (answer : Answer) → answer ≡ Answer.ReadFault → (told ≡ None → Rose sb sn)
-    → ((files : List ℕ → Option (List ℕ)) → told ≡ Some files → IsOwedAnswer (IsVerdict files asked) sb sn ob on answer) → IsToldVerdict told asked answer ⊎ Rose sb sn
+    → ((files : List ℕ → Option (List ℕ)) → told ≡ Some files → IsOwed answer_faults (IsVerdict files asked) sb sn ob on answer) → IsToldVerdict told asked answer ⊎ Rose sb sn
 told_fault None asked sb sn ob on answer is untold owed = inr (untold refl)
-told_fault (Some files) asked sb sn ob on answer is untold owed = elim (owed files refl) as (λ x. IsVerdict files asked answer ⊎ Rose sb sn) [
-  | inl verdict ↦ inl verdict
-  | inr (inl read) ↦ inr read.1
-  | inr (inr (inl write)) ↦ absurd (let no : Answer.ReadFault ≡ Answer.WriteFault = sym is ∙ write.0 in cc)
-  | inr (inr (inr memory)) ↦ absurd (let no : Answer.ReadFault ≡ Answer.Memory = sym is ∙ memory in cc)
-]
+told_fault (Some files) asked sb sn ob on answer is untold owed = owed_read answer_faults (IsVerdict files asked) sb sn ob on answer (λ e. cc) (λ e. cc) is (owed files refl)
 
 -- ---- what is written
-run_wrote : (files : List ℕ → Option (List ℕ)) (file : List ℕ) (built : Bool) (j : Job) (k : Call) → k.before.told ≡ Some files → files j.second ≡ Some file
-    → WhereBuilt built (IsRunEnd j k Outcome.Done) (IsNotYetEnd k Outcome.Done) → (q : Program) × HasMeant (Some files) j.first file q k.old k.new
-run_wrote files file true j k told is h = run_meant files file j k.before k.now k.old k.new k.was k.bench Outcome.Done told is refl h.ended
-run_wrote files file false j k told is h = absurd (let no : Outcome.Done ≡ Outcome.NotYet = h.not_yet in cc)
+run_wrote : (files : List ℕ → Option (List ℕ)) (file : List ℕ) (built : Bool) (j : Job) (k : Call) (outcome : Outcome) → k.before.told ≡ Some files → files j.second ≡ Some file
+    → WhereBuilt built (IsRunEnd j k outcome) (IsUnbuiltEnd j.first k outcome) → AreRunLines files j file k.before k.now k.old k.new k.was k.bench outcome
+run_wrote files file true j k outcome told there h = run_lines files file j k.before k.now k.old k.new k.was k.bench outcome told there h.ended
+run_wrote files file false j k outcome told there h = elim h.ended [
+  | inl refused ↦ run_lines files file j k.before k.now k.old k.new k.was k.bench outcome told there (inl (record { cause = inl refused; unwritten = h.unchanged.unwritten; kept = h.unchanged.kept; unread = λ q neither. h.unread q neither.0 }))
+  | inr passed ↦ subst (λ (o : Outcome). AreRunLines files j file k.before k.now k.old k.new k.was k.bench o) (sym passed.0) (record { unwritten = h.unchanged.unwritten; kept = h.unchanged.kept })
+]
 
-wrote : (files : List ℕ → Option (List ℕ)) (first second file : List ℕ) (order : Order) (k : Call) → k.before.told ≡ Some files → (order.task ≡ Eval first second) ⊎ (order.task ≡ Run first second) → files second ≡ Some file
-    → IsDone order order.task k Outcome.Done → (q : Program) × HasMeant (Some files) first file q k.old k.new
-wrote files first second file order k told (inl task) is h =
-    let end = subst (λ (t : Task). IsDone order t k Outcome.Done) task h in
-    eval_meant k.before.told files first second file k.before.faults k.now.faults k.out_before k.out_now k.old k.new Outcome.Done told is refl end.ended
-wrote files first second file order k told (inr task) is h =
-    run_wrote files file (is_plain order.fabric order.narrow) (job first second order.stall order.stripes) k told is (subst (λ (t : Task). IsDone order t k Outcome.Done) task h)
+-- a run of a program was asked for
+pub called_run : (files : List ℕ → Option (List ℕ)) (asked : Asked) (order : Order) (first second file : List ℕ) (k : Call) (answer : Answer) → k.before.told ≡ Some files → asked ≡ Some order → order.task ≡ Run first second → files second ≡ Some file
+    → IsCalled asked k answer → ByOutcome (AreRunLines files (job first second order.stall order.stripes) file k.before k.now k.old k.new k.was k.bench) answer
+called_run files None order first second file k answer told is task there h = absurd (let no : None ≡ Some order = is in cc)
+called_run files (Some o) order first second file k answer told is task there (inl memory) = record {
+  outcome = Outcome.Memory;
+  answers = memory.0;
+  is = record { unwritten = memory.1.unwritten; kept = memory.1.kept };
+}
+called_run files (Some o) order first second file k answer told is task there (inr by) =
+    let same : o ≡ order = (let both : Some o ≡ Some order = is in cc) in
+    let done = subst (λ (x : Order). IsDone x x.task k by.outcome) same by.is in
+    record {
+      outcome = by.outcome;
+      answers = by.answers;
+      is = run_wrote files file (is_plain order.fabric order.narrow) (job first second order.stall order.stripes) k by.outcome told there (subst (λ (t : Task). IsDone order t k by.outcome) task done);
+    }
 
-pub called_meant : (files : List ℕ → Option (List ℕ)) (asked : Asked) (k : Call) (answer : Answer) (first second file : List ℕ) → k.before.told ≡ Some files → IsProgramOrder asked first second → files second ≡ Some file → answer ≡ Answer.Ok
-    → IsCalled asked k answer → (q : Program) × HasMeant (Some files) first file q k.old k.new
-called_meant files None k answer first second file told order is ok h = absurd (let no : None ≡ Some order.order = order.lawful in cc)
-called_meant files (Some o) k answer first second file told order is ok (inl memory) = absurd (let no : Answer.Ok ≡ Answer.Memory = sym ok ∙ memory.0 in cc)
-called_meant files (Some o) k answer first second file told order is ok (inr by) =
-    let same : order.order ≡ o = (let both : Some o ≡ Some order.order = order.lawful in cc) in
-    let done : by.outcome ≡ Outcome.Done = same_outcome by.outcome Outcome.Done (sym by.answers ∙ ok) in
-    wrote files first second file o k told (subst (λ (x : Order). (x.task ≡ Eval first second) ⊎ (x.task ≡ Run first second)) same order.task) is (subst (λ (x : Outcome). IsDone o o.task k x) done by.is)
+-- an evaluation of a program was
+pub called_eval : (files : List ℕ → Option (List ℕ)) (asked : Asked) (order : Order) (first second file : List ℕ) (k : Call) (answer : Answer) → k.before.told ≡ Some files → asked ≡ Some order → order.task ≡ Eval first second → files second ≡ Some file
+    → IsCalled asked k answer → ByOutcome (AreEvalLines files first file k.old k.new) answer
+called_eval files None order first second file k answer told is task there h = absurd (let no : None ≡ Some order = is in cc)
+called_eval files (Some o) order first second file k answer told is task there (inl memory) = record { outcome = Outcome.Memory; answers = memory.0; is = memory.1.unwritten }
+called_eval files (Some o) order first second file k answer told is task there (inr by) =
+    let same : o ≡ order = (let both : Some o ≡ Some order = is in cc) in
+    let done = subst (λ (x : Order). IsDone x x.task k by.outcome) same by.is in
+    let end = subst (λ (t : Task). IsDone order t k by.outcome) task done in
+    record {
+      outcome = by.outcome;
+      answers = by.answers;
+      is = eval_lines k.before.told files first second file k.before.faults k.now.faults k.out_before k.out_now k.old k.new by.outcome told there end.ended;
+    }

@@ -1,2 +1,3 @@
 pub mod NotesLemmas
 pub mod CallLemmas
+pub mod OneAnswer

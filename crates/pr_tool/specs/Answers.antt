@@ -1,8 +1,9 @@
--- The status of each answer, and the answers that the outcomes of modes are.
+-- The status of each answer, the answers that the outcomes of modes are, and those that tell a fault.
 use Rattle.std.specs.Prelude.{ℕ}
 use Rattle.pr_tool.specs.declared.answers.Answer.{Answer}
 use Rattle.pr_tool.specs.declared.answers.Cause.{Cause}
 use Rattle.pr_modes.specs.declared.outcomes.Outcome.{Outcome}
+use Rattle.pr_modes.specs.Owed.{Faults}
 
 abbrev pub cause_status : Cause → ℕ
 cause_status (Cause.Syntax token) = 3
@@ -44,3 +45,7 @@ answer_by Outcome.ReadFault = Answer.ReadFault
 answer_by Outcome.WriteFault = Answer.WriteFault
 answer_by Outcome.Memory = Answer.Memory
 answer_by Outcome.NotYet = Answer.NotYet
+
+-- the answers that tell a failed read, a failed write and want of memory
+abbrev pub answer_faults : Faults Answer
+answer_faults = record { read = Answer.ReadFault; write = Answer.WriteFault; memory = Answer.Memory }

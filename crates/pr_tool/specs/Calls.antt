@@ -1,5 +1,5 @@
 -- What a call of the tool comes to.
-use Rattle.std.specs.Prelude.{◌≡◌, ◌⊎◌, ℕ, List, Option, Some, None}
+use Rattle.std.specs.Prelude.{◌≡◌, ◌≢◌, ◌⊎◌, ℕ, List, Option, Some, None}
 use Rattle.pr_edge.specs.Count.{Rose}
 use Rattle.pr_edge.specs.Files.{Told}
 use Rattle.pr_edge.specs.Tape.{Tape}
@@ -16,8 +16,8 @@ use Rattle.pr_exec.specs.Benches.{IsExecuted}
 use Rattle.pr_exec.specs.Benches as executions
 use Rattle.pr_programs.specs.Evaluations.{IsEvaluated}
 use Rattle.pr_programs.specs.Evaluations as evaluations
-use Rattle.pr_programs.specs.Starts.{IsStartRefused, IsStarted}
-use Rattle.pr_programs.specs.Verdicts.{IsEvalVerdict, IsRunVerdict}
+use Rattle.pr_programs.specs.Starts.{IsStartRefused, IsStarted, IsUnbuiltRun}
+use Rattle.pr_programs.specs.Verdicts.{IsEvalVerdict, IsRunVerdict, IsUnbuiltVerdict}
 use Rattle.pr_tool.specs.declared.answers.Answer.{Answer}
 use Rattle.pr_tool.specs.Answers.{answer_by}
 use Rattle.pr_tool.specs.Words.{Asked, is_plain, WhereBuilt}
@@ -72,6 +72,13 @@ pub record IsRunEnd (j : Job) (k : Call) (outcome : Outcome) : Type 0 where
   pub ended : IsStartRefused j k.before k.now k.old k.new k.was k.bench outcome ⊎ IsStarted j k.before k.now k.old k.new k.bench outcome
   pub write_fault : outcome ≡ Outcome.WriteFault → Rose k.out_before k.out_now
 
+-- a run that is not built with the options of an order: its program is refused, or no point refuses it; nothing is written,
+-- the bench is as it was, and no other file is read
+pub record IsUnbuiltEnd (name : List ℕ) (k : Call) (outcome : Outcome) : Type 0 where
+  pub ended : IsUnbuiltRun k.before.told name k.before.faults k.now.faults outcome
+  pub unchanged : IsUnchanged k
+  pub unread : (q : List ℕ) → q ≢ name → k.now.reach q ≡ k.before.reach q
+
 -- what is not built yet
 pub record IsNotYetEnd (k : Call) (outcome : Outcome) : Type 0 where
   pub not_yet : outcome ≡ Outcome.NotYet
@@ -84,7 +91,7 @@ IsDone order (Migrate name) k outcome = IsTextEnd Form.File name k outcome
 IsDone order (Exec first second) k outcome = IsExecEnd (job first second order.stall order.stripes) k outcome
 IsDone order (Eval first second) k outcome = IsEvalEnd first second k outcome
 IsDone order (Run first second) k outcome =
-    WhereBuilt (is_plain order.fabric order.narrow) (IsRunEnd (job first second order.stall order.stripes) k outcome) (IsNotYetEnd k outcome)
+    WhereBuilt (is_plain order.fabric order.narrow) (IsRunEnd (job first second order.stall order.stripes) k outcome) (IsUnbuiltEnd first k outcome)
 IsDone order task k outcome = IsNotYetEnd k outcome
 
 -- the answer that an outcome of this kind is
@@ -106,7 +113,7 @@ IsTaskVerdict files order (Migrate name) outcome = outcome ≡ configuration_ver
 IsTaskVerdict files order (Exec first second) outcome = outcome ≡ run_verdict files first second order.stall
 IsTaskVerdict files order (Eval first second) outcome = IsEvalVerdict files first second outcome
 IsTaskVerdict files order (Run first second) outcome =
-    WhereBuilt (is_plain order.fabric order.narrow) (IsRunVerdict files (job first second order.stall order.stripes) outcome) (outcome ≡ Outcome.NotYet)
+    WhereBuilt (is_plain order.fabric order.narrow) (IsRunVerdict files (job first second order.stall order.stripes) outcome) (IsUnbuiltVerdict files first outcome)
 IsTaskVerdict files order task outcome = outcome ≡ Outcome.NotYet
 
 -- what a call is to answer, by its words and the files alone
@@ -118,11 +125,3 @@ IsVerdict files (Some order) answer = ByOutcome (IsTaskVerdict files order order
 abbrev pub IsToldVerdict : Told → Asked → Answer → Type 0
 IsToldVerdict None asked answer = ⊥
 IsToldVerdict (Some files) asked answer = IsVerdict files asked answer
-
--- the answer is the verdict, or a fault that was counted, or want of memory
-abbrev pub IsOwedAnswer : (Answer → Type 0) → ℕ → ℕ → ℕ → ℕ → Answer → Type 0
-IsOwedAnswer is_verdict shelf_before shelf_now out_before out_now answer =
-    is_verdict answer
-    ⊎ (((answer ≡ Answer.ReadFault) × Rose shelf_before shelf_now)
-    ⊎ (((answer ≡ Answer.WriteFault) × Rose out_before out_now)
-    ⊎ (answer ≡ Answer.Memory)))

@@ -1,5 +1,5 @@
 -- What the words of a command line ask for, and which of it is built.
-use Rattle.std.specs.Prelude.{◌≡◌, ◌≢◌, ◌⊎◌, ℕ, Bool, true, false, List, Option, Some, None, map, string_bytes, String, ⊤}
+use Rattle.std.specs.Prelude.{◌≡◌, ◌≢◌, ℕ, Bool, true, false, List, Option, Some, None, map, string_bytes, String, ⊤}
 use Rattle.std.specs.declared.alloc.Global.{Global}
 use Rattle.pr_code.specs.declared.fabrics.Fabric.{Fabric}
 use Rattle.pr_words.specs.Lawful.{Order, Task, Run, Show, Migrate, Exec, Eval, lawful_words}
@@ -12,31 +12,25 @@ Asked = Option Order
 abbrev pub asked_by : List (String Global) → Asked
 asked_by words = lawful_words (map string_bytes words)
 
--- programs are built for the base fabric alone, and not narrowed
+-- runs are built for the base fabric alone, and not of narrowed programs
 abbrev pub is_plain : Fabric → Bool → Bool
 is_plain Fabric.Base false = true
 is_plain fabric narrow = false
 
--- whether a task is built with the options of an order
-abbrev pub is_built : Order → Task → Bool
-is_built order (Run program samples) = is_plain order.fabric order.narrow
-is_built order (Exec configuration samples) = true
-is_built order (Eval program samples) = true
-is_built order (Show configuration) = true
-is_built order (Migrate configuration) = true
-is_built order task = false
+-- whether anything of a task is built; a run refuses its program at least
+abbrev pub is_built : Task → Bool
+is_built (Run program samples) = true
+is_built (Exec configuration samples) = true
+is_built (Eval program samples) = true
+is_built (Show configuration) = true
+is_built (Migrate configuration) = true
+is_built task = false
 
--- a thing that is not built yet is asked for
+-- a task is asked for of which nothing is built yet
 pub record IsLater (asked : Asked) : Type 0 where
   pub order : Order
   pub lawful : asked ≡ Some order
-  pub unbuilt : is_built order order.task ≡ false
-
--- an evaluation or a run of a program file on a file of samples is asked for
-pub record IsProgramOrder (asked : Asked) (first second : List ℕ) : Type 0 where
-  pub order : Order
-  pub lawful : asked ≡ Some order
-  pub task : (order.task ≡ Eval first second) ⊎ (order.task ≡ Run first second)
+  pub unbuilt : is_built order.task ≡ false
 
 -- a fact where a thing is built, and another where it is not
 abbrev pub WhereBuilt : Bool → Type 0 → Type 0 → Type 0
@@ -50,7 +44,7 @@ IsNoneOf order first second q = (q ≢ first) × (q ≢ second) × (order.stall 
 
 -- this is no file that the task reads
 abbrev pub IsOtherFile : Order → Task → List ℕ → Type 0
-IsOtherFile order (Run program samples) q = WhereBuilt (is_plain order.fabric order.narrow) (IsNoneOf order program samples q) ⊤
+IsOtherFile order (Run program samples) q = WhereBuilt (is_plain order.fabric order.narrow) (IsNoneOf order program samples q) (q ≢ program)
 IsOtherFile order (Exec configuration samples) q = IsNoneOf order configuration samples q
 IsOtherFile order (Eval program samples) q = (q ≢ program) × (q ≢ samples)
 IsOtherFile order (Show configuration) q = q ≢ configuration

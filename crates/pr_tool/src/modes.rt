@@ -3,7 +3,7 @@ ghost use Rattle.std.specs.Prelude.{◌≡◌, ◌≤◌, ℕ, List, Some, None,
 ghost use Rattle.pr_edge.specs.Count.{Rose};
 ghost use Rattle.pr_run.specs.Setting.{view};
 ghost use Rattle.pr_words.specs.Orders.{order_of, mode_task};
-ghost use Rattle.pr_programs.specs.Verdicts.{IsOwedBy};
+ghost use Rattle.pr_modes.specs.Owed.{IsOwed, outcome_faults};
 ghost use Rattle.pr_tool.specs.Words.{is_plain, bounds_for, IsOtherFile, IsLaterFile};
 ghost use Rattle.pr_tool.specs.Calls.{call, IsDone, IsTaskVerdict};
 
@@ -11,12 +11,12 @@ use crate::notes::Bounds;
 use pr_edge::{Shelf, Sink};
 use pr_exec::{Bench, exec};
 use pr_modes::{Form, Outcome, write_configuration};
-use pr_programs::{eval, run};
+use pr_programs::{eval, refuse_run, run};
 use pr_words::{Fabric, Mode, Options, Words};
 use std::alloc::Global;
 
-/// Whether programs are built with these options: for the base fabric, and not narrowed.
-fn is_built(options: &Options<'_>) -> bool
+/// Whether runs of programs are built with these options: for the base fabric, and not narrowed.
+fn is_plain(options: &Options<'_>) -> bool
     ensures { result ≡ is_plain options.now.fabric options.now.narrow }
 {
     matches!(
@@ -51,12 +51,13 @@ pub fn do_task<S: Shelf, K: Sink>(
         (view (S.told shelf.old) (S.reach shelf.old) (S.faults shelf.old)) (view (S.told shelf.new) (S.reach shelf.new) (S.faults shelf.new))
         (K.told out.old) (K.told out.new) (K.faults out.old) (K.faults out.new) bench.old bench.new) result }
     ensures verdict { (files : List ℕ → Option (List ℕ)) → S.told shelf.old ≡ Some files
-        → IsOwedBy (IsTaskVerdict files (order_of words.now) (mode_task words.now.mode)) (S.faults shelf.old) (S.faults shelf.new) (K.faults out.old) (K.faults out.new) result }
+        → IsOwed outcome_faults (IsTaskVerdict files (order_of words.now) (mode_task words.now.mode)) (S.faults shelf.old) (S.faults shelf.new) (K.faults out.old) (K.faults out.new) result }
     ensures read_fault { result ≡ Outcome.ReadFault → S.told shelf.old ≡ None → Rose (S.faults shelf.old) (S.faults shelf.new) }
     ensures write_fault { result ≡ Outcome.WriteFault → Rose (K.faults out.old) (K.faults out.new) }
     ensures memory { result ≡ Outcome.Memory → (K.told out.new ≡ K.told out.old) × (bench.new ≡ bench.old) }
     ensures other_files { (q : List ℕ) → IsOtherFile (order_of words.now) (mode_task words.now.mode) q → S.reach shelf.new q ≡ S.reach shelf.old q }
     ensures later_files { result ≡ Outcome.NotYet → (q : List ℕ) → IsLaterFile (mode_task words.now.mode) q → S.reach shelf.new q ≡ S.reach shelf.old q }
+    ensures told { S.told shelf.new ≡ S.told shelf.old }
     ensures shelf_later { S.faults shelf.old ≤ S.faults shelf.new }
     ensures out_later { K.faults out.old ≤ K.faults out.new }
 {
@@ -82,8 +83,8 @@ pub fn do_task<S: Shelf, K: Sink>(
         ),
         Mode::Eval { program, samples } => eval(alloc, program, samples, shelf, out),
         Mode::Run { program, samples } => {
-            if !is_built(&words.options) {
-                return Outcome::NotYet;
+            if !is_plain(&words.options) {
+                return refuse_run(alloc, program, shelf);
             }
             run(
                 alloc,

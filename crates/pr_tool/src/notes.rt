@@ -145,7 +145,8 @@ fn put_answer(text: &mut Line, bounds: &Bounds, answer: &Answer)
 
 /// Writes the line of an answer that is not Ok. It takes no memory, and a failure of it is of no account.
 pub fn put_note<E: Sink>(note: &mut E, bounds: &Bounds, answer: &Answer)
-    ensures { GainsNote (E.told note.old) (E.told note.new) (E.faults note.old) (E.faults note.new) (note_of bounds.now answer.now) }
+    ensures gains { GainsNote (E.told note.old) (E.told note.new) (E.faults note.old) (E.faults note.new) (note_of bounds.now answer.now) }
+    ensures later { E.faults note.old ≤ E.faults note.new }
 {
     if let Answer::Ok = answer {
         return;
@@ -158,7 +159,8 @@ pub fn put_note<E: Sink>(note: &mut E, bounds: &Bounds, answer: &Answer)
 
 /// Writes these bytes. A failure is of no account.
 fn put_bytes<E: Sink>(note: &mut E, bytes: &[u8])
-    ensures { GainsNote (E.told note.old) (E.told note.new) (E.faults note.old) (E.faults note.new) bytes.now }
+    ensures gains { GainsNote (E.told note.old) (E.told note.new) (E.faults note.old) (E.faults note.new) bytes.now }
+    ensures later { E.faults note.old ≤ E.faults note.new }
 {
     match write_all(note, bytes) {
         Ok(()) => {}

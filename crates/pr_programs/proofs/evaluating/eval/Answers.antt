@@ -4,7 +4,7 @@ use Rattle.pr_edge.specs.Files.{Told}
 use Rattle.pr_modes.specs.Files.{IsText, IsFileRefusal}
 use Rattle.pr_programs.proofs.EvaluationLemmas.{file_end, put_end, evaluated}
 use Rattle.pr_programs.proofs.VerdictLemmas.{eval_owed}
-use Rattle.pr_programs.proofs.MeantLemmas.{eval_meant}
+use Rattle.pr_programs.proofs.LinesLemmas.{eval_lines}
 use Rattle.pr_programs.proofs.evaluating.eval.Goals as goal
 
 pub returns-in-Err-read_file-clause-ended : goal.returns-in-Err-read_file-clause-ended
@@ -29,8 +29,14 @@ returns-in-Ok-evaluate-clause-verdict g c = λ files told.
     eval_owed (g.S.Shelf.told c.args.shelf.now) files c.args.program.now c.args.samples.now (g.K.Sink.told c.args.out.now) (g.K.Sink.told c.put_results.new.out) _ _ _ _ c.put_results.result told
     (inr (evaluated (g.S.Shelf.told c.args.shelf.now) c.args.program.now c.args.samples.now c.in-Ok.front _ _ _ _ _ _ _ c.in-Ok.ensures.loaded (put_end _ _ _ _ _ _ _ _ _ _ _ _ _ file c.in-Ok-read_file.ensures.short c.in-Ok-evaluate.ensures c.put_results.ensures.put))))
 
-pub returns-in-Ok-evaluate-clause-meant : goal.returns-in-Ok-evaluate-clause-meant
-returns-in-Ok-evaluate-clause-meant g c = λ files text told is done.
-    (let file = subst (λ (t : Told). IsText t c.args.samples.now c.in-Ok-read_file.bytes.items) c.load_program.ensures.same c.in-Ok-read_file.ensures.text in
-    eval_meant (g.S.Shelf.told c.args.shelf.now) files c.args.program.now c.args.samples.now text (g.S.Shelf.faults c.args.shelf.now) (g.S.Shelf.faults c.read_file.new.shelf) (g.K.Sink.faults c.args.out.now) (g.K.Sink.faults c.put_results.new.out) (g.K.Sink.told c.args.out.now) (g.K.Sink.told c.put_results.new.out) c.put_results.result told is done
-    (inr (evaluated (g.S.Shelf.told c.args.shelf.now) c.args.program.now c.args.samples.now c.in-Ok.front _ _ _ _ _ _ _ c.in-Ok.ensures.loaded (put_end _ _ _ _ _ _ _ _ _ _ _ _ _ file c.in-Ok-read_file.ensures.short c.in-Ok-evaluate.ensures c.put_results.ensures.put))))
+pub returns-in-Err-clause-lines : goal.returns-in-Err-clause-lines
+returns-in-Err-clause-lines g c = λ files text told is.
+    eval_lines (g.S.Shelf.told c.args.shelf.now) files c.args.program.now c.args.samples.now text _ _ 0 0 _ _ c.in-Err.outcome told is (inl (record { cause = c.in-Err.ensures.refused; unwritten = refl }))
+
+pub returns-in-Err-read_file-clause-lines : goal.returns-in-Err-read_file-clause-lines
+returns-in-Err-read_file-clause-lines g c = λ files text told is.
+    eval_lines (g.S.Shelf.told c.args.shelf.now) files c.args.program.now c.args.samples.now text _ _ _ _ _ _ c.in-Err-read_file.outcome told is (returns-in-Err-read_file-clause-ended g c)
+
+pub returns-in-Ok-evaluate-clause-lines : goal.returns-in-Ok-evaluate-clause-lines
+returns-in-Ok-evaluate-clause-lines g c = λ files text told is.
+    eval_lines (g.S.Shelf.told c.args.shelf.now) files c.args.program.now c.args.samples.now text _ _ _ _ _ _ c.put_results.result told is (returns-in-Ok-evaluate-clause-ended g c)

@@ -1,7 +1,7 @@
 use Rattle.std.proofs.Common.{sym, subst, ◌∙◌, All, List, ℕ}
 use Rattle.pr_base.specs.Rows.{IsRow}
 use Rattle.pr_programs.proofs.ScopeLemmas.{IsInputWidth, lawful_inputs}
-use Rattle.pr_programs.proofs.MeantLemmas.{fed_rows}
+use Rattle.pr_programs.proofs.FedLemmas.{fed_rows}
 use Rattle.pr_programs.proofs.evaluating.evaluate.Goals as goal
 
 pub read_samples-requires : goal.read_samples-requires

@@ -1,8 +1,6 @@
 use Rattle.std.proofs.Common.{sym, ap, subst, ◌∙◌, ◌∷◌, ◌++◌, [], List, ℕ}
 use Rattle.pr_edge.specs.SureShelf.{told_of}
-use Rattle.pr_samples.specs.declared.feed.Got.{Got}
 use Rattle.pr_samples.specs.Feed.{widths_of}
-use Rattle.pr_programs.specs.Samples.{AreFed}
 use Rattle.pr_programs.proofs.SampleLemmas.{HasGiven, given_more, given_all, same_later, told_here, no_cause}
 use Rattle.pr_programs.proofs.samples.all_samples.Goals as goal
 

@@ -1,8 +1,10 @@
 use Rattle.std.proofs.Common.{sym, subst, Some}
 use Rattle.pr_words.specs.Orders.{order_of, mode_task}
+use Rattle.pr_modes.specs.Owed.{IsOwed}
 use Rattle.pr_tool.specs.declared.answers.Answer.{Answer}
+use Rattle.pr_tool.specs.Answers.{answer_faults}
 use Rattle.pr_tool.specs.Words.{Asked}
-use Rattle.pr_tool.specs.Calls.{IsTaskVerdict, IsVerdict, IsOwedAnswer}
+use Rattle.pr_tool.specs.Calls.{IsTaskVerdict, IsVerdict}
 use Rattle.pr_tool.proofs.CallLemmas.{owed_answer}
 use Rattle.pr_tool.proofs.tool.reply_to.Goals as goal
 
@@ -14,5 +16,5 @@ returns-in-Ok-clause-verdict g c = λ files told.
     let out_before = g.K.Sink.faults c.args.out.now in
     let out_now = g.K.Sink.faults c.do_task.new.out in
     let owed = owed_answer (IsTaskVerdict files order (mode_task c.in-Ok.words.mode)) before now out_before out_now c.do_task.result (c.do_task.ensures.verdict files told) in
-    subst (λ (a : Asked). IsOwedAnswer (IsVerdict files a) before now out_before out_now c.answer_of.result) (sym c.in-Ok.ensures.order)
-    (subst (λ (x : Answer). IsOwedAnswer (IsVerdict files (Some order)) before now out_before out_now x) (sym c.answer_of.ensures) owed))
+    subst (λ (a : Asked). IsOwed answer_faults (IsVerdict files a) before now out_before out_now c.answer_of.result) (sym c.in-Ok.ensures.order)
+    (subst (λ (x : Answer). IsOwed answer_faults (IsVerdict files (Some order)) before now out_before out_now x) (sym c.answer_of.ensures) owed))
