@@ -6,6 +6,8 @@ use pr_edge::{MemShelf, MemSink, Shelf, Sink};
 use pr_machine::{Bare, Machine};
 use pr_samples::{Feed, Stall};
 use std::alloc::{AllocError, Global};
+use std::fmt::Write;
+use std::ops::Range;
 use std::test::Fail;
 
 /// The table of A.
@@ -236,61 +238,101 @@ cycle 9 conf 0@1 save 1 00010000000000000000000000000000 in - out 2
 end cycles 10 stalls 0 records 3
 ";
 
-/// How many lines of a text are this one.
-fn count_lines(text: &[u8], line: &[u8]) -> usize {
-    text.split(|byte| *byte == b'\n')
-        .filter(|found| *found == line)
-        .count()
+/// Four complements and a running sum without a log, on fewer stripes than stages and on more.
+#[test]
+fn few_and_many_stripes(rt: HostRuntime) -> Result<(), Fail> {
+    let alloc = rt.alloc();
+    let cases = vec![in alloc;
+        (four_nots(alloc)?, "1\n2\n3\n", 2, 16, "1\n2\n3\n"),
+        (four_nots(alloc)?, "1\n2\n3\n", 16, 8, "1\n2\n3\n"),
+        (sum_complement(alloc)?, "5\n1\n1\n", 2, 10, "0\n255\n254\n"),
+        (sum_complement(alloc)?, "5\n1\n1\n", 16, 6, "0\n255\n254\n"),
+    ]?;
+    for (conf, text, stripes, cycles, lines) in cases {
+        assert!(rt; 2 <= stripes && stripes <= 256);
+        let samples = Vec::from_slice(alloc, text.as_bytes())?;
+        let mut shelf = shelf_of(alloc, samples, Vec::new(alloc))?;
+        let mut out = MemSink::make(alloc, 100, Vec::new(alloc))?;
+        let end = outcome(alloc, conf, stripes, b"", false, &mut shelf, &mut out)?;
+        assert_eq!(rt;
+            end,
+            RunEnd::Done {
+                cycles,
+                stalls: 0,
+                results: 3
+            }
+        );
+        assert_eq!(rt; out.bytes(), lines.as_bytes());
+    }
+    Ok(())
+}
+
+/// The lines of the cycles in which the results of these numbers leave, each with the line of its result where `is_free`.
+fn put_cycles(text: &mut String, results: Range<u8>, is_free: bool) -> Result<(), AllocError> {
+    for k in results {
+        writeln!(
+            text,
+            "cycle {} conf - save - in {} out {k}",
+            u16::from(k) + 2,
+            u16::from(k) + 1
+        )?;
+        if is_free {
+            writeln!(text, "{}", k ^ 200)?;
+        }
+    }
+    Ok(())
+}
+
+/// The lines of the results of these numbers.
+fn put_results(text: &mut String, results: Range<u8>) -> Result<(), AllocError> {
+    for k in results {
+        writeln!(text, "{}", k ^ 200)?;
+    }
+    Ok(())
+}
+
+/// The text of a run of 30 samples in which the output side is held for 40 turns. Results 0 to 15 leave and fill their
+/// queue, and the cycle in which the next one would leave waits for the last 22 of these turns.
+fn held_text(alloc: Global) -> Result<String, AllocError> {
+    let mut text = String::from_str(
+        alloc,
+        "cycle 0 conf 0@0 save - in - out -\ncycle 1 conf 1@1 save - in 0 out -\n",
+    )?;
+    put_cycles(&mut text, 0..16, false)?;
+    for _ in 0..22 {
+        text.push_str("stall 18\n")?;
+    }
+    put_results(&mut text, 0..16)?;
+    put_cycles(&mut text, 16..29, true)?;
+    text.push_str("cycle 31 conf - save - in - out 29\n")?;
+    put_results(&mut text, 29..30)?;
+    text.push_str("end cycles 32 stalls 22 records 30\n")?;
+    Ok(text)
 }
 
 #[test]
 fn held_output(rt: HostRuntime) -> Result<(), Fail> {
     let alloc = rt.alloc();
+    let mut samples = String::new(alloc);
+    for k in 0..30u8 {
+        writeln!(samples, "{k} 200")?;
+    }
+    let mut lines = String::new(alloc);
+    put_results(&mut lines, 0..30)?;
     let end = RunEnd::Done {
         cycles: 32,
         stalls: 22,
         results: 30,
     };
-    let samples = repeated(alloc, b"5 3\n", 30)?;
-    let mut shelf = shelf_of(alloc, samples, Vec::new(alloc))?;
-    let mut out = MemSink::make(alloc, 4_000, Vec::new(alloc))?;
-    assert_eq!(rt;
-        outcome(
-            alloc,
-            xor(alloc)?,
-            16,
-            &[b'o'; 40],
-            true,
-            &mut shelf,
-            &mut out
-        )?,
-        end
-    );
-    assert_eq!(rt; count_lines(out.bytes(), b"stall 18"), 22);
-    assert_eq!(rt; count_lines(out.bytes(), b"6"), 30);
-    assert!(rt;
-        out.bytes().starts_with(
-            b"cycle 0 conf 0@0 save - in - out -\ncycle 1 conf 1@1 save - in 0 out -\ncycle 2 conf - save - in 1 out 0\n"
-        )
-    );
-    assert!(rt;
-        out.bytes()
-            .ends_with(b"\n6\nend cycles 32 stalls 22 records 30\n")
-    );
-    let mut out = MemSink::make(alloc, 100, Vec::new(alloc))?;
-    assert_eq!(rt;
-        outcome(
-            alloc,
-            xor(alloc)?,
-            16,
-            &[b'o'; 40],
-            false,
-            &mut shelf,
-            &mut out
-        )?,
-        end
-    );
-    assert_eq!(rt; out.bytes(), repeated(alloc, b"6\n", 30)?.as_slice());
+    for (log, text) in vec![in alloc; (true, held_text(alloc)?), (false, lines)]? {
+        let bytes = Vec::from_slice(alloc, samples.as_bytes())?;
+        let mut shelf = shelf_of(alloc, bytes, Vec::new(alloc))?;
+        let mut out = MemSink::make(alloc, 4_000, Vec::new(alloc))?;
+        let conf = xor(alloc)?;
+        let got = outcome(alloc, conf, 16, &[b'o'; 40], log, &mut shelf, &mut out)?;
+        assert_eq!(rt; got, end);
+        assert_eq!(rt; out.bytes(), text.as_bytes());
+    }
     Ok(())
 }
 

@@ -14,15 +14,17 @@ fn command_line(alloc: Global, words: &[&str]) -> Result<Vec<String>, AllocError
     Ok(line)
 }
 
-/// What the tool answers to a command line.
-fn called<S: Shelf, K: Sink, E: Sink>(
+/// What the tool answers to the words, over this shelf and with this bench.
+pub(crate) fn answer_with<S: Shelf, K: Sink, E: Sink>(
     alloc: Global,
-    line: &[String],
+    words: &[&str],
     shelf: &mut S,
     out: &mut K,
     note: &mut E,
-) -> Answer {
-    piperench(alloc, line, shelf, out, note, &mut Bench::Nothing)
+    bench: &mut Bench,
+) -> Result<Answer, AllocError> {
+    let line = command_line(alloc, words)?;
+    Ok(piperench(alloc, &line, shelf, out, note, bench))
 }
 
 /// What the tool answers to the words, over this shelf.
@@ -33,8 +35,7 @@ pub(crate) fn answer_over<S: Shelf, K: Sink, E: Sink>(
     out: &mut K,
     note: &mut E,
 ) -> Result<Answer, AllocError> {
-    let line = command_line(alloc, words)?;
-    Ok(called(alloc, &line, shelf, out, note))
+    answer_with(alloc, words, shelf, out, note, &mut Bench::Nothing)
 }
 
 /// What the tool answers to the words, with these files.
@@ -53,11 +54,12 @@ pub(crate) fn answer_to<K: Sink, E: Sink>(
 #[derive(Clone, Copy)]
 pub(crate) struct Wanted<'a> {
     pub(crate) answer: Answer,
+    pub(crate) status: u8,
     pub(crate) text: &'a str,
     pub(crate) note: &'a str,
 }
 
-/// Calls the tool with these words and files, and checks its answer, its text and its note.
+/// Calls the tool with these words and files, and checks its answer, its status, its text and its note.
 pub(crate) fn check_call(
     rt: &impl Abort,
     alloc: Global,
@@ -69,6 +71,7 @@ pub(crate) fn check_call(
     let mut note = SureSink::make(alloc, 100)?;
     let answer = answer_to(alloc, words, files, &mut out, &mut note)?;
     assert_eq!(rt; answer, wanted.answer);
+    assert_eq!(rt; answer.status(), wanted.status);
     assert_eq!(rt; out.bytes(), wanted.text.as_bytes());
     assert_eq!(rt; note.bytes(), wanted.note.as_bytes());
     Ok(())

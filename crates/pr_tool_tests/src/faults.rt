@@ -18,8 +18,9 @@ fn check_fault(
 ) -> Result<(), AllocError> {
     let mut out = MemSink::make(alloc, 200, vec![in alloc; call]?)?;
     let mut note = SureSink::make(alloc, 100)?;
-    let answer = answer_to(alloc, words, files(alloc, 92)?, &mut out, &mut note)?;
+    let answer = answer_to(alloc, words, files(alloc)?, &mut out, &mut note)?;
     assert_eq!(rt; answer, Answer::WriteFault);
+    assert_eq!(rt; answer.status(), 11);
     assert_eq!(rt; out.bytes(), text);
     assert_eq!(rt; note.bytes(), b"write fault\n".as_slice());
     Ok(())
@@ -91,7 +92,15 @@ fn every_write_fails(rt: HostRuntime) -> Result<(), Fail> {
 }
 
 /// Words, and the answer, its status and the text that they come to where no note can be written.
-const UNNOTED: [(&[&str], Answer, u8, &[u8]); 5] = [
+const UNNOTED: [(&[&str], Answer, u8, &[u8]); 9] = [
+    (
+        &["run", "p", "b"],
+        Answer::BadSample { line: 3 },
+        7,
+        b"6\n254\n",
+    ),
+    (&["run", "g", "s"], Answer::NoWidth { equation: 2 }, 4, b""),
+    (&["eval", "g", "s"], Answer::NoWidth { equation: 2 }, 4, b""),
     (
         &["exec", "c", "b"],
         Answer::BadSample { line: 3 },
@@ -111,6 +120,12 @@ const UNNOTED: [(&[&str], Answer, u8, &[u8]); 5] = [
         b"",
     ),
     (&["show", "n"], Answer::ReadFault, 10, b""),
+    (
+        &["run", "t", "s", "--fabric", "wide"],
+        Answer::Syntax { token: 0 },
+        3,
+        b"",
+    ),
     (&["fly"], Answer::Usage, 2, b""),
 ];
 
@@ -120,7 +135,7 @@ fn notes_that_fail(rt: HostRuntime) -> Result<(), Fail> {
     for (words, wanted, status, text) in UNNOTED {
         let mut out = SureSink::make(alloc, 100)?;
         let mut note = MemSink::make(alloc, 0, Vec::new(alloc))?;
-        let answer = answer_to(alloc, words, files(alloc, 92)?, &mut out, &mut note)?;
+        let answer = answer_to(alloc, words, files(alloc)?, &mut out, &mut note)?;
         assert_eq!(rt; answer, wanted);
         assert_eq!(rt; answer.status(), status);
         assert_eq!(rt; out.bytes(), text);

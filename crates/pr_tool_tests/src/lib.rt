@@ -2,6 +2,8 @@
 #![tactic(auto)]
 
 #[cfg(test)]
+mod benches;
+#[cfg(test)]
 mod calls;
 #[cfg(test)]
 mod examples;
@@ -9,3 +11,5 @@ mod examples;
 mod faults;
 #[cfg(test)]
 mod files;
+#[cfg(test)]
+mod streams;
