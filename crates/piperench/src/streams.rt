@@ -1,63 +1,75 @@
-//! Real files and streams as a shelf and as sinks. They tell nothing, and count their failures.
-ghost use Rattle.std.specs.Prelude.{◌≡◌, ℕ, ◌^◌, ◌<◌, ◌≤◌, length, None, IfOk, IfSome, OnErr};
+//! Standard streams as sinks. They tell nothing, and count their failures.
+ghost use Rattle.std.specs.Prelude.{◌≡◌, ℕ, ◌^◌, ◌<◌, ◌≤◌, length, false, None, IfOk, IfSome, OnErr};
 ghost use Rattle.pr_edge.specs.Count.{Rose};
 
-use pr_edge::{Failed, Shelf, Sink};
-use std::fs;
-use std::io::{self, ErrorKind, Read, Seek, SeekFrom, Write};
-use std::rt::Files;
+use pr_edge::{Failed, Sink};
+use std::alloc::Global;
+use std::cell::RefCell;
+use std::io::{self, BufWriter, ErrorKind, Write};
 
 /// How often an interrupted call is tried.
 const TRIES: usize = 16;
 
-/// The files of the system.
+/// The bytes that are handed on at once, at most.
+const PIECE: usize = 65_536;
+
+/// Results on their way to a stream, gathered to pieces.
 #[derive(Drop)]
-pub struct FileShelf<'a, R> {
-    rt: &'a R,
-    faults: u64,
-    ghost in_range: { faults < 2 ^ 64 },
+pub struct Gathering<W: Write + Drop> {
+    stream: BufWriter<W>,
+    /// Whether results could not be handed on, so that no more are taken.
+    is_broken: bool,
 }
 
-impl<'a, R: Files> FileShelf<'a, R> {
-    /// A shelf of which no call failed yet.
-    pub fn new(rt: &'a R) -> Self
-        ensures { result.faults ≡ 0 }
+impl<W: Write + Drop> Gathering<W> {
+    /// What gathers results for a stream.
+    pub fn new(alloc: Global, stream: W) -> io::Result<Self>
+        ensures { IfOk result (λ g. g.is_broken ≡ false) }
     {
-        FileShelf { rt, faults: 0 }
+        Ok(Gathering {
+            stream: BufWriter::with_capacity(alloc, PIECE, stream)?,
+            is_broken: false,
+        })
+    }
+
+    /// Takes a piece, or its first bytes where it is long.
+    fn put(&mut self, bytes: &[u8]) -> io::Result<usize>
+        ensures { IfOk result (λ k. k ≤ length bytes.now) }
+    {
+        if self.is_broken {
+            return Err(io::Error::from(ErrorKind::BrokenPipe));
+        }
+        self.stream.write(&bytes[..bytes.len().min(PIECE)])
     }
 }
 
-/// Opens the file and reads from this place on.
-fn read_once<R: Files>(rt: &R, name: &str, place: u64, buf: &mut [u8]) -> io::Result<usize>
-    ensures { IfOk result (λ k. k ≤ length buf.new) }
-{
-    let mut file = fs::open(rt, name)?;
-    file.seek(SeekFrom::Start(place))?;
-    for _ in 0..TRIES {
-        match file.read(buf) {
-            Err(e) if e.kind() == ErrorKind::Interrupted => {}
-            answer => return answer,
+/// Hands on what is gathered, before the program waits. Where that fails, the next results are refused.
+pub fn hand_on<W: Write + Drop>(results: &RefCell<Gathering<W>>) {
+    if let Ok(mut gathering) = results.try_borrow_mut() {
+        if !flush_once(&mut gathering.stream) {
+            gathering.is_broken = true;
         }
     }
-    Err(io::Error::from(ErrorKind::Interrupted))
 }
 
-impl<'a, R: Files> Shelf for FileShelf<'a, R> {
-    ghost told = { λ _. None };
+/// The way to what gathers results, as a stream.
+#[derive(Drop)]
+pub struct Gathered<'a, W: Write + Drop> {
+    pub results: &'a RefCell<Gathering<W>>,
+}
 
-    ghost reach = { λ _ _. None };
+impl<'a, W: Write + Drop> Write for Gathered<'a, W> {
+    fn write(&mut self, bytes: &[u8]) -> io::Result<usize> {
+        match self.results.try_borrow_mut() {
+            Ok(mut gathering) => gathering.put(bytes),
+            Err(_) => Err(io::Error::from(ErrorKind::ResourceBusy)),
+        }
+    }
 
-    ghost faults = { λ s. s.faults };
-
-    ghost counted = { λ s. s.in_range };
-
-    fn read_at(&mut self, name: &str, place: u64, buf: &mut [u8]) -> Result<usize, Failed> {
-        match read_once(self.rt, name, place, buf) {
-            Ok(count) => Ok(count),
-            Err(_) => {
-                self.faults = self.faults.saturating_add(1);
-                Err(Failed)
-            }
+    fn flush(&mut self) -> io::Result<()> {
+        match self.results.try_borrow_mut() {
+            Ok(mut gathering) => gathering.stream.flush(),
+            Err(_) => Err(io::Error::from(ErrorKind::ResourceBusy)),
         }
     }
 }
@@ -141,7 +153,7 @@ impl<W: Write> Sink for OutSink<W> {
 #[cfg(test)]
 mod tests {
     use super::*;
-    use pr_edge::{ReadAll, read_all, write_all};
+    use pr_edge::write_all;
     use std::test::Fail;
 
     /// A stream that is interrupted at first, and then takes one byte a call until it is full.
@@ -171,19 +183,6 @@ mod tests {
         fn flush(&mut self) -> io::Result<()> {
             Ok(())
         }
-    }
-
-    #[test]
-    fn shelf_of_real_files(rt: HostRuntime) -> Result<(), Fail> {
-        fs::write(&rt, "there", b"some bytes")?;
-        let mut shelf = FileShelf::new(&rt);
-        let whole = read_all(rt.alloc(), &mut shelf, "there", 10)?;
-        assert_eq!(rt; whole.as_slice(), b"some bytes".as_slice());
-        let missing = read_all(rt.alloc(), &mut shelf, "nowhere", 10);
-        assert!(rt; matches!(missing, Err(ReadAll::ReadFault)));
-        assert_eq!(rt; shelf.faults, 1);
-        fs::remove_file(&rt, "there")?;
-        Ok(())
     }
 
     #[test]
