@@ -2,14 +2,14 @@
 //!
 //! A fabric has v stages and p stripes. In cycle t the event of that cycle puts one stage into one stripe; the stages
 //! that are in a stripe compute, but for the one whose stripe the event meets. `specs/` defines the events, who is where
-//! and who computes; `theorems` states the laws that a machine rests on.
+//! and who computes; `laws` states the laws that a machine rests on.
 #![tactic(auto)]
 
 ghost use Rattle.std.specs.Prelude.{ℕ, ◌≡◌, ◌+◌, ◌<◌, ◌≤◌, ◌%◌, ◌^◌, Option, Some, None};
 ghost use Rattle.pr_control.specs.Time.{event, turned, ahead, back, before, IsActive, IsRing, IsInside, IsResident};
 
+pub mod laws;
 mod states;
-pub mod theorems;
 
 pub use states::Store;
 

@@ -37,6 +37,6 @@ reach_after (Ok count) reach place = raised reach place count
 reach_after (Err e) reach place = reach
 
 -- these bytes begin the file
-pub record IsFront (bytes file : List ℕ) : Type 0 where
+pub record IsPrefix (bytes file : List ℕ) : Type 0 where
   pub within : length bytes ≤ length file
   pub front : bytes ≡ take (length bytes) file

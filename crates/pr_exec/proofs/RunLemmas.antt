@@ -11,10 +11,10 @@ use Rattle.pr_samples.specs.declared.stall.Stall.{Stall}
 use Rattle.pr_samples.specs.Fed.{Ending, End, BadSample, Limit, fed_of, fed_within}
 use Rattle.pr_samples.specs.Feed.{name_of, widths_of, place_of, fed, SameFile, Tells, IsOver}
 use Rattle.pr_machine.specs.Stands.{History, conf_of, stripes_of}
-use Rattle.pr_script.specs.Script.{most_cycles}
-use Rattle.pr_script.specs.Counts.{IsFront, cycles_in}
-use Rattle.pr_script.specs.Text.{Line, history_lines, closing_lines, text_of}
-use Rattle.pr_script.proofs.TextLaws.{text-append, run_is_written}
+use Rattle.pr_run_script.specs.Script.{most_cycles}
+use Rattle.pr_run_script.specs.Counts.{IsPrefix, cycles_in}
+use Rattle.pr_run_script.specs.Text.{Line, history_lines, closing_lines, text_of}
+use Rattle.pr_run_script.proofs.TextLaws.{text-append, run_is_written}
 use Rattle.pr_run.specs.declared.ending.RunEnd.{RunEnd}
 use Rattle.pr_run.specs.Setting.{Setting, View, IsSet, setting_of, stall_turns}
 use Rattle.pr_run.specs.Setting.{pieces as pieces_in}
@@ -125,7 +125,7 @@ begun_on : {N P : ℕ} (b : Begun N P) (rows more : List (List ℕ)) (last : Got
 begun_on {N} {P} b rows more last h stopped follow =
     let parts : pieces_in (setting b) rows ++ pieces_in (setting b) more ≡ pieces_in (setting b) (rows ++ more) = sym (map-append (row_bytes (widths_of b.feed)) rows more) in
     record {
-      events = subst (λ (w : History). IsFront h w) (ap (λ (xs : List (List ℕ)). events_of (setting b) xs) parts ∙ events_same b (rows ++ more)) (stopped.events (pieces_in (setting b) more) follow);
+      events = subst (λ (w : History). IsPrefix h w) (ap (λ (xs : List (List ℕ)). events_of (setting b) xs) parts ∙ events_same b (rows ++ more)) (stopped.events (pieces_in (setting b) more) follow);
       text = subst (λ (t : List ℕ). AppendsFront b.old b.new t) (ap (λ (xs : List (List ℕ)). lines_of N P (setting b) xs true) parts ∙ lines_same b (rows ++ more) true) (stopped.front (pieces_in (setting b) more) true follow (λ _. refl));
     }
 

@@ -8,7 +8,7 @@ use Rattle.pr_edge.specs.Tape.{Tape}
 use Rattle.pr_conf.specs.Shape.{Shape}
 use Rattle.pr_samples.specs.Fed.{Ending, End, BadSample, Limit}
 use Rattle.pr_samples.specs.Feed.{Tells}
-use Rattle.pr_script.specs.Script.{Held}
+use Rattle.pr_run_script.specs.Script.{Held}
 use Rattle.pr_machine.specs.Stands.{History}
 use Rattle.pr_run.specs.Setting.{View}
 use Rattle.pr_run.specs.Turns.{Going}

@@ -6,9 +6,9 @@ use Rattle.pr_conf.specs.Shape.{Shape}
 use Rattle.pr_samples.specs.Fed.{Ending, End, BadSample, Limit}
 use Rattle.pr_samples.specs.Feed.{Tells}
 use Rattle.pr_machine.specs.Stands.{Stands, History}
-use Rattle.pr_script.specs.Script.{Held, script, most_cycles}
-use Rattle.pr_script.specs.Counts.{IsFront, cycles_in}
-use Rattle.pr_script.specs.Text.{history_lines, text_of}
+use Rattle.pr_run_script.specs.Script.{Held, script, most_cycles}
+use Rattle.pr_run_script.specs.Counts.{IsPrefix, cycles_in}
+use Rattle.pr_run_script.specs.Text.{history_lines, text_of}
 use Rattle.pr_run.specs.declared.ending.RunEnd.{RunEnd}
 use Rattle.pr_run.specs.Setting.{View}
 use Rattle.pr_run.specs.Turns.{Going}
@@ -70,7 +70,7 @@ pub record IsBroken (r : Course) (rows : List (List ℕ)) : Type 0 where
 
 -- what was done is the beginning of a run on these samples
 pub record IsBegun (N P : ℕ) (r : Course) (rows : List (List ℕ)) (history : History) : Type 0 where
-  pub events : IsFront history (events_on r rows)
+  pub events : IsPrefix history (events_on r rows)
   pub text : AppendsFront r.old r.new (results_text N P r.conf rows)
 
 -- a write failed after these samples: the first bytes of the results' lines are written, and the machine was asked to take

@@ -3,7 +3,7 @@ use Rattle.std.specs.Prelude.{◌≡◌, ◌≤◌, ℕ, not, nat_lt, List, [], 
 use Rattle.pr_base.specs.declared.caps.Cap.{Cap}
 use Rattle.pr_edge.specs.Files.{Told, HasReadCause}
 use Rattle.pr_samples.specs.Stall.{is_stall_byte, turns_of}
-use Rattle.pr_script.specs.Script.{Held}
+use Rattle.pr_run_script.specs.Script.{Held}
 use Rattle.pr_run.specs.Setting.{held_of}
 use Rattle.pr_modes.specs.declared.outcomes.Outcome.{Outcome}
 use Rattle.pr_modes.specs.Files.{IsText, IsLong}

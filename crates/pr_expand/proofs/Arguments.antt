@@ -3,10 +3,10 @@ use Rattle.std.proofs.Common.{◌≡◌, ℕ, zero, suc, ◌+◌, ◌≤◌, ◌
 use Rattle.pr_lang.specs.declared.trees.Param.{Param}
 use Rattle.pr_flat.specs.declared.equations.Equation.{Equation}
 use Rattle.pr_flat.specs.Shape.{EquationShape, equation_shape, shapes_of}
-use Rattle.pr_equations.specs.declared.givens.Given.{Given}
-use Rattle.pr_equations.specs.Making.{Equations, declare_last}
-use Rattle.pr_equations.specs.Statements.{Progress}
-use Rattle.pr_equations.specs.Programs.{with_arguments}
+use Rattle.pr_expand_spec.specs.declared.givens.Given.{Given}
+use Rattle.pr_expand_spec.specs.Making.{Equations, declare_last}
+use Rattle.pr_expand_spec.specs.Statements.{Progress}
+use Rattle.pr_expand_spec.specs.Programs.{with_arguments}
 
 none_given : (ps : List Param) (s : Progress) → with_arguments ps [] s ≡ s
 none_given [] s = refl

@@ -4,25 +4,25 @@ use Rattle.std.proofs.Common.{◌≡◌, ◌∙◌, ℕ, zero, suc, ◌+◌, ◌
 use Rattle.std.proofs.Math.Nat.{eq-or-lt_of_le}
 use Rattle.std.proofs.lemmas.List.{at_drop_more}
 use Rattle.pr_lang.specs.declared.trees.Item.{Item}
-use Rattle.pr_names.specs.declared.names.Entry.{Entry}
-use Rattle.pr_names.specs.declared.names.Static.{Static}
-use Rattle.pr_names.specs.declared.names.Statics.{Statics}
-use Rattle.pr_names.specs.Names.{Entries, IsOutside, KeepsNames, Known, before, bind, built_in, entries_in, horizon_in, indices_in, is_seen, known_in, shown, what_before, whole}
-use Rattle.pr_names.proofs.Seen.{later_name, next_adds, next_keeps}
-use Rattle.pr_names.specs.declared.names.Static.TheVariants as static
+use Rattle.pr_scope_names.specs.declared.names.Entry.{Entry}
+use Rattle.pr_scope_names.specs.declared.names.Static.{Static}
+use Rattle.pr_scope_names.specs.declared.names.Statics.{Statics}
+use Rattle.pr_scope_names.specs.Names.{Entries, IsOutside, KeepsNames, Known, before, bind, built_in, entries_in, horizon_in, indices_in, is_seen, known_in, shown, what_before, whole}
+use Rattle.pr_scope_names.proofs.Seen.{later_name, next_adds, next_keeps}
+use Rattle.pr_scope_names.specs.declared.names.Static.TheVariants as static
 use Rattle.pr_lang.specs.declared.trees.Fixed.{Fixed}
 use Rattle.pr_lang.specs.declared.trees.Param.{Param}
 use Rattle.pr_lang.specs.declared.trees.Stmt.{Stmt}
 use Rattle.pr_lang.specs.declared.trees.Expr.{Expr}
 use Rattle.pr_lang.specs.declared.trees.Item.TheVariants as item
 use Rattle.pr_flat.specs.declared.equations.Operand.{Operand}
-use Rattle.pr_meaning.specs.Programs.{function_at}
-use Rattle.pr_equations.specs.Making.{constant}
-use Rattle.pr_equations.specs.Expressions.{Visible}
-use Rattle.pr_equations.specs.Statements.{Progress}
-use Rattle.pr_equations.specs.Programs.{World, item_change, items_change, start}
+use Rattle.pr_lang_meaning.specs.Programs.{function_at}
+use Rattle.pr_expand_spec.specs.Making.{constant}
+use Rattle.pr_expand_spec.specs.Expressions.{Visible}
+use Rattle.pr_expand_spec.specs.Statements.{Progress}
+use Rattle.pr_expand_spec.specs.Programs.{World, item_change, items_change, start}
 use Rattle.pr_scope.specs.Walk as scope
-use Rattle.pr_lawful.proofs.InvertedItems.{AllItems, input-inverted, output-inverted, constant-inverted, table-inverted, function-inverted, step-inverted}
+use Rattle.pr_scope_facts.proofs.InvertedItems.{AllItems, input-inverted, output-inverted, constant-inverted, table-inverted, function-inverted, step-inverted}
 use Rattle.pr_expand.specs.Worlds.{IsFree}
 use Rattle.pr_expand.specs.Scopes.{IsBefore, IsScene, after, functions_before, visible_at, visible_in}
 use Rattle.pr_expand.proofs.Callables.{callable_at}

@@ -4,14 +4,14 @@ use Rattle.std.specs.Prelude.{codes}
 use Rattle.std.proofs.lemmas.Bool.{false≢true}
 use Rattle.pr_lang.specs.declared.trees.Item.{Item}
 use Rattle.pr_lang.specs.declared.trees.Item.TheVariants as item
-use Rattle.pr_names.specs.declared.names.Callee.{Callee}
-use Rattle.pr_names.specs.declared.names.Static.{Static}
-use Rattle.pr_names.specs.declared.names.Static.TheVariants.{Constant, Function, Index, Table}
-use Rattle.pr_names.specs.declared.names.Statics.{Statics}
-use Rattle.pr_names.specs.Names.{Known, before, built_in, entries_in, horizon_in, known_in}
-use Rattle.pr_meaning.specs.Programs.{function_at}
-use Rattle.pr_equations.specs.Expressions.{AllMade, Inlined, Visible, called, function_of}
-use Rattle.pr_equations.specs.Programs.{inlined, signed_function}
+use Rattle.pr_scope_names.specs.declared.names.Callee.{Callee}
+use Rattle.pr_scope_names.specs.declared.names.Static.{Static}
+use Rattle.pr_scope_names.specs.declared.names.Static.TheVariants.{Constant, Function, Index, Table}
+use Rattle.pr_scope_names.specs.declared.names.Statics.{Statics}
+use Rattle.pr_scope_names.specs.Names.{Known, before, built_in, entries_in, horizon_in, known_in}
+use Rattle.pr_lang_meaning.specs.Programs.{function_at}
+use Rattle.pr_expand_spec.specs.Expressions.{AllMade, Inlined, Visible, called, function_of}
+use Rattle.pr_expand_spec.specs.Programs.{inlined, signed_function}
 use Rattle.pr_expand.specs.Scopes.{IsCallable, IsEarlier, IsScene, after, called_at, callee_in, defined, functions_before, visible_at, visible_in}
 
 abbrev is_there : Option Callee → Bool

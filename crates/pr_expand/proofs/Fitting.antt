@@ -8,9 +8,9 @@ use Rattle.pr_lang.specs.declared.trees.Program.{Program}
 use Rattle.pr_flat.specs.declared.equations.Operand.{Operand}
 use Rattle.pr_flat.specs.Facts.{IsFlat}
 use Rattle.pr_scope.specs.Walk.{offence}
-use Rattle.pr_equations.specs.Programs.{Flattened, equations_of}
-use Rattle.pr_lawful.specs.Numbers.{have_numbers, is_number}
-use Rattle.pr_lawful.proofs.FlatLaw.{program-flat}
+use Rattle.pr_expand_spec.specs.Programs.{Flattened, equations_of}
+use Rattle.pr_scope_facts.specs.Numbers.{have_numbers, is_number}
+use Rattle.pr_scope_facts.proofs.FlatLaw.{program-flat}
 
 both : (a b : Bool) → a ≡ true → b ≡ true → (a && b) ≡ true
 both true true x y = refl

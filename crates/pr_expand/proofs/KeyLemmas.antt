@@ -2,14 +2,14 @@
 use Rattle.std.proofs.Common.{◌≡◌, ◌∙◌, ◌<◌, ◌≤◌, ℕ, zero, suc, ◌+◌, ◌-◌, Bool, true, false, cond, ◌&&◌, nat_eq, List, [], ◌∷◌, ◌++◌, length, take, map, Option, Some, None, is_some, option_map, Vec, Global, refl, sym, ap, subst, arith, ⊎_elim, bytes_eq, eq-eqb, unwrap_or}
 use Rattle.std.specs.Cmp.Lexicographic.{bytes_decides, nat_list_eq_equiv}
 use Rattle.std.proofs.lemmas.Bool.{cases_Bool, cond-true, cond-false, eqb-true}
-use Rattle.pr_names.specs.Names.{bind, unbind}
+use Rattle.pr_scope_names.specs.Names.{bind, unbind}
 use Rattle.pr_flat.specs.declared.equations.Equation.{Equation}
 use Rattle.pr_flat.specs.declared.equations.Operand.{Operand}
 use Rattle.pr_flat.specs.declared.equations.Operand.TheVariants.{Const, Eq, Past}
 use Rattle.pr_flat.specs.declared.equations.Op.{Op}
 use Rattle.pr_flat.specs.declared.equations.Op.TheVariants.{Delay}
 use Rattle.pr_flat.specs.Shape.{EquationShape, equation_shape, shapes_of}
-use Rattle.pr_equations.specs.Making.{Equations, declare_last, delay_from, is_delay_of, same_operand}
+use Rattle.pr_expand_spec.specs.Making.{Equations, declare_last, delay_from, is_delay_of, same_operand}
 use Rattle.pr_expand.specs.Keys.{Found, delay_key, is_number, key_in, with_key, without_key}
 
 swapped : (x y : Bool) → x && (y && true) ≡ y && x

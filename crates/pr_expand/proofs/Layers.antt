@@ -15,16 +15,16 @@ use Rattle.pr_lang.specs.declared.trees.Stmt.{Stmt}
 use Rattle.pr_lang.specs.declared.trees.Stmt.TheVariants.{Let, Rec, For}
 use Rattle.pr_lang.specs.declared.trees.Stmt.TheOpen.{Stmt-F}
 use Rattle.pr_lang.specs.declared.trees.Stmt.TheFolds.{fold-roll-Stmt}
-use Rattle.pr_names.specs.declared.rules.Offence.{Offence}
-use Rattle.pr_names.specs.Amounts.{Amount, amount_of}
-use Rattle.pr_names.proofs.Folds.{amount_kept}
+use Rattle.pr_scope_names.specs.declared.rules.Offence.{Offence}
+use Rattle.pr_scope_names.specs.Amounts.{Amount, amount_of}
+use Rattle.pr_scope_names.proofs.Folds.{amount_kept}
 use Rattle.pr_flat.specs.declared.equations.Op.{Op}
 use Rattle.pr_flat.specs.declared.equations.Op.TheVariants as op
-use Rattle.pr_meaning.specs.Expressions.{constant_shift, operator}
-use Rattle.pr_equations.specs.declared.givens.Given.{Given}
-use Rattle.pr_equations.specs.Making.{Equations, Made, constant, with_equation}
-use Rattle.pr_equations.specs.Expressions.{AllMade, Plan, Streams, Visible, all_made, apply, called, combined, concatenated, function_of, plan_of, plan_step}
-use Rattle.pr_equations.specs.Statements.{Change, Progress, change_of, changes_of, let_change, rec_change, stmt_step, turns, with_index}
+use Rattle.pr_lang_meaning.specs.Expressions.{constant_shift, operator}
+use Rattle.pr_expand_spec.specs.declared.givens.Given.{Given}
+use Rattle.pr_expand_spec.specs.Making.{Equations, Made, constant, with_equation}
+use Rattle.pr_expand_spec.specs.Expressions.{AllMade, Plan, Streams, Visible, all_made, apply, called, combined, concatenated, function_of, plan_of, plan_step}
+use Rattle.pr_expand_spec.specs.Statements.{Change, Progress, change_of, changes_of, let_change, rec_change, stmt_step, turns, with_index}
 
 -- what was given before
 abbrev pub with_given : List Given → AllMade → AllMade

@@ -15,18 +15,18 @@ use Rattle.pr_lang.specs.declared.trees.Expr.{Expr}
 use Rattle.pr_lang.specs.declared.trees.Expr.TheVariants.{Slice, Not, Binary, Choose, Call, Cat}
 use Rattle.pr_lang.specs.declared.trees.Expr.TheOpen.{Expr-F}
 use Rattle.pr_lang.specs.declared.trees.Expr.TheFolds.{fold-roll-Expr}
-use Rattle.pr_names.specs.declared.rules.Offence.{Offence}
-use Rattle.pr_names.specs.Amounts.{amount_of}
+use Rattle.pr_scope_names.specs.declared.rules.Offence.{Offence}
+use Rattle.pr_scope_names.specs.Amounts.{amount_of}
 use Rattle.pr_flat.specs.declared.equations.Op.{Op}
 use Rattle.pr_flat.specs.declared.equations.Op.TheVariants as op
 use Rattle.pr_flat.specs.declared.equations.Operand.{Operand}
-use Rattle.pr_meaning.specs.Expressions.{constant_shift, operator}
-use Rattle.pr_equations.specs.declared.givens.Given.{Given}
-use Rattle.pr_equations.specs.Making.{Equations, Made, constant, declare_last, delayed, delayed_once, lawful, made, with_equation}
-use Rattle.pr_equations.specs.Expressions.{AllMade, Inlined, Plan, Streams, Visible, all_made, apply, assigned, beside, called, combined, concatenated, declared_at_operator, declared_else, function_of, plan_of, plan_step}
-use Rattle.pr_equations.specs.Statements.{Progress, change_of, changes_of, named, turns, with_index}
-use Rattle.pr_equations.specs.Programs.{World, item_change, items_change, no_streams, passed, with_arguments}
-use Rattle.pr_lawful.proofs.Appending.{AllAppend, Appends, DoesAppend, append-index, appends-both, appends-length, appends-nothing, appends-with, arguments-append, assigned-appends, changes-append, delayed-appends, items-append, making-appends, visible-appends}
+use Rattle.pr_lang_meaning.specs.Expressions.{constant_shift, operator}
+use Rattle.pr_expand_spec.specs.declared.givens.Given.{Given}
+use Rattle.pr_expand_spec.specs.Making.{Equations, Made, constant, declare_last, delayed, delayed_once, lawful, made, with_equation}
+use Rattle.pr_expand_spec.specs.Expressions.{AllMade, Inlined, Plan, Streams, Visible, all_made, apply, assigned, beside, called, combined, concatenated, declared_at_operator, declared_else, function_of, plan_of, plan_step}
+use Rattle.pr_expand_spec.specs.Statements.{Progress, change_of, changes_of, named, turns, with_index}
+use Rattle.pr_expand_spec.specs.Programs.{World, item_change, items_change, no_streams, passed, with_arguments}
+use Rattle.pr_scope_facts.proofs.Appending.{AllAppend, Appends, DoesAppend, append-index, appends-both, appends-length, appends-nothing, appends-with, arguments-append, assigned-appends, changes-append, delayed-appends, items-append, making-appends, visible-appends}
 use Rattle.pr_expand.specs.declared.stops.Stop.{Stop}
 use Rattle.pr_expand.specs.declared.stops.Stop.TheVariants.{Limit, Memory}
 use Rattle.pr_expand.specs.Code.{IsPast}

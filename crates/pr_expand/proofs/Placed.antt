@@ -4,9 +4,9 @@ use Rattle.std.proofs.Common.{◌≡◌, ◌∙◌, ℕ, Bool, true, false, cond
 use Rattle.std.specs.Option.{option_and_then}
 use Rattle.std.specs.Cmp.Lexicographic.{bytes_decides}
 use Rattle.std.proofs.lemmas.Bool.{cases_Bool, cond-true, cond-false}
-use Rattle.pr_names.specs.Names.{bind, unbind, same_place}
-use Rattle.pr_equations.specs.declared.givens.Standing.{Standing}
-use Rattle.pr_equations.specs.Statements.{with_standing}
+use Rattle.pr_scope_names.specs.Names.{bind, unbind, same_place}
+use Rattle.pr_expand_spec.specs.declared.givens.Standing.{Standing}
+use Rattle.pr_expand_spec.specs.Statements.{with_standing}
 use Rattle.pr_expand.specs.declared.environment.Places.{Places}
 use Rattle.pr_expand.specs.Code.{placed_in, streams_by}
 

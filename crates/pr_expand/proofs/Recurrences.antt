@@ -5,17 +5,17 @@ use Rattle.std.proofs.lemmas.Bool.{leb-true, leb-false, lt-leb, cond-false}
 use Rattle.pr_lang.specs.declared.trees.Fixed.{Fixed}
 use Rattle.pr_lang.specs.declared.trees.Ref.{Ref}
 use Rattle.pr_lang.specs.declared.trees.Expr.{Expr}
-use Rattle.pr_names.specs.Names.{same_place}
+use Rattle.pr_scope_names.specs.Names.{same_place}
 use Rattle.pr_flat.specs.declared.equations.Equation.{Equation}
 use Rattle.pr_flat.specs.declared.equations.Op.TheVariants as op
 use Rattle.pr_flat.specs.Shape.{equation_shape, shapes_of}
-use Rattle.pr_equations.specs.declared.givens.Given.{Given}
-use Rattle.pr_equations.specs.declared.givens.Standing.{Standing}
-use Rattle.pr_equations.specs.declared.givens.Standing.TheVariants.{Stream, Own}
-use Rattle.pr_equations.specs.Making.{Equations, Made, constant, lawful, with_equation}
-use Rattle.pr_equations.specs.Expressions.{Streams, Visible, declared_at_operator, place, plan_of}
-use Rattle.pr_equations.specs.Statements.{Progress, body_made, number_after, rec_change, settled, with_recurrence, with_standing}
-use Rattle.pr_lawful.proofs.Appending.{appends-length, appends-with}
+use Rattle.pr_expand_spec.specs.declared.givens.Given.{Given}
+use Rattle.pr_expand_spec.specs.declared.givens.Standing.{Standing}
+use Rattle.pr_expand_spec.specs.declared.givens.Standing.TheVariants.{Stream, Own}
+use Rattle.pr_expand_spec.specs.Making.{Equations, Made, constant, lawful, with_equation}
+use Rattle.pr_expand_spec.specs.Expressions.{Streams, Visible, declared_at_operator, place, plan_of}
+use Rattle.pr_expand_spec.specs.Statements.{Progress, body_made, number_after, rec_change, settled, with_recurrence, with_standing}
+use Rattle.pr_scope_facts.proofs.Appending.{appends-length, appends-with}
 use Rattle.pr_expand.specs.Code.{longer}
 use Rattle.pr_expand.proofs.Layers.{making}
 

@@ -7,15 +7,15 @@ use Rattle.std.specs.Cmp.Lexicographic.{bytes_decides}
 use Rattle.std.proofs.lemmas.Bool.{false≢true}
 use Rattle.pr_lang.specs.declared.trees.Item.{Item}
 use Rattle.pr_lang.specs.declared.trees.Item.TheVariants as item
-use Rattle.pr_names.specs.declared.names.Statics.{Statics}
-use Rattle.pr_names.specs.declared.names.Callee.{Callee}
-use Rattle.pr_names.specs.declared.names.Static.{Static}
-use Rattle.pr_names.specs.declared.names.Static.TheVariants.{Constant, Function, Index, Table}
-use Rattle.pr_names.specs.Names.{Known, KeepsNames, before, bind, entries_in, horizon_in, indices_in, known_in, shown, what_before}
-use Rattle.pr_names.proofs.Seen.{known_index, known_kept}
-use Rattle.pr_equations.specs.Expressions.{Inlined, Visible, function_of}
-use Rattle.pr_equations.specs.Programs.{World, no_streams}
-use Rattle.pr_lawful.proofs.Appending.{AllAppend, DoesAppend, appends-nothing, inlined-appends, signed-appends, start-appends, visible-appends}
+use Rattle.pr_scope_names.specs.declared.names.Statics.{Statics}
+use Rattle.pr_scope_names.specs.declared.names.Callee.{Callee}
+use Rattle.pr_scope_names.specs.declared.names.Static.{Static}
+use Rattle.pr_scope_names.specs.declared.names.Static.TheVariants.{Constant, Function, Index, Table}
+use Rattle.pr_scope_names.specs.Names.{Known, KeepsNames, before, bind, entries_in, horizon_in, indices_in, known_in, shown, what_before}
+use Rattle.pr_scope_names.proofs.Seen.{known_index, known_kept}
+use Rattle.pr_expand_spec.specs.Expressions.{Inlined, Visible, function_of}
+use Rattle.pr_expand_spec.specs.Programs.{World, no_streams}
+use Rattle.pr_scope_facts.proofs.Appending.{AllAppend, DoesAppend, appends-nothing, inlined-appends, signed-appends, start-appends, visible-appends}
 use Rattle.pr_expand.specs.Scopes.{IsScene, after, called_at, defined, functions_before, visible_at, visible_in}
 
 abbrev world : Visible → World

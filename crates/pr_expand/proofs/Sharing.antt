@@ -5,8 +5,8 @@ use Rattle.std.proofs.lemmas.Bool.{cond-true, cond-false}
 use Rattle.pr_flat.specs.declared.equations.Equation.{Equation}
 use Rattle.pr_flat.specs.declared.equations.Operand.{Operand}
 use Rattle.pr_flat.specs.Shape.{shapes_of}
-use Rattle.pr_equations.specs.declared.givens.Given.{Given}
-use Rattle.pr_equations.specs.Making.{Equations, Made, delay_from, delayed, delayed_once, is_delay_of}
+use Rattle.pr_expand_spec.specs.declared.givens.Given.{Given}
+use Rattle.pr_expand_spec.specs.Making.{Equations, Made, delay_from, delayed, delayed_once, is_delay_of}
 
 -- one step more
 pub delay_step : (samples k c : ℕ) (operand : Operand) (signed : Bool) (now : Equations) (once : Made) (w : Made) → k < samples → once ≡ delayed_once operand c now → delayed (samples - k) (record { operand = operand; signed = signed }) c now ≡ w → delayed (samples - (k + 1)) (record { operand = once.given.operand; signed = signed }) c once.equations ≡ w

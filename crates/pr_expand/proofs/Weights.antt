@@ -18,10 +18,10 @@ use Rattle.pr_lang.specs.declared.trees.Stmt.TheFolds.{fold-Stmt, fold-roll-Stmt
 use Rattle.pr_lang.specs.declared.trees.Param.{Param}
 use Rattle.pr_lang.specs.declared.trees.Item.{Item}
 use Rattle.pr_lang.specs.declared.trees.Item.TheVariants as item
-use Rattle.pr_names.specs.declared.names.Statics.{Statics}
-use Rattle.pr_names.specs.declared.names.Callee.{Callee}
-use Rattle.pr_names.specs.declared.names.Static.TheVariants.{Function}
-use Rattle.pr_names.specs.Names.{KeepsNames, horizon_in, known_in}
+use Rattle.pr_scope_names.specs.declared.names.Statics.{Statics}
+use Rattle.pr_scope_names.specs.declared.names.Callee.{Callee}
+use Rattle.pr_scope_names.specs.declared.names.Static.TheVariants.{Function}
+use Rattle.pr_scope_names.specs.Names.{KeepsNames, horizon_in, known_in}
 use Rattle.pr_expand.specs.Scopes.{IsEarlier, IsScene}
 
 abbrev pub total : List ℕ → ℕ

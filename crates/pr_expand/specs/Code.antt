@@ -3,9 +3,9 @@ use Rattle.std.specs.Prelude.{ℕ, ◌<◌, cond, nat_le, List, length, Option, 
 use Rattle.std.specs.Option.{option_and_then}
 use Rattle.std.specs.Ordering.{nat_cmp}
 use Rattle.std.specs.BTreeMap.{get_by}
-use Rattle.pr_names.specs.Names.{at_name}
+use Rattle.pr_scope_names.specs.Names.{at_name}
 use Rattle.pr_flat.specs.Shape.{shapes_of}
-use Rattle.pr_equations.specs.declared.givens.Standing.{Standing}
+use Rattle.pr_expand_spec.specs.declared.givens.Standing.{Standing}
 use Rattle.pr_expand.specs.declared.stops.Stop.{Stop}
 use Rattle.pr_expand.specs.declared.stops.Stop.TheVariants.{Limit, Memory}
 use Rattle.pr_expand.specs.declared.ledgers.Ledger.{Ledger}
@@ -14,9 +14,9 @@ use Rattle.pr_expand.specs.declared.ledgers.AllMade as all
 use Rattle.pr_expand.specs.declared.ledgers.Progress as progress
 use Rattle.pr_expand.specs.declared.environment.Places.{Places}
 use Rattle.pr_expand.specs.declared.environment.Environment.{Environment}
-use Rattle.pr_equations.specs.Making.{Equations, Made}
-use Rattle.pr_equations.specs.Expressions.{Streams, AllMade}
-use Rattle.pr_equations.specs.Statements.{Progress}
+use Rattle.pr_expand_spec.specs.Making.{Equations, Made}
+use Rattle.pr_expand_spec.specs.Expressions.{Streams, AllMade}
+use Rattle.pr_expand_spec.specs.Statements.{Progress}
 
 abbrev pub shapes_in : Ledger → Equations
 shapes_in l = shapes_of l.equations.items

@@ -1,6 +1,6 @@
 -- The keys by which delays are found.
 use Rattle.std.specs.Prelude.{ℕ, Bool, false, cond, nat_eq, List, [], ◌∷◌, Option, Some, None, is_some}
-use Rattle.pr_names.specs.Names.{bind, unbind}
+use Rattle.pr_scope_names.specs.Names.{bind, unbind}
 use Rattle.pr_flat.specs.declared.equations.Operand.{Operand}
 use Rattle.pr_flat.specs.declared.equations.Operand.TheVariants.{Const, Eq, Past}
 use Rattle.pr_flat.specs.declared.equations.Op.{Op}

@@ -2,16 +2,16 @@
 use Rattle.std.specs.Prelude.{◌≡◌, ℕ, zero, suc, ◌+◌, ◌<◌, ◌≤◌, false, List, map, Option, Some, None, slice_get, ⊤}
 use Rattle.pr_lang.specs.declared.trees.Item.{Item}
 use Rattle.pr_lang.specs.declared.trees.Item.TheVariants as item
-use Rattle.pr_names.specs.declared.names.Callee.{Callee}
-use Rattle.pr_names.specs.declared.names.Static.{Static}
-use Rattle.pr_names.specs.declared.names.Static.TheVariants.{Constant, Function, Table}
-use Rattle.pr_names.specs.declared.names.Statics.{Statics}
-use Rattle.pr_names.specs.Names.{IsOutside, before, bind, entries_in, horizon_in, indices_in, known_in, whole}
-use Rattle.pr_meaning.specs.Programs.{function_at}
+use Rattle.pr_scope_names.specs.declared.names.Callee.{Callee}
+use Rattle.pr_scope_names.specs.declared.names.Static.{Static}
+use Rattle.pr_scope_names.specs.declared.names.Static.TheVariants.{Constant, Function, Table}
+use Rattle.pr_scope_names.specs.declared.names.Statics.{Statics}
+use Rattle.pr_scope_names.specs.Names.{IsOutside, before, bind, entries_in, horizon_in, indices_in, known_in, whole}
+use Rattle.pr_lang_meaning.specs.Programs.{function_at}
 use Rattle.pr_flat.specs.declared.equations.Operand.TheVariants.{Const}
-use Rattle.pr_equations.specs.Making.{constant, made}
-use Rattle.pr_equations.specs.Expressions.{Inlined, Visible}
-use Rattle.pr_equations.specs.Programs.{inlined, signed_function, start}
+use Rattle.pr_expand_spec.specs.Making.{constant, made}
+use Rattle.pr_expand_spec.specs.Expressions.{Inlined, Visible}
+use Rattle.pr_expand_spec.specs.Programs.{inlined, signed_function, start}
 
 -- what is visible after the item of this number
 abbrev pub after : ℕ → Option Item → Visible → Visible

@@ -3,13 +3,13 @@ use Rattle.std.specs.Prelude.{◌≡◌, ℕ, List, None, ⊤, ◌<◌, length}
 use Rattle.pr_base.specs.declared.caps.Cap.{Cap}
 use Rattle.pr_lang.specs.declared.trees.Item.{Item}
 use Rattle.pr_lang.specs.declared.trees.Item.TheVariants.{Const, Table, Function}
-use Rattle.pr_names.specs.declared.names.Statics.{Statics}
-use Rattle.pr_names.specs.Names.{known_in}
+use Rattle.pr_scope_names.specs.declared.names.Statics.{Statics}
+use Rattle.pr_scope_names.specs.Names.{known_in}
 use Rattle.pr_flat.specs.Shape.{shapes_of}
 use Rattle.pr_scope.specs.Walk as scope
-use Rattle.pr_lawful.proofs.InvertedItems.{AllItems}
-use Rattle.pr_equations.specs.Programs as programs
-use Rattle.pr_equations.specs.Making.{Equations}
+use Rattle.pr_scope_facts.proofs.InvertedItems.{AllItems}
+use Rattle.pr_expand_spec.specs.Programs as programs
+use Rattle.pr_expand_spec.specs.Making.{Equations}
 use Rattle.pr_expand.specs.declared.flats.ExpandFault.{ExpandFault}
 use Rattle.pr_expand.specs.declared.flats.ExpandFault.TheVariants.{Limit, Memory}
 use Rattle.pr_expand.specs.declared.items.World.{World}

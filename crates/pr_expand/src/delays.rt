@@ -1,13 +1,13 @@
 //! Delays, each of which stands once.
 ghost use Rattle.std.specs.Prelude.{◌≡◌, IfErr, IfOk};
-ghost use Rattle.pr_equations.specs.Making.{delay_from, delayed, delayed_once};
+ghost use Rattle.pr_expand_spec.specs.Making.{delay_from, delayed, delayed_once};
 ghost use Rattle.pr_expand.specs.Code.{IsPast, made_of, shapes_in};
 
 use crate::keys::key_numbers;
 use crate::ledgers::{Ledger, Made};
 use crate::making::one;
 use crate::stops::Stop;
-use pr_equations::Given;
+use pr_expand_spec::Given;
 use pr_flat::{Op, Operand};
 use std::alloc::{AllocError, Global};
 

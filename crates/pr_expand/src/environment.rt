@@ -1,11 +1,11 @@
 //! What the names of streams stand for.
 ghost use Rattle.std.specs.Prelude.{◌≡◌, ℕ, cond, None, Some, Option, IfOk, OnOk, option_map};
-ghost use Rattle.pr_names.specs.Names.{at_name, bind, same_place, unbind};
-ghost use Rattle.pr_equations.specs.Statements.{with_standing};
-ghost use Rattle.pr_equations.specs.Programs.{no_streams};
+ghost use Rattle.pr_scope_names.specs.Names.{at_name, bind, same_place, unbind};
+ghost use Rattle.pr_expand_spec.specs.Statements.{with_standing};
+ghost use Rattle.pr_expand_spec.specs.Programs.{no_streams};
 ghost use Rattle.pr_expand.specs.Code.{placed_in, streams_in};
 
-use pr_equations::Standing;
+use pr_expand_spec::Standing;
 use pr_lang::Name;
 use std::alloc::{AllocError, Global};
 use std::collections::BTreeMap;

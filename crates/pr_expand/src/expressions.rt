@@ -1,12 +1,12 @@
 //! The equations of expressions and statements, with functions inlined and loops unrolled.
 ghost use Rattle.std.specs.Prelude.{◌≡◌, ◌-◌, IfErr, IfOk, OnOk, None, Some, map, option_map, slice_get, take};
-ghost use Rattle.pr_names.specs.Names.{KeepsNames, known_in};
-ghost use Rattle.pr_equations.specs.Making.{Equations, declare_last};
-ghost use Rattle.pr_equations.specs.Expressions.{all_made, assigned, called, declared_at_operator, declared_else, function_of, made_with, plan_of};
-ghost use Rattle.pr_equations.specs.Statements.{change_of, changes_of, let_change, rec_change, turns, with_index};
-ghost use Rattle.pr_equations.specs.Statements as statements;
-ghost use Rattle.pr_equations.specs.Programs as programs;
-ghost use Rattle.pr_equations.specs.Programs.{no_streams, signed_function};
+ghost use Rattle.pr_scope_names.specs.Names.{KeepsNames, known_in};
+ghost use Rattle.pr_expand_spec.specs.Making.{Equations, declare_last};
+ghost use Rattle.pr_expand_spec.specs.Expressions.{all_made, assigned, called, declared_at_operator, declared_else, function_of, made_with, plan_of};
+ghost use Rattle.pr_expand_spec.specs.Statements.{change_of, changes_of, let_change, rec_change, turns, with_index};
+ghost use Rattle.pr_expand_spec.specs.Statements as statements;
+ghost use Rattle.pr_expand_spec.specs.Programs as programs;
+ghost use Rattle.pr_expand_spec.specs.Programs.{no_streams, signed_function};
 ghost use Rattle.pr_expand.specs.Code.{IsPast, all_of, longer, made_of, progress_of, shapes_in, streams_in};
 ghost use Rattle.pr_expand.specs.Scopes.{IsScene, callee_in, defined, visible_in};
 
@@ -17,10 +17,10 @@ use crate::operands::{
     concatenate, declared, gives, op_of, place_at, refer, refer_earlier, shift, value_of,
 };
 use crate::stops::Stop;
-use pr_equations::{Given, Standing};
+use pr_expand_spec::{Given, Standing};
 use pr_flat::{Op, Operand};
 use pr_lang::{Expr, Fixed, Item, Name, Param, Ref, Stmt};
-use pr_names::{Callee, Static, Statics, amount};
+use pr_scope_names::{Callee, Static, Statics, amount};
 use std::alloc::Global;
 
 /// The function that a name stands for.

@@ -3,8 +3,8 @@ ghost use Rattle.std.specs.Prelude.{◌≡◌, IfErr, IfOk, None, true};
 ghost use Rattle.std.specs.List.{list_all};
 ghost use Rattle.pr_flat.specs.Shape.{shapes_of};
 ghost use Rattle.pr_scope.specs.Walk.{offence};
-ghost use Rattle.pr_equations.specs.Programs.{equations_of};
-ghost use Rattle.pr_lawful.specs.Numbers.{is_number};
+ghost use Rattle.pr_expand_spec.specs.Programs.{equations_of};
+ghost use Rattle.pr_scope_facts.specs.Numbers.{is_number};
 ghost use Rattle.pr_expand.specs.Worlds.{IsLimit, flattened};
 
 use crate::items::equations;

@@ -1,16 +1,16 @@
 //! The equations of items.
 ghost use Rattle.std.specs.Prelude.{◌≡◌, ℕ, ◌+◌, ◌<◌, ◌^◌, length, vec_len, List, ◌++◌, [], ◌∷◌, IfErr, IfOk, None, Some, map, slice_get};
-ghost use Rattle.pr_names.specs.declared.names.Static.TheVariants as static;
-ghost use Rattle.pr_names.specs.Names.{KeepsNames, bind, known_in};
+ghost use Rattle.pr_scope_names.specs.declared.names.Static.TheVariants as static;
+ghost use Rattle.pr_scope_names.specs.Names.{KeepsNames, bind, known_in};
 ghost use Rattle.pr_lang.specs.declared.trees.Item.{Item};
 ghost use Rattle.pr_flat.specs.declared.equations.Op.TheVariants.{Input};
 ghost use Rattle.pr_flat.specs.Shape.{shapes_of};
-ghost use Rattle.pr_meaning.specs.Programs.{function_at};
-ghost use Rattle.pr_equations.specs.Making.{Equations, constant, with_equation};
-ghost use Rattle.pr_equations.specs.Expressions.{assigned};
-ghost use Rattle.pr_equations.specs.Statements as statements;
-ghost use Rattle.pr_equations.specs.Statements.{change_of};
-ghost use Rattle.pr_equations.specs.Programs.{equations_of, input_width, item_change, items_change, start};
+ghost use Rattle.pr_lang_meaning.specs.Programs.{function_at};
+ghost use Rattle.pr_expand_spec.specs.Making.{Equations, constant, with_equation};
+ghost use Rattle.pr_expand_spec.specs.Expressions.{assigned};
+ghost use Rattle.pr_expand_spec.specs.Statements as statements;
+ghost use Rattle.pr_expand_spec.specs.Statements.{change_of};
+ghost use Rattle.pr_expand_spec.specs.Programs.{equations_of, input_width, item_change, items_change, start};
 ghost use Rattle.pr_expand.specs.Code.{IsPast, progress_of};
 ghost use Rattle.pr_expand.specs.Scopes.{IsBefore, visible_at};
 ghost use Rattle.pr_scope.specs.Walk.{offence};
@@ -24,7 +24,7 @@ use crate::operands::value_of;
 use crate::stops::Stop;
 use pr_flat::Operand;
 use pr_lang::{Expr, Fixed, Item, Name, Param, Program, Stmt};
-use pr_names::{Callee, Static, Statics, Table};
+use pr_scope_names::{Callee, Static, Statics, Table};
 use std::alloc::{AllocError, Global};
 
 /// What the items so far have made.

@@ -1,6 +1,6 @@
 //! The keys by which delays are found.
 ghost use Rattle.std.specs.Prelude.{◌≡◌, IfOk, option_map};
-ghost use Rattle.pr_names.specs.Names.{at_name};
+ghost use Rattle.pr_scope_names.specs.Names.{at_name};
 ghost use Rattle.pr_expand.specs.Keys.{delay_key, is_number, key_in, with_key, without_key};
 
 use pr_flat::{Equation, Op, Operand};

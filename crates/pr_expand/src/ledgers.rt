@@ -1,15 +1,15 @@
 //! The equations so far.
 ghost use Rattle.std.specs.Prelude.{◌≡◌, ℕ, ◌≤◌, ◌-◌, [], vec_len, IfOk, take};
 ghost use Rattle.std.proofs.Props.{props};
-ghost use Rattle.pr_names.specs.Names.{at_name};
+ghost use Rattle.pr_scope_names.specs.Names.{at_name};
 ghost use Rattle.pr_flat.specs.declared.equations.Operand.{Operand};
 ghost use Rattle.pr_flat.specs.Shape.{shapes_of};
-ghost use Rattle.pr_equations.specs.Making.{delay_from};
+ghost use Rattle.pr_expand_spec.specs.Making.{delay_from};
 ghost use Rattle.pr_expand.specs.Keys.{delay_key};
 
 use crate::environment::Environment;
 use crate::keys::{forgotten, key_of};
-use pr_equations::Given;
+use pr_expand_spec::Given;
 use pr_flat::{Equation, Operand};
 use std::alloc::{AllocError, Global};
 use std::collections::BTreeMap;

@@ -1,13 +1,13 @@
 //! Equations that are made one after the other.
 ghost use Rattle.std.specs.Prelude.{◌≡◌, ◌++◌, [], ◌∷◌, false, IfErr, IfOk, Some, None, length};
 ghost use Rattle.pr_flat.specs.Shape.{equation_shape};
-ghost use Rattle.pr_equations.specs.Making.{declare_last, fitted, is_signed, kinds_read, made, with_equation};
+ghost use Rattle.pr_expand_spec.specs.Making.{declare_last, fitted, is_signed, kinds_read, made, with_equation};
 ghost use Rattle.pr_expand.specs.Code.{IsPast, made_of, shapes_in};
 
 use crate::keys::{key_of, noted};
 use crate::ledgers::{Ledger, Made};
 use crate::stops::Stop;
-use pr_equations::Given;
+use pr_expand_spec::Given;
 use pr_flat::{Equation, Op, Operand};
 use std::alloc::{AllocError, Global};
 

@@ -1,11 +1,11 @@
 //! What numbers, names and operators give.
 ghost use Rattle.std.specs.Prelude.{◌≡◌, ℕ, IfErr, IfOk, None, Option};
-ghost use Rattle.pr_names.specs.Names.{known_in};
-ghost use Rattle.pr_meaning.specs.Expressions as meaning;
-ghost use Rattle.pr_meaning.specs.Expressions.{constant_shift, operator};
-ghost use Rattle.pr_equations.specs.Making.{constant, lawful, made};
-ghost use Rattle.pr_equations.specs.Expressions as expressions;
-ghost use Rattle.pr_equations.specs.Expressions.{beside, concatenated, earlier, place, referred};
+ghost use Rattle.pr_scope_names.specs.Names.{known_in};
+ghost use Rattle.pr_lang_meaning.specs.Expressions as meaning;
+ghost use Rattle.pr_lang_meaning.specs.Expressions.{constant_shift, operator};
+ghost use Rattle.pr_expand_spec.specs.Making.{constant, lawful, made};
+ghost use Rattle.pr_expand_spec.specs.Expressions as expressions;
+ghost use Rattle.pr_expand_spec.specs.Expressions.{beside, concatenated, earlier, place, referred};
 ghost use Rattle.pr_expand.specs.Code.{IsPast, made_of, shapes_in, streams_in};
 
 use crate::delays::delay;
@@ -13,10 +13,10 @@ use crate::environment::Environment;
 use crate::ledgers::{AllMade, Ledger, Made};
 use crate::making::two;
 use crate::stops::Stop;
-use pr_equations::{Given, Standing};
+use pr_expand_spec::{Given, Standing};
 use pr_flat::{Op, Operand};
 use pr_lang::{BinOp, Fixed, Name, Ref};
-use pr_names::{Offence, Static, Statics, read_static};
+use pr_scope_names::{Offence, Static, Statics, read_static};
 use std::alloc::Global;
 
 /// An operand, with no equation more.
@@ -33,14 +33,14 @@ pub fn gives(ledger: Ledger, operand: Operand, signed: bool) -> Made
 pub fn value_of(statics: &Statics, value: &Fixed) -> u64
     ensures { result ≡ constant value.now (known_in statics.now) }
 {
-    pr_names::constant(statics, value).unwrap_or(0)
+    pr_scope_names::constant(statics, value).unwrap_or(0)
 }
 
 /// The index that stands after a name, if there is one.
 pub fn place_at(statics: &Statics, target: &Ref) -> Option<u64>
     ensures { result ≡ place target.now (known_in statics.now) }
 {
-    pr_names::place(statics, target).unwrap_or(None)
+    pr_scope_names::place(statics, target).unwrap_or(None)
 }
 
 /// What is not known before the samples.

@@ -10,11 +10,11 @@ use Rattle.pr_lang.specs.declared.trees.Expr.TheOpen.{Expr-F}
 use Rattle.pr_lang.specs.declared.trees.Item.{Item}
 use Rattle.pr_lang.specs.declared.trees.Program.{Program}
 use Rattle.pr_lang.specs.Shape.{expr_shape, item_shape, program_shape}
-use Rattle.pr_alike.proofs.Lists.{each-alike, one-listed}
-use Rattle.pr_alike.proofs.Refs.{indexed}
-use Rattle.pr_alike.proofs.Refs.{alone as unindexed}
-use Rattle.pr_alike.proofs.Exprs.{LikeExpr, number, refer, delay, slice, not, binary, choose, call, cat, paren, same-fold}
-use Rattle.pr_alike.proofs.Items.{LikeItem, input, output, const, table, function, step, like-items}
+use Rattle.pr_lang_same_tree.proofs.Lists.{each-alike, one-listed}
+use Rattle.pr_lang_same_tree.proofs.Refs.{indexed}
+use Rattle.pr_lang_same_tree.proofs.Refs.{alone as unindexed}
+use Rattle.pr_lang_same_tree.proofs.Exprs.{LikeExpr, number, refer, delay, slice, not, binary, choose, call, cat, paren, same-fold}
+use Rattle.pr_lang_same_tree.proofs.Items.{LikeItem, input, output, const, table, function, step, like-items}
 use Rattle.pr_logic.specs.declared.forms.LogicProgram.{LogicProgram}
 use Rattle.pr_logic.specs.Forms.{Named, Part, part_step, part_of, output_part, is_byte_input, is_input_of, last_input, placed_output, program_by, program_in}
 

@@ -9,11 +9,11 @@ use Rattle.pr_lang.specs.declared.trees.Expr.{Expr}
 use Rattle.pr_lang.specs.declared.trees.Item.{Item}
 use Rattle.pr_lang.specs.declared.trees.Item.TheVariants.{Input, Output, Const, Table, Function, Step}
 use Rattle.pr_lang.specs.declared.trees.Program.{Program}
-use Rattle.pr_names.specs.Names.{built_in}
+use Rattle.pr_scope_names.specs.Names.{built_in}
 use Rattle.pr_flat.specs.Forms.{Stream, numbers_by}
-use Rattle.pr_meaning.specs.Streams.{Bound, sources, operate, assigned}
-use Rattle.pr_meaning.specs.Expressions.{Visible, meaning}
-use Rattle.pr_meaning.specs.Programs.{World, at_first, start, column, input_stream, with_input, with_output, item_change, items_change, streams_of, rows_of, out}
+use Rattle.pr_lang_meaning.specs.Streams.{Bound, sources, operate, assigned}
+use Rattle.pr_lang_meaning.specs.Expressions.{Visible, meaning}
+use Rattle.pr_lang_meaning.specs.Programs.{World, at_first, start, column, input_stream, with_input, with_output, item_change, items_change, streams_of, rows_of, out}
 use Rattle.pr_logic.specs.declared.forms.Logic.{Logic}
 use Rattle.pr_logic.specs.declared.forms.LogicProgram.{LogicProgram}
 use Rattle.pr_logic.specs.Forms.{Named, part_of, output_part, is_byte_input, last_input}

@@ -9,15 +9,15 @@ use Rattle.pr_lang.specs.declared.trees.Expr as expressions
 use Rattle.pr_lang.specs.declared.trees.Expr.{Expr, map-Expr}
 use Rattle.pr_lang.specs.declared.trees.Expr.TheOpen.{Expr-F}
 use Rattle.pr_lang.specs.declared.trees.Expr.TheFolds.{fold-roll-Expr, ind-Expr}
-use Rattle.pr_names.specs.declared.rules.Offence.{Offence}
-use Rattle.pr_names.specs.declared.names.Static.{Static}
-use Rattle.pr_names.specs.Outcomes.{optional}
-use Rattle.pr_names.specs.Constants.{constant_of}
+use Rattle.pr_scope_names.specs.declared.rules.Offence.{Offence}
+use Rattle.pr_scope_names.specs.declared.names.Static.{Static}
+use Rattle.pr_scope_names.specs.Outcomes.{optional}
+use Rattle.pr_scope_names.specs.Constants.{constant_of}
 use Rattle.pr_flat.specs.declared.equations.Op.{Op}
 use Rattle.pr_flat.specs.declared.equations.Op.TheVariants as op
 use Rattle.pr_flat.specs.Forms.{Stream}
-use Rattle.pr_meaning.specs.Streams.{Sources, operate}
-use Rattle.pr_meaning.specs.Expressions.{Visible, Sense, referred, operator, constant_shift, combined, meaning_step, sense_step, sense_of, meaning}
+use Rattle.pr_lang_meaning.specs.Streams.{Sources, operate}
+use Rattle.pr_lang_meaning.specs.Expressions.{Visible, Sense, referred, operator, constant_shift, combined, meaning_step, sense_step, sense_of, meaning}
 use Rattle.pr_logic.specs.declared.forms.Logic.{Logic}
 use Rattle.pr_logic.specs.Forms.{Named, Part, logic_in, alone, operated, part_step, part_of}
 

@@ -14,7 +14,7 @@ use Rattle.pr_conf.specs.declared.pes.Pe.{Pe}
 use Rattle.pr_base.specs.Pe.{shifted}
 use Rattle.pr_conf.specs.StageMap.{made_from, pe_made, source_byte, source_bit, output_at, passed, passed_bytes, registers_to, row_map, step_of}
 use Rattle.pr_conf.specs.Through.{steps_of, tapped, results_of}
-use Rattle.pr_flow.specs.Rows.{Step, rows, rows_over}
+use Rattle.pr_conf_pipeline.specs.Rows.{Step, rows, rows_over}
 use Rattle.pr_stripe.specs.Elements.{is_free, bare_sight}
 use Rattle.std.proofs.lemmas.List.Elements.{All-head, All-tail}
 use Rattle.pr_logic.specs.declared.forms.LogicProgram.{LogicProgram}

@@ -65,9 +65,9 @@ whole N P row (o ∷ outputs) h =
     ap length (flat_map-cons f o outputs) ∙ (length-append (f o) (flat_map f outputs)
     ∙ (ap₂ (λ a b. a + b) (length-map o.taps.items (tap_byte N row) ∙ n) rest ∙ sym (sum_by-cons slices_of o.width (map (λ x. x.width) outputs))))
 
-pub room_left : (N P : ℕ) (row : List ℕ) (outputs : List Output) (i : ℕ) (o : Output) (into : List ℕ) (taps : List Tap) (len room : ℕ) → list_all (is_lawful_output N P) (map output_shape outputs) ≡ true → i < length outputs → o ≡ get_or outputs i o → taps ≡ o.taps.items
-    → into ≡ bytes_read N row (take i outputs) → len ≡ length into → bytes_in (map (λ x. x.width) outputs) ≤ room → len + length taps ≤ room
-room_left N P row outputs i o into taps len room h l e f b n r =
+pub room_left : (N P : ℕ) (row : List ℕ) (outputs : List Output) (i : ℕ) (o : Output) (into : List ℕ) (taps : List Tap) (len buffers : ℕ) → list_all (is_lawful_output N P) (map output_shape outputs) ≡ true → i < length outputs → o ≡ get_or outputs i o → taps ≡ o.taps.items
+    → into ≡ bytes_read N row (take i outputs) → len ≡ length into → bytes_in (map (λ x. x.width) outputs) ≤ buffers → len + length taps ≤ buffers
+room_left N P row outputs i o into taps len buffers h l e f b n r =
     let g : Output → List ℕ = λ x. map (tap_byte N row) x.taps.items in
     let some = length-flat_map-take g outputs i o l in
     let this : length (g (get_or outputs i o)) ≡ length taps = length-map (get_or outputs i o).taps.items (tap_byte N row) ∙ ap length (ap (λ (x : Output). x.taps.items) (sym e) ∙ sym f) in
@@ -91,5 +91,5 @@ pub outputs_lawful : (N P : ℕ) (outputs shown : List Output) → are_lawful_ou
 outputs_lawful N P outputs shown h e =
     ap (λ os. list_all (is_lawful_output N P) (map output_shape os)) e ∙ and_right (ltb 0 (length (map output_shape outputs)) && leb (length (map output_shape outputs)) 64) (list_all (is_lawful_output N P) (map output_shape outputs)) h
 
-pub widths_left : (outputs shown : List Output) (room cap : ℕ) → shown ≡ outputs → room ≡ cap → bytes_in (map (λ o. o.width) (map output_shape outputs)) ≤ room → bytes_in (map (λ o. o.width) shown) ≤ cap
-widths_left outputs shown room cap e f h = let z = ap bytes_in (widths_shaped outputs) in let y = ap (λ os. bytes_in (map (λ (o : Output). o.width) os)) e in omega arith
+pub widths_left : (outputs shown : List Output) (buffers cap : ℕ) → shown ≡ outputs → buffers ≡ cap → bytes_in (map (λ o. o.width) (map output_shape outputs)) ≤ buffers → bytes_in (map (λ o. o.width) shown) ≤ cap
+widths_left outputs shown buffers cap e f h = let z = ap bytes_in (widths_shaped outputs) in let y = ap (λ os. bytes_in (map (λ (o : Output). o.width) os)) e in omega arith

@@ -6,9 +6,9 @@ use Rattle.pr_conf.specs.Configuration.{shape_of, pes_of}
 use Rattle.pr_conf.specs.Through.{steps_of, tapped}
 use Rattle.pr_queue.specs.Pieces.{Pieces}
 use Rattle.pr_stripe.specs.Rows.{shown}
-use Rattle.pr_stands.specs.Spots.{Bare}
-use Rattle.pr_stands.specs.Stands.{IsStanding}
-use Rattle.pr_stands.proofs.HistoryLaws.{standing_start}
+use Rattle.pr_machine_refines.specs.Spots.{Bare}
+use Rattle.pr_machine_refines.specs.Stands.{IsStanding}
+use Rattle.pr_machine_refines.proofs.HistoryLaws.{standing_start}
 use Rattle.pr_machine.specs.declared.places.Place.{Place}
 use Rattle.pr_machine.specs.declared.places.Place.TheVariants as V
 use Rattle.pr_machine.specs.Places.{seen, place_at, is_bare, AreBare, spots_of, rows_of}

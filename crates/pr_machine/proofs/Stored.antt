@@ -31,9 +31,9 @@ module _ {N P : ℕ} (l : Loaded N P) (k : Shape) (p : ℕ) (h : History) (st : 
   pub stored_held : IsResident l.plan.stages l.plan.stripes l.plan.time s true → IsStored N P k p (account_of k p h) s None
   stored_held r = let w = resident_here true r in inr (w.0, occupant_resides (length k.stages) p w.0 (account_of k p h).time s w.2)
 
-  pub stored_row : (row : List ℕ) → s < vec_len l.conf.stages → IsResident l.plan.stages l.plan.stripes l.plan.time s false → slice_get l.room.store s ≡ Some row → IsStored N P k p (account_of k p h) s (Some row)
+  pub stored_row : (row : List ℕ) → s < vec_len l.conf.stages → IsResident l.plan.stages l.plan.stripes l.plan.time s false → slice_get l.buffers.store s ≡ Some row → IsStored N P k p (account_of k p h) s (Some row)
   stored_row row e r g =
       let hs : s < length k.stages = omega (arith, stages_are) in
       let away = λ (i : ℕ) (q : Resides (length k.stages) p (account_of k p h).time s i).
       resident_here false r i (resides_inside (length k.stages) p (account_of k p h).time s i (some_stripes l p st.stripes) q).1 (resides_occupant (length k.stages) p i (account_of k p h).time s q) in
-      (hs, away, sym (get_or_from_slice_get l.room.store s row [] g) ∙ st.parts.away s hs away)
+      (hs, away, sym (get_or_from_slice_get l.buffers.store s row [] g) ∙ st.parts.away s hs away)

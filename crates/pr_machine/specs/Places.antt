@@ -2,7 +2,7 @@
 use Rattle.std.specs.Prelude.{◌≡◌, ℕ, ◌<◌, Bool, true, false, List, [], length, slice_index_or, nat_lt, is_none}
 use Rattle.pr_stripe.specs.declared.rows.Row.{Row}
 use Rattle.pr_stripe.specs.Rows.{shown}
-use Rattle.pr_stands.specs.Spots.{Spot, Bare, Held, Gone}
+use Rattle.pr_machine_refines.specs.Spots.{Spot, Bare, Held, Gone}
 use Rattle.pr_machine.specs.declared.places.Place.{Place}
 use Rattle.pr_machine.specs.declared.places.Place.TheVariants as V
 

@@ -2,16 +2,16 @@
 use Rattle.std.specs.Prelude.{◌≡◌, ◌<◌, ◌≤◌, ◌⊎◌, ℕ, Bool, List, length, Option, Some, None, true, false, if◌then◌else◌}
 use Rattle.pr_control.specs.Time.{event}
 use Rattle.pr_control.specs.Residents.{Resides}
-use Rattle.pr_flow.specs.Rows.{state_after}
-use Rattle.pr_account.specs.Account.{Event, Account, account, done, stalled}
-use Rattle.pr_account.specs.Replies.{Reply, Accepted, InFull, Given, OutEmpty, Advanced, Stalled, reply}
+use Rattle.pr_conf_pipeline.specs.Rows.{state_after}
+use Rattle.pr_machine_account.specs.Account.{Event, Account, account, done, stalled}
+use Rattle.pr_machine_account.specs.Replies.{Reply, Accepted, InFull, Given, OutEmpty, Advanced, Stalled, reply}
 use Rattle.pr_conf.specs.declared.turns.Turn.{Turn}
 use Rattle.pr_conf.specs.Shape.{Shape}
 use Rattle.pr_conf.specs.Configuration.{shape_of}
 use Rattle.pr_conf.specs.Rules.{bytes_in}
 use Rattle.pr_conf.specs.Through.{steps_of, tapped, output_widths}
-use Rattle.pr_stands.specs.Stands.{IsStanding}
-use Rattle.pr_stands.specs.Cycle.{evicted_stage, entering_sample, leaving_result}
+use Rattle.pr_machine_refines.specs.Stands.{IsStanding}
+use Rattle.pr_machine_refines.specs.Cycle.{evicted_stage, entering_sample, leaving_result}
 use Rattle.pr_machine.specs.declared.machine.Machine.{Machine}
 use Rattle.pr_machine.specs.declared.machine.Running.{Running}
 use Rattle.pr_machine.specs.declared.loaded.Loaded.{Loaded}
@@ -49,16 +49,16 @@ result_bytes_of m = bytes_in (output_widths (conf_of m))
 
 -- the samples that wait, and the results
 abbrev pub waiting_samples : {N P : ℕ} → Machine N P Running (Loaded N P) → List (List ℕ)
-waiting_samples m = m.parts.room.input.waiting
+waiting_samples m = m.parts.buffers.input.waiting
 
 abbrev pub waiting_results : {N P : ℕ} → Machine N P Running (Loaded N P) → List (List ℕ)
-waiting_results m = m.parts.room.output.waiting
+waiting_results m = m.parts.buffers.output.waiting
 
 -- the machine has this configuration and this many stripes, and its parts are those of the account of the history
 pub record PartsStand {N P : ℕ} (m : Loaded N P) (c : Shape) (p : ℕ) (h : History) : Type 0 where
   pub conf : shape_of m.conf ≡ c
   pub stripes : length m.places.items ≡ p
-  pub parts : IsStanding (steps_of N P c) (tapped N c) (length c.stages) p (spots_of m.places.items) (rows_of m.room.store) m.plan.time m.entered m.left m.room.input.waiting m.room.output.waiting (account_of c p h)
+  pub parts : IsStanding (steps_of N P c) (tapped N c) (length c.stages) p (spots_of m.places.items) (rows_of m.buffers.store) m.plan.time m.entered m.left m.buffers.input.waiting m.buffers.output.waiting (account_of c p h)
 
 abbrev pub Stands : {N P : ℕ} → Machine N P Running (Loaded N P) → Shape → ℕ → History → Type 0
 Stands m c p h = PartsStand m.parts c p h
@@ -81,7 +81,7 @@ cycle_reply advanced = if advanced then Advanced else Stalled
 pub record IsKept {N P : ℕ} (old new : Machine N P Running (Loaded N P)) : Type 0 where
   pub conf : new.parts.conf ≡ old.parts.conf
   pub places : new.parts.places ≡ old.parts.places
-  pub store : new.parts.room.store ≡ old.parts.room.store
+  pub store : new.parts.buffers.store ≡ old.parts.buffers.store
   pub plan : new.parts.plan ≡ old.parts.plan
   pub entered : new.parts.entered ≡ old.parts.entered
   pub left : new.parts.left ≡ old.parts.left

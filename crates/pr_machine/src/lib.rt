@@ -3,12 +3,12 @@
 //! What a machine does is said by the history of its calls: see `Stands`.
 #![tactic(auto)]
 
+mod buffers;
+pub mod laws;
 mod loaded;
 mod machine;
 mod places;
 mod results;
-mod rooms;
-pub mod theorems;
 
 pub use loaded::Loaded;
 pub use machine::{Bare, Condition, Idle, InFull, LoadRefused, Machine, OutEmpty, Running};

@@ -1,19 +1,19 @@
 //! What a running machine is made of, and one cycle of it.
 
 ghost use Rattle.std.specs.Prelude.{ℕ, ◌≡◌, ◌≢◌, ◌++◌, ◌∷◌, [], ◌<◌, ◌≤◌, ◌-◌, ◌+◌, ◌^◌, Option, Some, None, List, is_some, length, vec_len, vec_capacity, true, false, if◌then◌else◌};
-ghost use Rattle.pr_account.specs.Account.{Cycle, stalled};
+ghost use Rattle.pr_machine_account.specs.Account.{Cycle, stalled};
 ghost use Rattle.pr_control.specs.Time.{turned};
 ghost use Rattle.pr_conf.specs.Shape.{Shape};
 ghost use Rattle.pr_conf.specs.Configuration.{shape_of};
 ghost use Rattle.pr_conf.specs.Rules.{bytes_in};
 ghost use Rattle.pr_conf.specs.Through.{output_widths, steps_of};
-ghost use Rattle.pr_stands.specs.Cycle.{will_enter, bus_of, rest_of, pushed, HasRoom};
+ghost use Rattle.pr_machine_refines.specs.Cycle.{will_enter, bus_of, rest_of, pushed, HasRoom};
 ghost use Rattle.pr_stripe.specs.Rows.{entering as row_if};
 ghost use Rattle.pr_machine.specs.Places.{AreHere, AreBare, rows_of};
 ghost use Rattle.pr_machine.specs.Schedules.{IsScheduled};
 
+use crate::buffers::Buffers;
 use crate::places::{Place, Schedule, is_stalled, pass};
-use crate::rooms::Room;
 use pr_conf::{Configuration, Turn};
 use pr_control::Plan;
 
@@ -22,7 +22,7 @@ use pr_control::Plan;
 pub struct Loaded<const N: usize, const P: usize> {
     pub(crate) conf: Configuration<N, P>,
     pub(crate) places: Vec<Place<N, P>>,
-    pub(crate) room: Room<N>,
+    pub(crate) buffers: Buffers<N>,
     pub(crate) plan: Plan,
     pub(crate) entered: u64,
     pub(crate) left: u64,
@@ -31,40 +31,40 @@ pub struct Loaded<const N: usize, const P: usize> {
     ghost plan_stages: { plan.stages ≡ vec_len conf.stages },
     ghost plan_stripes: { plan.stripes ≡ vec_len places },
     ghost here: { AreHere (vec_len conf.stages) places.items },
-    ghost rows: { length room.store ≡ vec_len conf.stages },
-    ghost input: { room.input.size ≡ bytes_in (shape_of conf).inputs },
-    ghost output: { room.output.size ≡ bytes_in (output_widths (shape_of conf)) },
-    ghost sample: { vec_len room.sample ≡ bytes_in (shape_of conf).inputs },
-    ghost buffer: { bytes_in (output_widths (shape_of conf)) ≤ vec_capacity room.result },
+    ghost rows: { length buffers.store ≡ vec_len conf.stages },
+    ghost input: { buffers.input.size ≡ bytes_in (shape_of conf).inputs },
+    ghost output: { buffers.output.size ≡ bytes_in (output_widths (shape_of conf)) },
+    ghost sample: { vec_len buffers.sample ≡ bytes_in (shape_of conf).inputs },
+    ghost buffer: { bytes_in (output_widths (shape_of conf)) ≤ vec_capacity buffers.result },
     ghost entered_in: { entered ≤ plan.time },
     ghost left_in: { left ≤ plan.time },
 }
 
-/// Takes the sample that enters into the room's buffer, and says whether one does. On a bubble the buffer is zero.
-fn enter<const N: usize>(room: &mut Room<N>, first: Option<usize>) -> bool
-    requires { vec_len room.old.sample ≡ room.old.input.size }
-    ensures bus { row_if result room.new.sample.items ≡ bus_of room.old.input.waiting first }
-    ensures rest { room.new.input.waiting ≡ rest_of room.old.input.waiting first }
-    ensures size { room.new.input.size ≡ room.old.input.size }
-    ensures length { vec_len room.new.sample ≡ vec_len room.old.sample }
-    ensures others { (room.new.store ≡ room.old.store) × (room.new.output ≡ room.old.output) × (room.new.result ≡ room.old.result) }
+/// Takes the sample that enters into its buffer, and says whether one does. On a bubble the buffer is zero.
+fn enter<const N: usize>(buffers: &mut Buffers<N>, first: Option<usize>) -> bool
+    requires { vec_len buffers.old.sample ≡ buffers.old.input.size }
+    ensures bus { row_if result buffers.new.sample.items ≡ bus_of buffers.old.input.waiting first }
+    ensures rest { buffers.new.input.waiting ≡ rest_of buffers.old.input.waiting first }
+    ensures size { buffers.new.input.size ≡ buffers.old.input.size }
+    ensures length { vec_len buffers.new.sample ≡ vec_len buffers.old.sample }
+    ensures others { (buffers.new.store ≡ buffers.old.store) × (buffers.new.output ≡ buffers.old.output) × (buffers.new.result ≡ buffers.old.result) }
 {
-    room.sample.fill(0);
+    buffers.sample.fill(0);
     match first {
         None => false,
-        Some(_) => room.input.get(&mut room.sample).is_ok(),
+        Some(_) => buffers.input.get(&mut buffers.sample).is_ok(),
     }
 }
 
 /// Puts the result that left into its queue.
-fn put_result<const N: usize>(room: &mut Room<N>, left: bool)
-    requires { left ≡ true → length room.old.result.items ≡ room.old.output.size }
-    ensures put { HasRoom room.old.output.waiting (row_if left room.old.result.items) → room.new.output.waiting ≡ pushed room.old.output.waiting (row_if left room.old.result.items) }
-    ensures size { room.new.output.size ≡ room.old.output.size }
-    ensures others { (room.new.store ≡ room.old.store) × (room.new.input ≡ room.old.input) × (room.new.result ≡ room.old.result) × (room.new.sample ≡ room.old.sample) }
+fn put_result<const N: usize>(buffers: &mut Buffers<N>, left: bool)
+    requires { left ≡ true → length buffers.old.result.items ≡ buffers.old.output.size }
+    ensures put { HasRoom buffers.old.output.waiting (row_if left buffers.old.result.items) → buffers.new.output.waiting ≡ pushed buffers.old.output.waiting (row_if left buffers.old.result.items) }
+    ensures size { buffers.new.output.size ≡ buffers.old.output.size }
+    ensures others { (buffers.new.store ≡ buffers.old.store) × (buffers.new.input ≡ buffers.old.input) × (buffers.new.result ≡ buffers.old.result) × (buffers.new.sample ≡ buffers.old.sample) }
 {
     if left {
-        let _told = room.output.put(&room.result);
+        let _told = buffers.output.put(&buffers.result);
     }
 }
 
@@ -100,17 +100,17 @@ impl<const N: usize, const P: usize> Loaded<N, P> {
     pub(crate) fn at_start(
         conf: Configuration<N, P>,
         places: Vec<Place<N, P>>,
-        room: Room<N>,
+        buffers: Buffers<N>,
     ) -> Self
         requires two { 2 ≤ vec_len places }
         requires small { vec_len places ≤ 256 }
         requires bare { AreBare places.items }
-        requires states { (s : ℕ) → s < vec_len conf.stages → rows_of room.store s ≡ (steps_of N P (shape_of conf) s).init }
-        requires rows { length room.store ≡ vec_len conf.stages }
-        requires input { room.input ≡ record { size = bytes_in (shape_of conf).inputs; waiting = [] } }
-        requires output { room.output ≡ record { size = bytes_in (output_widths (shape_of conf)); waiting = [] } }
-        requires sample { vec_len room.sample ≡ bytes_in (shape_of conf).inputs }
-        requires buffer { bytes_in (output_widths (shape_of conf)) ≤ vec_capacity room.result }
+        requires states { (s : ℕ) → s < vec_len conf.stages → rows_of buffers.store s ≡ (steps_of N P (shape_of conf) s).init }
+        requires rows { length buffers.store ≡ vec_len conf.stages }
+        requires input { buffers.input ≡ record { size = bytes_in (shape_of conf).inputs; waiting = [] } }
+        requires output { buffers.output ≡ record { size = bytes_in (output_widths (shape_of conf)); waiting = [] } }
+        requires sample { vec_len buffers.sample ≡ bytes_in (shape_of conf).inputs }
+        requires buffer { bytes_in (output_widths (shape_of conf)) ≤ vec_capacity buffers.result }
         ensures stands { PartsStand result (shape_of conf.entry) (length places.entry.items) [] }
         ensures conf { result.conf ≡ conf.entry }
     {
@@ -118,7 +118,7 @@ impl<const N: usize, const P: usize> Loaded<N, P> {
         Loaded {
             conf,
             places,
-            room,
+            buffers,
             plan,
             entered: 0,
             left: 0,
@@ -141,13 +141,13 @@ impl<const N: usize, const P: usize> Loaded<N, P> {
         requires { IsScheduled (vec_len self.now.conf.stages) (vec_len self.now.places) self.now.plan.time schedule.now }
         ensures { (c : Shape) (p : ℕ) (h : History) → PartsStand self.now c p h → result ≡ stalled (length c.stages) p (account_of c p h) }
     {
-        let entering = may_enter(schedule.first, self.room.input.len());
+        let entering = may_enter(schedule.first, self.buffers.input.len());
         is_stalled(
             &self.places,
             self.conf.stages(),
             entering,
             schedule.last,
-            self.room.output.len(),
+            self.buffers.output.len(),
         )
     }
 
@@ -163,16 +163,16 @@ impl<const N: usize, const P: usize> Loaded<N, P> {
         ensures time { self.new.plan.time ≡ self.old.plan.time + 1 }
     {
         let event = self.plan.next();
-        let entering = enter(&mut self.room, schedule.first);
+        let entering = enter(&mut self.buffers, schedule.first);
         let passed = pass(
             &mut self.places,
             &self.conf,
-            &mut self.room,
+            &mut self.buffers,
             schedule,
             event,
             entering,
         );
-        put_result(&mut self.room, passed.left);
+        put_result(&mut self.buffers, passed.left);
         let turn = Turn {
             advanced: true,
             configured: configured(event),

@@ -3,14 +3,14 @@
 ghost use Rattle.std.specs.Prelude.{ℕ, ◌≡◌, ◌++◌, ◌∷◌, [], ◌<◌, ◌≤◌, ◌-◌, ◌+◌, ◌^◌, ◌↔◌, Option, Some, None, List, IsOk, IsErr, IfOk, IfErr, IfSome, OnOk, OnErr, is_ok, length, vec_len, vec_capacity, true};
 ghost use Rattle.std.specs.Option.{option_copied};
 ghost use Rattle.std.specs.Bool.{OnFalse};
-ghost use Rattle.pr_account.specs.Account.{Offer, Take, Cycle, left as left_of};
+ghost use Rattle.pr_machine_account.specs.Account.{Offer, Take, Cycle, left as left_of};
 ghost use Rattle.pr_conf.specs.Shape.{Shape};
 ghost use Rattle.pr_conf.specs.Configuration.{shape_of};
 ghost use Rattle.pr_machine.specs.Places.{AreBare};
 
+use crate::buffers::buffers_for;
 use crate::loaded::Loaded;
 use crate::places::Place;
-use crate::rooms::room_for;
 use pr_conf::{Configuration, Turn};
 use pr_stripe::{Blank, Stripe};
 use std::alloc::{AllocError, Global};
@@ -124,16 +124,16 @@ impl<const N: usize, const P: usize> Machine<N, P, Bare> {
         ensures conf { IfOk result (λ m. m.parts.conf ≡ conf.entry) }
         ensures refused { IfErr result (λ r. (r.machine ≡ self.entry) × (r.conf ≡ conf.entry)) }
     {
-        match room_for(alloc, &conf) {
+        match buffers_for(alloc, &conf) {
             Err(_) => Err(LoadRefused {
                 machine: self,
                 conf,
             }),
-            Ok(room) => {
+            Ok(buffers) => {
                 let Machine { parts } = self;
                 let Idle { places } = parts;
                 Ok(Machine {
-                    parts: Loaded::at_start(conf, places, room),
+                    parts: Loaded::at_start(conf, places, buffers),
                 })
             }
         }
@@ -158,7 +158,7 @@ impl<const N: usize, const P: usize> Machine<N, P, Running> {
         ensures kept { IsKept self.old self.new }
         ensures results { waiting_results self.new ≡ waiting_results self.old }
     {
-        match self.parts.room.input.put(piece) {
+        match self.parts.buffers.input.put(piece) {
             Ok(()) => Ok(()),
             Err(_) => Err(InFull),
         }
@@ -179,7 +179,7 @@ impl<const N: usize, const P: usize> Machine<N, P, Running> {
         ensures kept { IsKept self.old self.new }
         ensures samples { waiting_samples self.new ≡ waiting_samples self.old }
     {
-        match self.parts.room.output.get(into) {
+        match self.parts.buffers.output.get(into) {
             Ok(()) => Ok(()),
             Err(_) => Err(OutEmpty),
         }
@@ -221,7 +221,7 @@ impl<const N: usize, const P: usize> Machine<N, P, Running> {
         if self.parts.plan.resident(stage) {
             return None;
         }
-        Some(self.parts.room.store.row(stage))
+        Some(self.parts.buffers.store.row(stage))
     }
 
     /// How many cycles have advanced.
@@ -254,7 +254,7 @@ impl<const N: usize, const P: usize> Machine<N, P, Running> {
         ensures told { (c : Shape) (p : ℕ) (h : History) → Stands self.now c p h → result ≡ length (account_of c p h).offered - length (account_of c p h).entries }
         ensures few { result ≤ 16 }
     {
-        self.parts.room.input.len()
+        self.parts.buffers.input.len()
     }
 
     /// How many results wait, 16 at most.
@@ -263,7 +263,7 @@ impl<const N: usize, const P: usize> Machine<N, P, Running> {
         ensures told { (c : Shape) (p : ℕ) (h : History) → Stands self.now c p h → result ≡ left_of (length c.stages) (account_of c p h) - (account_of c p h).taken }
         ensures few { result ≤ 16 }
     {
-        self.parts.room.output.len()
+        self.parts.buffers.output.len()
     }
 
     /// The configuration.

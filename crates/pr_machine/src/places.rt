@@ -6,14 +6,14 @@ ghost use Rattle.pr_control.specs.Time.{before, turned, IsInside};
 ghost use Rattle.pr_conf.specs.Configuration.{shape_of};
 ghost use Rattle.pr_conf.specs.Rules.{are_lawful_pes, site_of, bytes_in};
 ghost use Rattle.pr_conf.specs.Through.{steps_of, tapped, output_widths};
-ghost use Rattle.pr_stands.specs.Spots.{Spot, Held, shows, stage_in, stepped, saved};
-ghost use Rattle.pr_stands.specs.Cycle.{will_leave as leaving_by, leaves, AreStepped, IsRingStep, IsLineStep, IsTurned, IsPass, saved_by};
+ghost use Rattle.pr_machine_refines.specs.Spots.{Spot, Held, shows, stage_in, stepped, saved};
+ghost use Rattle.pr_machine_refines.specs.Cycle.{will_leave as leaving_by, leaves, AreStepped, IsRingStep, IsLineStep, IsTurned, IsPass, saved_by};
 ghost use Rattle.pr_stripe.specs.Rows.{shown};
 ghost use Rattle.pr_stripe.specs.Rows.{entering as row_if};
 ghost use Rattle.pr_machine.specs.Places.{seen, place_at, spots_of, rows_of, is_there, IsHere, AreHere};
 
+use crate::buffers::Buffers;
 use crate::results::read_result;
-use crate::rooms::Room;
 use pr_conf::{Configuration, Stage};
 use pr_control::{Store, place_back, place_before};
 use pr_stripe::{Blank, Live, Row, Stripe};
@@ -218,7 +218,7 @@ fn stage_in_place<const N: usize, const P: usize>(place: &Place<N, P>) -> Option
 }
 
 /// The event of a cycle, if there is one: the stage that was saved for it.
-fn turn<const N: usize, const P: usize>(
+fn replace_stage<const N: usize, const P: usize>(
     places: &mut [Place<N, P>],
     store: &mut Store<N>,
     event: Option<(u32, u32)>,
@@ -323,12 +323,12 @@ fn leaving<const N: usize, const P: usize>(
     }
 }
 
-/// A whole cycle of the stripes and the store, with the sample in the room's buffer where it enters. A result that
-/// leaves is in the room's buffer for it.
+/// A whole cycle of the stripes and the store, with the sample in its buffer where it enters. A result that
+/// leaves is in the buffer for it.
 pub(crate) fn pass<const N: usize, const P: usize>(
     places: &mut [Place<N, P>],
     conf: &Configuration<N, P>,
-    room: &mut Room<N>,
+    buffers: &mut Buffers<N>,
     schedule: &Schedule,
     event: Option<(u32, u32)>,
     entering: bool,
@@ -336,22 +336,22 @@ pub(crate) fn pass<const N: usize, const P: usize>(
     requires two { 2 ≤ length places.old }
     requires small { length places.old ≤ 256 }
     requires here { AreHere (vec_len conf.now.stages) places.old }
-    requires rows { length room.old.store ≡ vec_len conf.now.stages }
-    requires sample { vec_len room.old.sample ≡ bytes_in (shape_of conf.now).inputs }
-    requires buffer { bytes_in (output_widths (shape_of conf.now)) ≤ vec_capacity room.old.result }
+    requires rows { length buffers.old.store ≡ vec_len conf.now.stages }
+    requires sample { vec_len buffers.old.sample ≡ bytes_in (shape_of conf.now).inputs }
+    requires buffer { bytes_in (output_widths (shape_of conf.now)) ≤ vec_capacity buffers.old.result }
     requires ring { IfSome schedule.now.ring (λ q. q < length places.old) }
     requires last { IfSome schedule.now.last (λ i. i < length places.old) }
     requires inside { IsInside (vec_len conf.now.stages) (length places.old) event }
-    ensures pass { IsPass (steps_of N P (shape_of conf.now)) (tapped N (shape_of conf.now)) (vec_len conf.now.stages) (length places.old) schedule.now.ring schedule.now.last event (row_if entering room.old.sample.items)
-        (spots_of places.old) (spots_of places.new) (rows_of room.old.store) (rows_of room.new.store) (row_if result.left room.new.result.items) result.saved }
-    ensures length { result.left ≡ true → length room.new.result.items ≡ bytes_in (output_widths (shape_of conf.now)) }
-    ensures rows { length room.new.store ≡ length room.old.store }
-    ensures buffer { vec_capacity room.old.result ≤ vec_capacity room.new.result }
-    ensures others { (room.new.input ≡ room.old.input) × (room.new.output ≡ room.old.output) × (room.new.sample ≡ room.old.sample) }
+    ensures pass { IsPass (steps_of N P (shape_of conf.now)) (tapped N (shape_of conf.now)) (vec_len conf.now.stages) (length places.old) schedule.now.ring schedule.now.last event (row_if entering buffers.old.sample.items)
+        (spots_of places.old) (spots_of places.new) (rows_of buffers.old.store) (rows_of buffers.new.store) (row_if result.left buffers.new.result.items) result.saved }
+    ensures length { result.left ≡ true → length buffers.new.result.items ≡ bytes_in (output_widths (shape_of conf.now)) }
+    ensures rows { length buffers.new.store ≡ length buffers.old.store }
+    ensures buffer { vec_capacity buffers.old.result ≤ vec_capacity buffers.new.result }
+    ensures others { (buffers.new.input ≡ buffers.old.input) × (buffers.new.output ≡ buffers.old.output) × (buffers.new.sample ≡ buffers.old.sample) }
     ensures here { AreHere (vec_len conf.now.stages) places.new }
 {
-    compute(places, conf, schedule.ring, &room.sample, entering);
-    let left = leaving(places, conf, schedule.last, &mut room.result);
-    let saved = turn(places, &mut room.store, event);
+    compute(places, conf, schedule.ring, &buffers.sample, entering);
+    let left = leaving(places, conf, schedule.last, &mut buffers.result);
+    let saved = replace_stage(places, &mut buffers.store, event);
     Passed { left, saved }
 }

@@ -5,7 +5,7 @@ use Rattle.pr_edge.specs.Files.{Told}
 use Rattle.pr_edge.specs.Tape.{Tape, Appends, AppendsFront}
 use Rattle.pr_conf.specs.Shape.{Shape}
 use Rattle.pr_code.specs.Spelling.{bytes_of_words, words_of}
-use Rattle.pr_show.specs.Shown.{shown}
+use Rattle.pr_code_show.specs.Shown.{shown}
 use Rattle.pr_modes.specs.declared.outcomes.Outcome.{Outcome}
 use Rattle.pr_modes.specs.declared.texts.Form.{Form}
 use Rattle.pr_modes.specs.Configurations.{HasConfiguration, IsConfigurationRefusal}

@@ -10,9 +10,9 @@ ghost use Rattle.pr_modes.specs.Texts.{text_in, IsPut, IsRefused, IsWritten};
 use crate::loading::{Loadable, read_configuration};
 use crate::outcomes::Outcome;
 use pr_code::encode;
+use pr_code_show::show as summary;
 use pr_conf::Configuration;
 use pr_edge::{Shelf, Sink, write_all};
-use pr_show::show as summary;
 use std::alloc::{AllocError, Global};
 
 /// A text of a configuration.

@@ -13,5 +13,5 @@ mod tags;
 mod take;
 
 pub use parser::{ParseFault, parse, wrong_token_law};
-pub use pr_print::print;
-pub use pr_token::tokens;
+pub use pr_parse_lex::tokens;
+pub use pr_parse_print::print;

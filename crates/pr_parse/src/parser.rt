@@ -15,7 +15,7 @@ use crate::fault::Fault;
 use crate::items::program;
 use pr_base::Cap;
 use pr_lang::{Program, Token};
-use pr_token::first_deep;
+use pr_parse_lex::first_deep;
 use std::alloc::{AllocError, Global};
 use thiserror::Error;
 

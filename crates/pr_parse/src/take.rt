@@ -11,7 +11,7 @@ ghost use Rattle.pr_lang.specs.Word.{symbol_tag as number_of_symbol};
 use crate::fault::Fault;
 use crate::tags::{symbol_tag, tag_of};
 use pr_lang::{BinOp, FixedOp, Keyword, Kind, Symbol, Token};
-use pr_print::{fixed_sign_of, sign_of};
+use pr_parse_print::{fixed_sign_of, sign_of};
 
 /// Whether the next token is of this kind, a keyword or a symbol.
 #[tactic(auto, using(crate::proofs::Takes::is_test))]

@@ -10,8 +10,8 @@ use Rattle.pr_modes.specs.declared.outcomes.Outcome.{Outcome}
 use Rattle.pr_modes.specs.Files.{IsText, IsFileRefusal}
 use Rattle.pr_exec.specs.Samples.{fed_in}
 use Rattle.pr_exec.proofs.VerdictLemmas.{rose_earlier}
-use Rattle.pr_front.specs.declared.fronts.Front.{Front}
-use Rattle.pr_front.specs.Files.{HasProgram, IsLoaded}
+use Rattle.pr_compile_front.specs.declared.fronts.Front.{Front}
+use Rattle.pr_compile_front.specs.Files.{HasProgram, IsLoaded}
 use Rattle.pr_programs.specs.Evaluations.{inputs_of, HasSamples, IsWhole, IsEnd, IsEvaluated}
 use Rattle.pr_programs.specs.Results.{outcome_by, AreResults, IsPut}
 

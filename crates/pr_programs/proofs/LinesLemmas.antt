@@ -11,11 +11,11 @@ use Rattle.pr_edge.specs.Tape.{Tape, Appends, AppendsFront}
 use Rattle.pr_lang.specs.declared.trees.Program.{Program}
 use Rattle.pr_samples.specs.Fed.{Fed, Ending, End, BadSample, Limit}
 use Rattle.pr_samples.specs.Feed.{Tells}
-use Rattle.pr_meaning.specs.Programs.{out}
-use Rattle.pr_meaning.proofs.EvenPrograms.{take-out}
+use Rattle.pr_lang_meaning.specs.Programs.{out}
+use Rattle.pr_lang_meaning.proofs.EvenPrograms.{take-out}
 use Rattle.pr_machine.specs.Stands.{History}
-use Rattle.pr_script.specs.Script.{Held}
-use Rattle.pr_script.specs.Counts.{IsFront}
+use Rattle.pr_run_script.specs.Script.{Held}
+use Rattle.pr_run_script.specs.Counts.{IsPrefix}
 use Rattle.pr_run.specs.Setting.{View}
 use Rattle.pr_run.specs.Turns.{Going}
 use Rattle.pr_run.proofs.Lines.{front_longer, nothing_appended}
@@ -25,8 +25,8 @@ use Rattle.pr_exec.specs.Samples.{fed_in, fed_to, results_text}
 use Rattle.pr_exec.specs.Stalls.{HasStall, IsStallRefusal}
 use Rattle.pr_exec.specs.Runs.{Course, course, events_on, HasAll, IsWhole, IsBroken, IsStopped, IsEnd}
 use Rattle.pr_exec.specs.Executions.{Job}
-use Rattle.pr_front.specs.declared.faults.FrontFault.TheVariants as fault
-use Rattle.pr_front.specs.Files.{HasProgram, HasRefusal, IsProgramRefusal}
+use Rattle.pr_compile_front.specs.declared.faults.FrontFault.TheVariants as fault
+use Rattle.pr_compile_front.specs.Files.{HasProgram, HasRefusal, IsProgramRefusal}
 use Rattle.pr_programs.specs.Evaluations.{inputs_of, fed_whole, IsRefused, IsEvaluated}
 use Rattle.pr_programs.specs.Evaluations as evaluations
 use Rattle.pr_programs.specs.Starts.{HasStarted, IsStartRefusal, IsStartRefused, IsStarted}
@@ -122,7 +122,7 @@ all_eval files first second file widths program old new ending is has whole =
     }
 
 first_eval : (files : List ℕ → Option (List ℕ)) (first second file widths : List ℕ) (program : Program) (old new : Tape) → files second ≡ Some file → HasProgram (Some files) first program widths
-    → evaluations.IsFront (Some files) second program old new → HasFirstLines files first file old new
+    → evaluations.IsPrefix (Some files) second program old new → HasFirstLines files first file old new
 first_eval files first second file widths program old new is has front =
     let same = same_fed files second file (inputs_of program) front.rows front.ending is front.samples in
     record {
@@ -261,11 +261,11 @@ lines_same {N} {P} r =
     let fed : All (IsRow widths) (rows_of r) = subst (All (IsRow widths)) (sym (rows_first r)) (All-take (IsRow widths) (length (rows_of r)) (fed_by r).samples (fed_rows widths r.file)) in
     ap written (r.has.compiled.means (rows_of r) (subst (λ (ws : List ℕ). All (IsRow ws) (rows_of r)) (sym r.has.compiled.inputs) fed))
 
-all_events : (r : Course) (rows : List (List ℕ)) (history : History) → history ≡ events_on r rows → IsFront history (events_on r rows)
+all_events : (r : Course) (rows : List (List ℕ)) (history : History) → history ≡ events_on r rows → IsPrefix history (events_on r rows)
 all_events r rows history is = record { more = []; is = sym is ∙ sym (append-nil history) }
 
 -- what the machine was asked begins the run
-events_of : (N P : ℕ) (r : Course) (rows : List (List ℕ)) (history : History) (outcome : Outcome) → IsEnd N P r rows history outcome → IsFront history (events_on r rows)
+events_of : (N P : ℕ) (r : Course) (rows : List (List ℕ)) (history : History) (outcome : Outcome) → IsEnd N P r rows history outcome → IsPrefix history (events_on r rows)
 events_of N P r rows history Outcome.Done end = all_events r rows history end.1.events
 events_of N P r rows history (Outcome.BadSample line) end = all_events r rows history end.1.events
 events_of N P r rows history (Outcome.Limit which) end = all_events r rows history end.1.events

@@ -3,18 +3,18 @@ use Rattle.std.proofs.Common.{◌≡◌, ◌⊎◌, ◌<◌, ◌≤◌, ◌∙�
 use Rattle.pr_base.specs.declared.caps.Cap.{Cap}
 use Rattle.pr_lang.specs.Shape.{program_shape}
 use Rattle.pr_lang.specs.declared.trees.Program.{Program}
-use Rattle.pr_alike.proofs.Walks.{same-inputs}
-use Rattle.pr_alike.proofs.Meanings.{same-out}
-use Rattle.pr_meaning.specs.Programs.{out}
+use Rattle.pr_lang_same_tree.proofs.Walks.{same-inputs}
+use Rattle.pr_lang_same_tree.proofs.Meanings.{same-out}
+use Rattle.pr_lang_meaning.specs.Programs.{out}
 use Rattle.pr_modes.specs.declared.outcomes.Outcome.{Outcome}
 use Rattle.pr_exec.specs.Stalls.{after_stall}
 use Rattle.pr_exec.specs.Samples.{samples_verdict}
 use Rattle.pr_exec.specs.Executions.{Job}
-use Rattle.pr_front.specs.declared.faults.FrontFault.{FrontFault}
-use Rattle.pr_front.specs.declared.faults.FrontFault.TheVariants as fault
-use Rattle.pr_front.specs.Files.{outcome_by, HasProgram}
-use Rattle.pr_front.specs.Refusals.{HasWidths, IsRefusal}
-use Rattle.pr_front.proofs.OneRefusal.{one-refusal, no-refusal, one-tree}
+use Rattle.pr_compile_front.specs.declared.faults.FrontFault.{FrontFault}
+use Rattle.pr_compile_front.specs.declared.faults.FrontFault.TheVariants as fault
+use Rattle.pr_compile_front.specs.Files.{outcome_by, HasProgram}
+use Rattle.pr_compile_front.specs.Refusals.{HasWidths, IsRefusal}
+use Rattle.pr_compile_front.proofs.OneRefusal.{one-refusal, no-refusal, one-tree}
 use Rattle.pr_logic.specs.declared.forms.LogicProgram.{LogicProgram}
 use Rattle.pr_logic.specs.Forms.{program_in}
 use Rattle.pr_logic.proofs.AlikeForms.{same-program}

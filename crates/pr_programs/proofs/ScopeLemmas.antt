@@ -10,11 +10,11 @@ use Rattle.std.proofs.lemmas.Slice.Eq.{bytes_eq-Decides}
 use Rattle.pr_lang.specs.declared.trees.Item.{Item}
 use Rattle.pr_lang.specs.declared.trees.Item.TheVariants.{Input, Output, Const, Table, Function, Step}
 use Rattle.pr_lang.specs.declared.trees.Program.{Program}
-use Rattle.pr_names.specs.Names.{Known, built_in}
+use Rattle.pr_scope_names.specs.Names.{Known, built_in}
 use Rattle.pr_scope.specs.Statements.{is_width}
 use Rattle.pr_scope.specs.Walk.{World, start, item_change, inputs_after, offence}
-use Rattle.pr_lawful.specs.Items.{widths_of_inputs}
-use Rattle.pr_lawful.proofs.InvertedItems.{input-inverted, output-inverted, constant-inverted, table-inverted, function-inverted, step-inverted, AllItems, program-inverted, inputs-walked}
+use Rattle.pr_scope_facts.specs.Items.{widths_of_inputs}
+use Rattle.pr_scope_facts.proofs.InvertedItems.{input-inverted, output-inverted, constant-inverted, table-inverted, function-inverted, step-inverted, AllItems, program-inverted, inputs-walked}
 use Rattle.pr_logic.specs.declared.forms.LogicProgram.{LogicProgram}
 use Rattle.pr_logic.specs.Forms.{output_part, Named, is_byte_input, is_input_of, last_input}
 use Rattle.pr_logic.proofs.FormLemmas.{IsLogic}

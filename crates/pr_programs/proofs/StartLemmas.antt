@@ -9,8 +9,8 @@ use Rattle.pr_exec.specs.Stalls.{IsStallRefusal}
 use Rattle.pr_exec.specs.Executions.{Job, HasRun, IsNoStall}
 use Rattle.pr_exec.specs.Runs.{course, IsEnd}
 use Rattle.pr_exec.proofs.VerdictLemmas.{later_run}
-use Rattle.pr_front.specs.declared.fronts.Front.{Front}
-use Rattle.pr_front.specs.Files.{IsLoaded}
+use Rattle.pr_compile_front.specs.declared.fronts.Front.{Front}
+use Rattle.pr_compile_front.specs.Files.{IsLoaded}
 use Rattle.pr_logic.specs.declared.forms.LogicProgram.{LogicProgram}
 use Rattle.pr_logic.specs.Configured.{logic_shape}
 use Rattle.pr_logic.specs.Forms.{program_in}

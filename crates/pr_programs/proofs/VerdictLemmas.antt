@@ -17,7 +17,7 @@ use Rattle.pr_exec.specs.Samples.{ended_by, fed_in, samples_verdict}
 use Rattle.pr_exec.specs.Stalls.{IsStallRefusal, after_text, after_stall, bad_or, first_bad}
 use Rattle.pr_exec.specs.Executions.{Job}
 use Rattle.pr_exec.proofs.VerdictLemmas.{ran_owed}
-use Rattle.pr_front.specs.Files.{HasProgram, IsProgramRefusal}
+use Rattle.pr_compile_front.specs.Files.{HasProgram, IsProgramRefusal}
 use Rattle.pr_programs.specs.Evaluations.{inputs_of, HasSamples, IsEnd, IsRefused, IsEvaluated, whole_file_verdict}
 use Rattle.pr_programs.specs.Starts.{HasLogic, HasOther, HasPassed, IsStartRefusal, IsStartRefused, IsUnbuiltRun, HasStarted, IsStarted}
 use Rattle.pr_programs.specs.Verdicts.{IsProgramVerdict, IsEvalVerdict, IsRunVerdict, IsUnbuiltVerdict}

@@ -8,11 +8,11 @@ use Rattle.pr_edge.specs.Tape.{Tape, Appends, AppendsFront}
 use Rattle.pr_lang.specs.declared.trees.Program.{Program}
 use Rattle.pr_samples.specs.Fed.{Fed, Ending, End, BadSample, Limit, ending_by}
 use Rattle.pr_scope.specs.Walk.{inputs_after, program_walk}
-use Rattle.pr_meaning.specs.Programs.{out}
+use Rattle.pr_lang_meaning.specs.Programs.{out}
 use Rattle.pr_modes.specs.declared.outcomes.Outcome.{Outcome}
 use Rattle.pr_modes.specs.Files.{IsText, IsLong}
 use Rattle.pr_exec.specs.Samples.{fed_in, ended_by}
-use Rattle.pr_front.specs.Files.{HasProgram, IsProgramRefusal}
+use Rattle.pr_compile_front.specs.Files.{HasProgram, IsProgramRefusal}
 
 -- the widths of a program's inputs
 abbrev pub inputs_of : Program → List ℕ
@@ -37,7 +37,7 @@ pub record IsWhole (told : Told) (name : List ℕ) (program : Program) (ending :
   pub text : Appends old new (written (out program rows))
 
 -- a write failed: the first bytes of these lines are written
-pub record IsFront (told : Told) (name : List ℕ) (program : Program) (old new : Tape) : Type 0 where
+pub record IsPrefix (told : Told) (name : List ℕ) (program : Program) (old new : Tape) : Type 0 where
   pub rows : List (List ℕ)
   pub ending : Ending
   pub samples : HasSamples told name (inputs_of program) rows ending
@@ -50,7 +50,7 @@ IsEnd told name program old new before now out_before out_now (Outcome.BadSample
 IsEnd told name program old new before now out_before out_now (Outcome.Limit which) =
     ((which ≡ Cap.SampleBytes) × IsLong told name 16777216 × (new ≡ old)) ⊎ IsWhole told name program (Limit which) old new
 IsEnd told name program old new before now out_before out_now Outcome.ReadFault = HasReadCause told name before now × (new ≡ old)
-IsEnd told name program old new before now out_before out_now Outcome.WriteFault = IsFront told name program old new × Rose out_before out_now
+IsEnd told name program old new before now out_before out_now Outcome.WriteFault = IsPrefix told name program old new × Rose out_before out_now
 IsEnd told name program old new before now out_before out_now Outcome.Memory = new ≡ old
 IsEnd told name program old new before now out_before out_now outcome = ⊥
 

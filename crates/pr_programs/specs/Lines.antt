@@ -6,11 +6,11 @@ use Rattle.pr_base.specs.Rows.{written}
 use Rattle.pr_edge.specs.Tape.{Tape, Appends, AppendsFront}
 use Rattle.pr_conf.specs.Shape.{Shape}
 use Rattle.pr_lang.specs.declared.trees.Program.{Program}
-use Rattle.pr_meaning.specs.Programs.{out}
+use Rattle.pr_lang_meaning.specs.Programs.{out}
 use Rattle.pr_samples.specs.Fed.{Ending, End, BadSample, Limit}
 use Rattle.pr_machine.specs.Stands.{Stands, History}
-use Rattle.pr_script.specs.Script.{Held, most_cycles, script}
-use Rattle.pr_script.specs.Counts.{cycles_in, IsFront}
+use Rattle.pr_run_script.specs.Script.{Held, most_cycles, script}
+use Rattle.pr_run_script.specs.Counts.{cycles_in, IsPrefix}
 use Rattle.pr_run.specs.Setting.{View}
 use Rattle.pr_run.specs.Turns.{Going}
 use Rattle.pr_modes.specs.declared.outcomes.Outcome.{Outcome}
@@ -18,7 +18,7 @@ use Rattle.pr_exec.specs.declared.benches.Bench.{Bench}
 use Rattle.pr_exec.specs.Samples.{fed_in, fed_to, pieces}
 use Rattle.pr_exec.specs.Stalls.{HasStall}
 use Rattle.pr_exec.specs.Executions.{Job, IsNeither}
-use Rattle.pr_front.specs.Files.{HasProgram}
+use Rattle.pr_compile_front.specs.Files.{HasProgram}
 use Rattle.pr_programs.specs.Evaluations.{inputs_of, fed_whole}
 use Rattle.pr_programs.specs.Starts.{IsCompiled}
 
@@ -61,7 +61,7 @@ pub record RanOn {N P : ℕ} (program : Program) (stripes : ℕ) (turns : List H
   pub compiled : IsCompiled program N P conf
   pub history : History
   pub stands : Stands machine conf stripes history
-  pub events : IsFront history (script (length conf.stages) stripes (pieces conf rows) turns)
+  pub events : IsPrefix history (script (length conf.stages) stripes (pieces conf rows) turns)
   pub cycles : cycles_in history ≤ most_cycles (length conf.stages) stripes turns (length rows)
 
 -- such a machine is on the bench

@@ -5,7 +5,7 @@ use Rattle.pr_edge.specs.Count.{Rose}
 use Rattle.pr_edge.specs.Tape.{Tape, Appends, AppendsFront}
 use Rattle.pr_lang.specs.declared.trees.Program.{Program}
 use Rattle.pr_samples.specs.declared.feed.Got.{Got}
-use Rattle.pr_meaning.specs.Programs.{out}
+use Rattle.pr_lang_meaning.specs.Programs.{out}
 use Rattle.pr_modes.specs.declared.outcomes.Outcome.{Outcome}
 use Rattle.pr_programs.specs.Samples.{AreFed}
 use Rattle.pr_programs.specs.Evaluations.{inputs_of}

@@ -6,7 +6,7 @@ use Rattle.pr_edge.specs.Tape.{Tape}
 use Rattle.pr_conf.specs.Shape.{Shape}
 use Rattle.pr_conf.specs.Through.{result_numbers}
 use Rattle.pr_lang.specs.declared.trees.Program.{Program}
-use Rattle.pr_meaning.specs.Programs.{out}
+use Rattle.pr_lang_meaning.specs.Programs.{out}
 use Rattle.pr_run.specs.Setting.{View}
 use Rattle.pr_run.specs.Turns.{Going}
 use Rattle.pr_modes.specs.declared.outcomes.Outcome.{Outcome}
@@ -14,7 +14,7 @@ use Rattle.pr_exec.specs.declared.benches.Bench.{Bench}
 use Rattle.pr_exec.specs.Stalls.{IsStallRefusal}
 use Rattle.pr_exec.specs.Samples.{pieces}
 use Rattle.pr_exec.specs.Executions.{Job, HasRun, IsNeither}
-use Rattle.pr_front.specs.Files.{HasProgram, IsProgramRefusal}
+use Rattle.pr_compile_front.specs.Files.{HasProgram, IsProgramRefusal}
 use Rattle.pr_logic.specs.declared.forms.LogicProgram.{LogicProgram}
 use Rattle.pr_logic.specs.Configured.{logic_shape}
 use Rattle.pr_logic.specs.Forms.{program_in}

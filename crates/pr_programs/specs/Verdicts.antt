@@ -4,7 +4,7 @@ use Rattle.pr_modes.specs.declared.outcomes.Outcome.{Outcome}
 use Rattle.pr_exec.specs.Stalls.{after_stall}
 use Rattle.pr_exec.specs.Samples.{samples_verdict}
 use Rattle.pr_exec.specs.Executions.{Job}
-use Rattle.pr_front.specs.Files.{IsRefusedProgram}
+use Rattle.pr_compile_front.specs.Files.{IsRefusedProgram}
 use Rattle.pr_programs.specs.Evaluations.{inputs_of, IsLastVerdict}
 use Rattle.pr_programs.specs.Starts.{HasLogic, HasOther, HasPassed}
 

@@ -2,10 +2,10 @@
 
 ghost use Rattle.std.specs.Prelude.{◌≡◌, ℕ, List, Option, Some};
 ghost use Rattle.pr_lang.specs.declared.trees.Program.{Program};
-ghost use Rattle.pr_meaning.specs.Programs.{out};
+ghost use Rattle.pr_lang_meaning.specs.Programs.{out};
 ghost use Rattle.pr_modes.specs.declared.outcomes.Outcome.{Outcome};
 ghost use Rattle.pr_exec.specs.Executions.{Job};
-ghost use Rattle.pr_front.specs.Files.{HasProgram};
+ghost use Rattle.pr_compile_front.specs.Files.{HasProgram};
 ghost use Rattle.pr_programs.specs.Verdicts.{IsEvalVerdict, IsRunVerdict, IsUnbuiltVerdict};
 
 /// The files settle what a mode is to come to: each mode has one verdict at most. The programs of one file mean the same, so

@@ -5,8 +5,8 @@ ghost use Rattle.pr_modes.specs.Owed.{IsOwed, outcome_faults};
 ghost use Rattle.pr_programs.specs.Starts.{IsUnbuiltRun};
 ghost use Rattle.pr_programs.specs.Verdicts.{IsUnbuiltVerdict};
 
+use pr_compile_front::load_program;
 use pr_edge::Shelf;
-use pr_front::load_program;
 use pr_modes::Outcome;
 use std::alloc::Global;
 

@@ -10,9 +10,9 @@ ghost use Rattle.pr_programs.specs.Starts.{IsStartRefused, IsStarted};
 ghost use Rattle.pr_programs.specs.Lines.{AreRunLines};
 ghost use Rattle.pr_programs.specs.Verdicts.{IsRunVerdict};
 
+use pr_compile_front::load_program;
 use pr_edge::{Shelf, Sink};
 use pr_exec::{Bench, Over, execute};
-use pr_front::load_program;
 use pr_logic::{LogicProgram, configure, logic_program};
 use pr_modes::Outcome;
 use std::alloc::Global;

@@ -8,12 +8,12 @@ use Rattle.pr_samples.specs.declared.feed.Feed.{Feed}
 use Rattle.pr_samples.specs.declared.feed.Got.{Got}
 use Rattle.pr_samples.specs.Feed.{widths_of, given_of}
 use Rattle.pr_samples.specs.Got.{is_sample}
-use Rattle.pr_account.specs.Account.{Account, Cycle, account, left}
+use Rattle.pr_machine_account.specs.Account.{Account, Cycle, account, left}
 use Rattle.pr_machine.specs.Stands.{Stands, History}
-use Rattle.pr_script.specs.Script.{Held, Run, waiting, read_next, reads, fed, emptied, is_finished, closed, turned}
-use Rattle.pr_script.specs.Counts.{IsFront}
-use Rattle.pr_script.proofs.RunLaws.{taken_account, offered_cycle, turned_going}
-use Rattle.pr_script.proofs.WholeLaws.{front_self, front_trans, closed_front}
+use Rattle.pr_run_script.specs.Script.{Held, Run, waiting, read_next, reads, fed, emptied, is_finished, closed, turned}
+use Rattle.pr_run_script.specs.Counts.{IsPrefix}
+use Rattle.pr_run_script.proofs.RunLaws.{taken_account, offered_cycle, turned_going}
+use Rattle.pr_run_script.proofs.WholeLaws.{front_self, front_trans, closed_front}
 use Rattle.pr_run.specs.Setting.{Setting, View, IsSet, stages_of, pieces}
 use Rattle.pr_run.specs.Turns.{Going, HasDone, HasBegun, HasRead, MayFollow, run_at, drained, IsOn, IsDone, IsCut}
 use Rattle.pr_run.proofs.NextSamples.{follows_nil}
@@ -64,7 +64,7 @@ on_drained s runs turn m m' f now t t' last output set side step on = record {
 
 -- a write failed within the events of a run
 pub cut_within : {N P : ℕ} (s : Setting) (next : List (List ℕ) → Run (List ℕ)) (m : Going N P) (f : Feed) (now : View) (t : Tape) (rows : List (List ℕ)) (last : Got) (part : History)
-    → HasBegun s m t part → HasRead s f now rows last → ((more : List (List ℕ)) → MayFollow last more → IsFront part (next (pieces s rows ++ more)).history) → IsCut s next m f now t
+    → HasBegun s m t part → HasRead s f now rows last → ((more : List (List ℕ)) → MayFollow last more → IsPrefix part (next (pieces s rows ++ more)).history) → IsCut s next m f now t
 cut_within s next m f now t rows last part b read front = record {
   rows = rows;
   last = last;
@@ -148,7 +148,7 @@ pub cut_cycle : {N P : ℕ} (s : Setting) (first runs next : List (List ℕ) →
 cut_cycle s first runs next m m' f now t t' last over closes is test step on =
     let part = on.history ++ Cycle ∷ [] in
     cut_within s next m' f now t' on.rows last part (step on.history on.done) on.read
-    (λ more follows. subst (λ (r : Run (List ℕ)). IsFront part r.history) (sym (closed_cycle s first runs next m f now t last over closes is test on more follows)) (front_self part))
+    (λ more follows. subst (λ (r : Run (List ℕ)). IsPrefix part r.history) (sym (closed_cycle s first runs next m f now t last over closes is test on more follows)) (front_self part))
 
 -- a write failed while results were drained
 pub cut_drained : {N P : ℕ} (s : Setting) (runs next : List (List ℕ) → Run (List ℕ)) (turn : Held) (m m' : Going N P) (f : Feed) (now : View) (t t' : Tape) (last : Got) (output : Bool) → turn.output ≡ output
@@ -163,5 +163,5 @@ cut_drained s runs next turn m m' f now t t' last output side closes step on =
     let r = emptied v s.stripes turn (runs xs) in
     let is : r ≡ run_at part more last =
     ap (emptied v s.stripes turn) (on.run more follows) ∙ (emptied_is s turn.input turn.output on.history more last ∙ ap (λ b. run_at (drained b s on.history) more last) side) in
-    subst (λ (x : Run (List ℕ)). IsFront part x.history) (sym (closes xs (going_at s runs m f now t last on more follows)))
-    (subst (λ (g : History). IsFront g (closed v s.stripes r).history) (ap (λ (x : Run (List ℕ)). x.history) is) (closed_front v s.stripes r))))
+    subst (λ (x : Run (List ℕ)). IsPrefix part x.history) (sym (closes xs (going_at s runs m f now t last on more follows)))
+    (subst (λ (g : History). IsPrefix g (closed v s.stripes r).history) (ap (λ (x : Run (List ℕ)). x.history) is) (closed_front v s.stripes r))))

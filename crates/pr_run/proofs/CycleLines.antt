@@ -4,17 +4,17 @@ use Rattle.std.proofs.lemmas.Bool.{cases_Bool, cond-true, cond-false}
 use Rattle.pr_control.specs.Time.{event}
 use Rattle.pr_control.specs.Residents.{Resides}
 use Rattle.pr_control.proofs.ResidentLaws.{occupant_resides, resides_inside}
-use Rattle.pr_flow.specs.Rows.{state_after}
-use Rattle.pr_account.specs.Account.{Account, Cycle, stalled, entered, done, IsLawful}
-use Rattle.pr_account.proofs.AccountLaws.{lawful, account_push}
-use Rattle.pr_stands.specs.Cycle.{evicted_stage, entering_sample, leaving_result}
+use Rattle.pr_conf_pipeline.specs.Rows.{state_after}
+use Rattle.pr_machine_account.specs.Account.{Account, Cycle, stalled, entered, done, IsLawful}
+use Rattle.pr_machine_account.proofs.AccountLaws.{lawful, account_push}
+use Rattle.pr_machine_refines.specs.Cycle.{evicted_stage, entering_sample, leaving_result}
 use Rattle.pr_conf.specs.declared.turns.Turn.{Turn}
 use Rattle.pr_conf.specs.Shape.{Shape}
 use Rattle.pr_conf.specs.Through.{steps_of}
 use Rattle.pr_log.specs.Lines.{line_of, stall_line_of, configured_text, saved_text, entry_text}
 use Rattle.pr_machine.specs.Stands.{History, account_of, turn_of, held_turn, next_turn, IsStored}
-use Rattle.pr_script.specs.Text.{found_stage, told_turn, stalled_turn, state_row, log_line}
-use Rattle.pr_script.proofs.LogLaws.{found_is, found_by_event, found_away, found_done}
+use Rattle.pr_run_script.specs.Text.{found_stage, told_turn, stalled_turn, state_row, log_line}
+use Rattle.pr_run_script.proofs.LogLaws.{found_is, found_by_event, found_away, found_done}
 
 -- a row of the store, where the machine has none to show
 pub stored_none : (N P : ℕ) (c : Shape) (p : ℕ) (a : Account (List ℕ)) (s : ℕ) (row : List ℕ) → IsStored N P c p a s None → s < length c.stages

@@ -8,16 +8,16 @@ use Rattle.pr_log.specs.Lines.{end_line_of}
 use Rattle.pr_samples.specs.declared.feed.Feed.{Feed}
 use Rattle.pr_samples.specs.declared.feed.Got.{Got}
 use Rattle.pr_samples.specs.Feed.{given_of, widths_of}
-use Rattle.pr_account.specs.Account.{account, left}
-use Rattle.pr_account.proofs.AccountLaws.{lawful}
-use Rattle.pr_account.proofs.ReplyLaws.{left_inside}
+use Rattle.pr_machine_account.specs.Account.{account, left}
+use Rattle.pr_machine_account.proofs.AccountLaws.{lawful}
+use Rattle.pr_machine_account.proofs.ReplyLaws.{left_inside}
 use Rattle.pr_machine.specs.Stands.{Stands, History}
-use Rattle.pr_script.specs.Script.{most_cycles}
-use Rattle.pr_script.specs.Counts.{cycles_in, stalls_in, IsFront}
-use Rattle.pr_script.specs.Text.{Line, Logged, history_lines, lines_from, closing_line, closing_lines, text_of}
-use Rattle.pr_script.proofs.RunLaws.{cycles-append}
-use Rattle.pr_script.proofs.TextLaws.{text-append, history_lines-append}
-use Rattle.pr_script.proofs.WholeLaws.{whole, front_self}
+use Rattle.pr_run_script.specs.Script.{most_cycles}
+use Rattle.pr_run_script.specs.Counts.{cycles_in, stalls_in, IsPrefix}
+use Rattle.pr_run_script.specs.Text.{Line, Logged, history_lines, lines_from, closing_line, closing_lines, text_of}
+use Rattle.pr_run_script.proofs.RunLaws.{cycles-append}
+use Rattle.pr_run_script.proofs.TextLaws.{text-append, history_lines-append}
+use Rattle.pr_run_script.proofs.WholeLaws.{whole, front_self}
 use Rattle.pr_run.specs.declared.ending.RunEnd.{RunEnd}
 use Rattle.pr_run.specs.declared.ending.Finished.{Finished}
 use Rattle.pr_run.specs.Setting.{Setting, View, IsSet, stages_of, pieces}
@@ -27,10 +27,10 @@ use Rattle.pr_run.proofs.Lines.{front_after, front_longer}
 use Rattle.pr_run.proofs.NextSamples.{follows_nil}
 
 -- ---- cycles
-front_cycles : (h whole_h : History) → IsFront h whole_h → cycles_in h ≤ cycles_in whole_h
+front_cycles : (h whole_h : History) → IsPrefix h whole_h → cycles_in h ≤ cycles_in whole_h
 front_cycles h whole_h f = let n = ap cycles_in f.is ∙ cycles-append h f.more in omega (arith, n)
 
-few_cycles : (s : Setting) (f : Feed) (now : View) (rows : List (List ℕ)) (last : Got) (h : History) → IsSet s → HasRead s f now rows last → IsFront h (events_of s (pieces s rows))
+few_cycles : (s : Setting) (f : Feed) (now : View) (rows : List (List ℕ)) (last : Got) (h : History) → IsSet s → HasRead s f now rows last → IsPrefix h (events_of s (pieces s rows))
     → cycles_in h ≤ most_cycles (stages_of s) s.stripes s.stall (given_of f)
 few_cycles s f now rows last h set read front =
     let few = front_cycles h (events_of s (pieces s rows)) front in
@@ -69,7 +69,7 @@ ran_cut {N} {P} s m f now t set cut =
       history = cut.history;
       read = cut.read;
       stands = cut.stands;
-      cycles = few_cycles s f now cut.rows cut.last cut.history set cut.read (subst (λ (xs : List (List ℕ)). IsFront cut.history (events_of s xs)) (append-nil (pieces s cut.rows)) here);
+      cycles = few_cycles s f now cut.rows cut.last cut.history set cut.read (subst (λ (xs : List (List ℕ)). IsPrefix cut.history (events_of s xs)) (append-nil (pieces s cut.rows)) here);
       answer = record {
         closing = false;
         text = subst (λ (ls : List Line). AppendsFront s.tape t (text_of s.log ls)) (sym (append-nil lines)) cut.text;
@@ -84,8 +84,8 @@ ran_cut {N} {P} s m f now t set cut =
     }
 
 -- ---- a run that is over
-is_front_of : (s : Setting) (xs : List (List ℕ)) (h : History) → h ≡ events_of s xs → IsFront h (events_of s xs)
-is_front_of s xs h e = subst (λ (x : History). IsFront h x) e (front_self h)
+is_front_of : (s : Setting) (xs : List (List ℕ)) (h : History) → h ≡ events_of s xs → IsPrefix h (events_of s xs)
+is_front_of s xs h e = subst (λ (x : History). IsPrefix h x) e (front_self h)
 
 end_text : (log : Bool) (line : List ℕ) → text_of log (Logged line ∷ []) ≡ cond log line []
 end_text log line = append-nil (cond log line [])
@@ -176,7 +176,7 @@ ran_end_cut {N} {P} s m f now t t' asked advanced gone set fin time is_left line
         text = subst (λ (bytes : List ℕ). AppendsFront s.tape t' bytes) (sym (text-append s.log lines (closing_lines s.conf s.stripes h true))) front;
         over = λ e. (refl, fin.script);
         events = λ more follows.
-            subst (λ (ys : List (List ℕ)). IsFront h (events_of s ys)) (sym (append-nil xs) ∙ ap (λ ys. xs ++ ys) (sym follows)) (is_front_of s xs h fin.script);
+            subst (λ (ys : List (List ℕ)). IsPrefix h (events_of s ys)) (sym (append-nil xs) ∙ ap (λ ys. xs ++ ys) (sym follows)) (is_front_of s xs h fin.script);
         front = λ more good follows only.
             (let is_good = only refl in
             let all : xs ++ more ≡ xs = ap (λ ys. xs ++ ys) follows ∙ append-nil xs in

@@ -8,10 +8,10 @@ use Rattle.pr_samples.specs.declared.feed.Feed.{Feed}
 use Rattle.pr_samples.specs.declared.feed.Got.{Got}
 use Rattle.pr_samples.specs.Feed.{widths_of}
 use Rattle.pr_samples.specs.Got.{is_sample}
-use Rattle.pr_account.specs.Account.{Account, Offer, account}
+use Rattle.pr_machine_account.specs.Account.{Account, Offer, account}
 use Rattle.pr_machine.specs.Stands.{Stands, History, waiting_samples}
-use Rattle.pr_script.specs.Script.{Held, Run, reads, read_next, fed}
-use Rattle.pr_script.proofs.RunLaws.{offered_account}
+use Rattle.pr_run_script.specs.Script.{Held, Run, reads, read_next, fed}
+use Rattle.pr_run_script.proofs.RunLaws.{offered_account}
 use Rattle.pr_run.specs.Setting.{Setting, View, IsSet, stages_of, pieces}
 use Rattle.pr_run.specs.Turns.{Going, HasRead, run_at, IsOn}
 use Rattle.pr_run.proofs.Lines.{done_offer}

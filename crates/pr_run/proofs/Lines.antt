@@ -5,15 +5,15 @@ use Rattle.std.proofs.lemmas.Bool.{cases_lt}
 use Rattle.std.proofs.lemmas.List.{replicate-append-replicate, replicate_more, take-append-le, take_all}
 use Rattle.pr_edge.specs.Tape.{Tape, IsAppended, Appends, AppendsFront}
 use Rattle.pr_edge.proofs.Appending.{Appends-append}
-use Rattle.pr_account.specs.Account.{Event, Offer, Take, Cycle}
-use Rattle.pr_account.specs.Replies.{Reply, Given, given, taken_now}
+use Rattle.pr_machine_account.specs.Account.{Event, Offer, Take, Cycle}
+use Rattle.pr_machine_account.specs.Replies.{Reply, Given, given, taken_now}
 use Rattle.pr_conf.specs.Shape.{Shape}
 use Rattle.pr_conf.specs.Through.{steps_of, tapped}
 use Rattle.pr_machine.specs.Stands.{Stands, History, take_reply, account_of, IsKept}
-use Rattle.pr_script.specs.Counts.{IsFront}
-use Rattle.pr_script.specs.Text.{history_lines, event_lines, result_line, result_lines, log_line, text_of}
-use Rattle.pr_script.proofs.TextLaws.{text-append, history_lines-append}
-use Rattle.pr_script.proofs.WholeLaws.{front_self, front_trans}
+use Rattle.pr_run_script.specs.Counts.{IsPrefix}
+use Rattle.pr_run_script.specs.Text.{history_lines, event_lines, result_line, result_lines, log_line, text_of}
+use Rattle.pr_run_script.proofs.TextLaws.{text-append, history_lines-append}
+use Rattle.pr_run_script.proofs.WholeLaws.{front_self, front_trans}
 use Rattle.pr_run.specs.Setting.{Setting, stages_of}
 use Rattle.pr_run.specs.Turns.{Going, HasDone, HasBegun}
 
@@ -104,7 +104,7 @@ begun_cycle {N} {P} s m m' t t' h line d stands e more = record {
 pub takes_more : (h : History) (n : ℕ) → (h ++ replicate n Take) ++ Take ∷ [] ≡ h ++ replicate (n + 1) Take
 takes_more h n = append_assoc h (replicate n Take) (Take ∷ []) ∙ ap (λ es. h ++ es) (replicate_more n Take)
 
-pub takes_front : (h : History) (n m : ℕ) → n ≤ m → IsFront (h ++ replicate n Take) (h ++ replicate m Take)
+pub takes_front : (h : History) (n m : ℕ) → n ≤ m → IsPrefix (h ++ replicate n Take) (h ++ replicate m Take)
 takes_front h n m few =
     let more : n + (m - n) ≡ m = omega arith in
     record {
@@ -112,7 +112,7 @@ takes_front h n m few =
       is = ap (λ k. h ++ replicate k Take) (sym more) ∙ (ap (λ es. h ++ es) (sym (replicate-append-replicate n (m - n) Take)) ∙ sym (append_assoc h (replicate n Take) (replicate (m - n) Take)));
     }
 
-pub begun_within : {N P : ℕ} (s : Setting) (m : Going N P) (t : Tape) (part whole : History) → HasBegun s m t part → IsFront part whole → HasBegun s m t whole
+pub begun_within : {N P : ℕ} (s : Setting) (m : Going N P) (t : Tape) (part whole : History) → HasBegun s m t part → IsPrefix part whole → HasBegun s m t whole
 begun_within s m t part whole b f = record { history = b.history; front = front_trans b.history part whole b.front f; stands = b.stands; text = b.text }
 
 pub kept_on : {N P : ℕ} (a b c : Going N P) → IsKept a b → IsKept b c → IsKept a c

@@ -8,11 +8,11 @@ use Rattle.pr_edge.specs.Files.{IsMissing, HasReadCause}
 use Rattle.pr_samples.specs.declared.feed.Feed.{Feed}
 use Rattle.pr_samples.specs.declared.feed.Got.{Got}
 use Rattle.pr_samples.specs.Feed.{name_of, widths_of, given_of, Tells}
-use Rattle.pr_account.specs.Account.{account}
+use Rattle.pr_machine_account.specs.Account.{account}
 use Rattle.pr_machine.specs.Stands.{History}
-use Rattle.pr_script.specs.Script.{Held, script}
-use Rattle.pr_script.specs.Counts.{cycles_in}
-use Rattle.pr_script.proofs.WholeLaws.{whole, counted}
+use Rattle.pr_run_script.specs.Script.{Held, script}
+use Rattle.pr_run_script.specs.Counts.{cycles_in}
+use Rattle.pr_run_script.proofs.WholeLaws.{whole, counted}
 use Rattle.pr_run.specs.declared.ending.RunEnd.{RunEnd}
 use Rattle.pr_run.specs.Setting.{Setting, View, IsSet, stages_of, pieces}
 use Rattle.pr_run.specs.Turns.{Going, EndsBy, IsUnread}

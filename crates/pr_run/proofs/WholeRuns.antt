@@ -13,17 +13,17 @@ use Rattle.pr_samples.specs.declared.feed.Feed.{Feed}
 use Rattle.pr_samples.specs.declared.feed.Got.{Got}
 use Rattle.pr_samples.specs.Stall.{turns_left, next_turn}
 use Rattle.pr_samples.specs.Feed.{widths_of, given_of, most_of, fed}
-use Rattle.pr_account.specs.Account.{Account}
+use Rattle.pr_machine_account.specs.Account.{Account}
 use Rattle.pr_conf.specs.Shape.{Shape}
 use Rattle.pr_conf.specs.Configuration.{pes_of}
 use Rattle.pr_machine.specs.Stands.{Stands, conf_of, time_of}
-use Rattle.pr_script.specs.Script.{Run, begun, turns, turned, held_at}
-use Rattle.pr_script.specs.Counts.{cycles_in}
-use Rattle.pr_script.specs.Text.{text_of}
-use Rattle.pr_script.proofs.RunLaws.{cycles-append, account_nil, turns_none, turns_suc, turns_run}
-use Rattle.pr_script.proofs.EndLaws.{going_few, over_is_whole}
-use Rattle.pr_script.proofs.TextLaws.{history_lines_nil}
-use Rattle.pr_script.proofs.WholeLaws.{front_trans, turns_front, script_front}
+use Rattle.pr_run_script.specs.Script.{Run, begun, turns, turned, held_at}
+use Rattle.pr_run_script.specs.Counts.{cycles_in}
+use Rattle.pr_run_script.specs.Text.{text_of}
+use Rattle.pr_run_script.proofs.RunLaws.{cycles-append, account_nil, turns_none, turns_suc, turns_run}
+use Rattle.pr_run_script.proofs.EndLaws.{going_few, over_is_whole}
+use Rattle.pr_run_script.proofs.TextLaws.{history_lines_nil}
+use Rattle.pr_run_script.proofs.WholeLaws.{front_trans, turns_front, script_front}
 use Rattle.pr_run.specs.Setting.{Setting, View, IsFresh, IsSet, held_of, stages_of, pieces, setting_of}
 use Rattle.pr_run.specs.Turns.{Going, IsOn, IsDone, IsCut}
 use Rattle.pr_run.specs.Runs.{IsFinished, script_run}

@@ -2,7 +2,7 @@
 use Rattle.std.specs.Prelude.{ℕ, Bool, true, false, List}
 use Rattle.pr_edge.specs.Tape.{Tape}
 use Rattle.pr_samples.specs.declared.feed.Feed.{Feed}
-use Rattle.pr_script.specs.Script.{Run}
+use Rattle.pr_run_script.specs.Script.{Run}
 use Rattle.pr_run.specs.declared.turning.Turned.{Turned}
 use Rattle.pr_run.specs.Setting.{Setting, View}
 use Rattle.pr_run.specs.Turns.{Going, IsOn, IsDone, IsCut}

@@ -8,11 +8,11 @@ use Rattle.pr_samples.specs.declared.feed.Got.{Got}
 use Rattle.pr_samples.specs.Fed.{End, BadSample, Limit, fed_within}
 use Rattle.pr_samples.specs.Feed.{given_of, place_of, widths_of, limit_of, most_of, IsOver}
 use Rattle.pr_samples.specs.Got.{is_sample}
-use Rattle.pr_account.specs.Account.{account}
+use Rattle.pr_machine_account.specs.Account.{account}
 use Rattle.pr_machine.specs.Stands.{Stands, History}
-use Rattle.pr_script.specs.Script.{Run, most_cycles, whole_run, script}
-use Rattle.pr_script.specs.Counts.{cycles_in, stalls_in, IsFront}
-use Rattle.pr_script.specs.Text.{history_lines, closing_lines, text_of, run_text}
+use Rattle.pr_run_script.specs.Script.{Run, most_cycles, whole_run, script}
+use Rattle.pr_run_script.specs.Counts.{cycles_in, stalls_in, IsPrefix}
+use Rattle.pr_run_script.specs.Text.{history_lines, closing_lines, text_of, run_text}
 use Rattle.pr_run.specs.declared.ending.RunEnd.{RunEnd}
 use Rattle.pr_run.specs.declared.ending.Finished.{Finished}
 use Rattle.pr_run.specs.Setting.{Setting, View, stages_of, pieces}
@@ -65,7 +65,7 @@ pub record IsStopped (N P : ℕ) (s : Setting) (rows : List (List ℕ)) (last : 
   pub closing : Bool
   pub text : AppendsFront s.tape t (text_of s.log (history_lines N P s.conf s.stripes h ++ closing_lines s.conf s.stripes h closing))
   pub over : closing ≡ true → (last ≡ Got.End) × (h ≡ events_of s (pieces s rows))
-  pub events : (more : List (List ℕ)) → MayFollow last more → IsFront h (events_of s (pieces s rows ++ more))
+  pub events : (more : List (List ℕ)) → MayFollow last more → IsPrefix h (events_of s (pieces s rows ++ more))
   pub front : (more : List (List ℕ)) (good : Bool) → MayFollow last more → (closing ≡ true → good ≡ true) → AppendsFront s.tape t (lines_of N P s (pieces s rows ++ more) good)
 
 -- what an answer says, where the feed gave these samples and answered so last

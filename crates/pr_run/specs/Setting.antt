@@ -13,7 +13,7 @@ use Rattle.pr_machine.specs.declared.machine.Machine.{Machine}
 use Rattle.pr_machine.specs.declared.machine.Running.{Running}
 use Rattle.pr_machine.specs.declared.loaded.Loaded.{Loaded}
 use Rattle.pr_machine.specs.Stands.{conf_of, stripes_of}
-use Rattle.pr_script.specs.Script.{Held}
+use Rattle.pr_run_script.specs.Script.{Held}
 
 -- the sides that are held in a turn, as the turns of a run see them
 abbrev pub held_of : Sides → Held

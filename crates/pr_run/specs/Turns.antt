@@ -6,14 +6,14 @@ use Rattle.pr_samples.specs.declared.feed.Feed.{Feed}
 use Rattle.pr_samples.specs.declared.feed.Got.{Got}
 use Rattle.pr_samples.specs.Feed.{name_of, given_of, place_of, reads_nothing, SameFile, Tells, fed, StandsFor, Gives}
 use Rattle.pr_samples.specs.Got.{is_sample}
-use Rattle.pr_account.specs.Account.{Take, account}
+use Rattle.pr_machine_account.specs.Account.{Take, account}
 use Rattle.pr_machine.specs.declared.machine.Machine.{Machine}
 use Rattle.pr_machine.specs.declared.machine.Running.{Running}
 use Rattle.pr_machine.specs.declared.loaded.Loaded.{Loaded}
 use Rattle.pr_machine.specs.Stands.{Stands, History}
-use Rattle.pr_script.specs.Script.{Run, waiting}
-use Rattle.pr_script.specs.Counts.{IsFront}
-use Rattle.pr_script.specs.Text.{history_lines, text_of}
+use Rattle.pr_run_script.specs.Script.{Run, waiting}
+use Rattle.pr_run_script.specs.Counts.{IsPrefix}
+use Rattle.pr_run_script.specs.Text.{history_lines, text_of}
 use Rattle.pr_run.specs.Setting.{Setting, View, stages_of, pieces}
 
 -- a running machine
@@ -29,7 +29,7 @@ pub record HasDone {N P : ℕ} (s : Setting) (m : Going N P) (t : Tape) (h : His
 -- the machine was asked events with which this history begins, and of their lines some first bytes were written
 pub record HasBegun {N P : ℕ} (s : Setting) (m : Going N P) (t : Tape) (whole : History) : Type 0 where
   pub history : History
-  pub front : IsFront history whole
+  pub front : IsPrefix history whole
   pub stands : Stands m s.conf s.stripes history
   pub text : AppendsFront s.tape t (text_of s.log (history_lines N P s.conf s.stripes history))
 
@@ -116,4 +116,4 @@ pub record IsCut {N P : ℕ} (s : Setting) (runs : List (List ℕ) → Run (List
   pub stands : Stands m s.conf s.stripes history
   pub text : AppendsFront s.tape t (text_of s.log (history_lines N P s.conf s.stripes history))
   pub read : HasRead s f now rows last
-  pub front : (more : List (List ℕ)) → MayFollow last more → IsFront history (runs (pieces s rows ++ more)).history
+  pub front : (more : List (List ℕ)) → MayFollow last more → IsPrefix history (runs (pieces s rows ++ more)).history

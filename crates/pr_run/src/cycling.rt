@@ -2,8 +2,8 @@
 ghost use Rattle.std.specs.Prelude.{ℕ, ◌≡◌, ◌≤◌, ◌<◌, ◌+◌, ◌^◌, ◌++◌, ◌∷◌, [], length, Some, OnOk, OnErr};
 ghost use Rattle.pr_edge.specs.Count.{Rose};
 ghost use Rattle.pr_control.specs.Residents.{Resides};
-ghost use Rattle.pr_flow.specs.Rows.{state_after};
-ghost use Rattle.pr_account.specs.Account.{Cycle, done};
+ghost use Rattle.pr_conf_pipeline.specs.Rows.{state_after};
+ghost use Rattle.pr_machine_account.specs.Account.{Cycle, done};
 ghost use Rattle.pr_conf.specs.Shape.{Shape};
 ghost use Rattle.pr_conf.specs.Through.{steps_of};
 ghost use Rattle.pr_machine.specs.Stands.{Stands, History, account_of, time_of, stripes_of};

@@ -1,7 +1,7 @@
 //! The second step of a turn: all waiting results are taken and written.
 ghost use Rattle.std.specs.Prelude.{◌≡◌, ◌≤◌, ◌<◌, ◌+◌, ◌++◌, ◌∷◌, [], length, take, OnOk, OnErr};
 ghost use Rattle.pr_edge.specs.Count.{Rose};
-ghost use Rattle.pr_account.specs.Account.{Take};
+ghost use Rattle.pr_machine_account.specs.Account.{Take};
 ghost use Rattle.pr_conf.specs.Configuration.{shape_of};
 ghost use Rattle.pr_conf.specs.Through.{output_widths};
 ghost use Rattle.pr_machine.specs.Stands.{History, conf_of, result_bytes_of, waiting_results, IsKept};

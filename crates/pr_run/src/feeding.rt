@@ -5,10 +5,10 @@ ghost use Rattle.pr_base.specs.Rows.{row_bytes};
 ghost use Rattle.pr_edge.specs.Tape.{Tape};
 ghost use Rattle.pr_samples.specs.Feed.{widths_of};
 ghost use Rattle.pr_samples.specs.Got.{is_sample};
-ghost use Rattle.pr_account.specs.Account.{Offer};
+ghost use Rattle.pr_machine_account.specs.Account.{Offer};
 ghost use Rattle.pr_conf.specs.Shape.{Shape};
 ghost use Rattle.pr_machine.specs.Stands.{Stands, History, conf_of, waiting_samples, IsKept};
-ghost use Rattle.pr_script.specs.Script.{Held, Run, fed};
+ghost use Rattle.pr_run_script.specs.Script.{Held, Run, fed};
 ghost use Rattle.pr_run.specs.Setting.{Setting, IsSet, view, stages_of};
 ghost use Rattle.pr_run.specs.Turns.{IsOn};
 

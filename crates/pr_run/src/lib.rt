@@ -1,6 +1,6 @@
 //! A whole run of a machine: samples are read, results are written, and it ends when nothing is in flight.
 //!
-//! What a run does is said by the turns of `pr_script`, which know counts and no machine: see `Ran`.
+//! What a run does is said by the turns of `pr_run_script`, which know counts and no machine: see `Ran`.
 #![tactic(auto)]
 
 mod cycling;

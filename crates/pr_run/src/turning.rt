@@ -3,11 +3,11 @@ ghost use Rattle.std.specs.Prelude.{ℕ, ◌≡◌, ◌≤◌, ◌<◌, ◌+◌,
 ghost use Rattle.pr_edge.specs.Count.{Rose};
 ghost use Rattle.pr_samples.specs.Feed.{widths_of, given_of};
 ghost use Rattle.pr_samples.specs.Got.{is_sample};
-ghost use Rattle.pr_account.specs.Account.{left};
+ghost use Rattle.pr_machine_account.specs.Account.{left};
 ghost use Rattle.pr_conf.specs.Shape.{Shape};
 ghost use Rattle.pr_conf.specs.Through.{output_widths};
 ghost use Rattle.pr_machine.specs.Stands.{Stands, History, account_of, conf_of, stripes_of, time_of};
-ghost use Rattle.pr_script.specs.Script.{Run, waiting, closed, turned};
+ghost use Rattle.pr_run_script.specs.Script.{Run, waiting, closed, turned};
 ghost use Rattle.pr_run.specs.Setting.{Setting, View, IsSet, view, stages_of, held_of};
 ghost use Rattle.pr_run.specs.Turns.{IsOn};
 ghost use Rattle.pr_run.specs.Outcomes.{IsTurned, has_failed, cycles_by};

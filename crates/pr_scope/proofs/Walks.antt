@@ -15,16 +15,16 @@ use Rattle.pr_lang.specs.declared.trees.Stmt.{Stmt}
 use Rattle.pr_lang.specs.declared.trees.Stmt.TheVariants.{Let, Rec, For}
 use Rattle.pr_lang.specs.declared.trees.Stmt.TheOpen.{Stmt-F}
 use Rattle.pr_lang.specs.declared.trees.Stmt.TheFolds.{fold-roll-Stmt}
-use Rattle.pr_names.specs.declared.rules.Offence.{Offence}
-use Rattle.pr_names.specs.declared.rules.Stop.{Stop}
-use Rattle.pr_names.specs.declared.rules.Stop.TheVariants.{Offends, Memory}
-use Rattle.pr_names.specs.declared.counts.Count.{Count}
+use Rattle.pr_scope_names.specs.declared.rules.Offence.{Offence}
+use Rattle.pr_scope_names.specs.declared.rules.Stop.{Stop}
+use Rattle.pr_scope_names.specs.declared.rules.Stop.TheVariants.{Offends, Memory}
+use Rattle.pr_scope_names.specs.declared.counts.Count.{Count}
 use Rattle.pr_scope.specs.declared.expressions.Scene.{Scene}
 use Rattle.pr_scope.specs.declared.statements.Span.{Span}
-use Rattle.pr_names.specs.Outcomes.{all_of, and_then, Gives, IsOffence}
-use Rattle.pr_names.specs.Names.{Known, Streaming, assign}
-use Rattle.pr_names.specs.Amounts.{amount_of}
-use Rattle.pr_names.proofs.Folds.{amount_kept}
+use Rattle.pr_scope_names.specs.Outcomes.{all_of, and_then, Gives, IsOffence}
+use Rattle.pr_scope_names.specs.Names.{Known, Streaming, assign}
+use Rattle.pr_scope_names.specs.Amounts.{amount_of}
+use Rattle.pr_scope_names.proofs.Folds.{amount_kept}
 use Rattle.pr_scope.specs.Expressions.{Reading, called, reading, reading_step, walk_of, walks_of}
 use Rattle.pr_scope.specs.declared.checking.ScopeFault.{ScopeFault}
 use Rattle.pr_scope.specs.Walk.{IsFault, IsRefusal, Refusal, World, body_walk, item_change, items_walk, onward, params_from, refusal_of}

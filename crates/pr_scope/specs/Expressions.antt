@@ -6,18 +6,18 @@ use Rattle.pr_lang.specs.declared.trees.BinOp.TheVariants.{Left, Right}
 use Rattle.pr_lang.specs.declared.trees.Expr.{Expr}
 use Rattle.pr_lang.specs.declared.trees.Expr.TheOpen.{Expr-F}
 use Rattle.pr_lang.specs.declared.trees.Expr.TheFolds.{fold-Expr}
-use Rattle.pr_names.specs.declared.rules.Rule.TheVariants.{Assigned, Kinds, Calls, Bounds, Recurrences}
-use Rattle.pr_names.specs.declared.rules.Offence.{Offence}
-use Rattle.pr_names.specs.declared.rules.Offence.TheVariants.{Breaks}
-use Rattle.pr_names.specs.declared.counts.Count.{Count}
-use Rattle.pr_names.specs.declared.names.Static.{Static}
-use Rattle.pr_names.specs.declared.names.Static.TheVariants.{Function}
-use Rattle.pr_names.specs.declared.streams.Instance.{Instance}
+use Rattle.pr_scope_names.specs.declared.rules.Rule.TheVariants.{Assigned, Kinds, Calls, Bounds, Recurrences}
+use Rattle.pr_scope_names.specs.declared.rules.Offence.{Offence}
+use Rattle.pr_scope_names.specs.declared.rules.Offence.TheVariants.{Breaks}
+use Rattle.pr_scope_names.specs.declared.counts.Count.{Count}
+use Rattle.pr_scope_names.specs.declared.names.Static.{Static}
+use Rattle.pr_scope_names.specs.declared.names.Static.TheVariants.{Function}
+use Rattle.pr_scope_names.specs.declared.streams.Instance.{Instance}
 use Rattle.pr_scope.specs.declared.expressions.Scene.{Scene}
-use Rattle.pr_names.specs.Outcomes.{and_then, provided, in_turn, counted}
-use Rattle.pr_names.specs.Names.{Known, Streaming, same_place, held}
-use Rattle.pr_names.specs.Constants.{read, constant_of, place_of}
-use Rattle.pr_names.specs.Amounts.{Amount, amount_step}
+use Rattle.pr_scope_names.specs.Outcomes.{and_then, provided, in_turn, counted}
+use Rattle.pr_scope_names.specs.Names.{Known, Streaming, same_place, held}
+use Rattle.pr_scope_names.specs.Constants.{read, constant_of, place_of}
+use Rattle.pr_scope_names.specs.Amounts.{Amount, amount_step}
 
 abbrev pub is_instance : Option Instance → List ℕ → Option ℕ → Bool
 is_instance None name place = false

@@ -6,15 +6,15 @@ use Rattle.pr_lang.specs.declared.trees.Expr.{Expr}
 use Rattle.pr_lang.specs.declared.trees.Stmt.{Stmt}
 use Rattle.pr_lang.specs.declared.trees.Stmt.TheOpen.{Stmt-F}
 use Rattle.pr_lang.specs.declared.trees.Stmt.TheFolds.{fold-Stmt}
-use Rattle.pr_names.specs.declared.rules.Rule.TheVariants.{Introduced, Bounds, Recurrences}
-use Rattle.pr_names.specs.declared.rules.Offence.{Offence}
-use Rattle.pr_names.specs.declared.counts.Count.{Count}
+use Rattle.pr_scope_names.specs.declared.rules.Rule.TheVariants.{Introduced, Bounds, Recurrences}
+use Rattle.pr_scope_names.specs.declared.rules.Offence.{Offence}
+use Rattle.pr_scope_names.specs.declared.counts.Count.{Count}
 use Rattle.pr_scope.specs.declared.statements.Ready.{Ready}
 use Rattle.pr_scope.specs.declared.statements.Span.{Span}
-use Rattle.pr_names.specs.declared.names.Static.TheVariants.{Index}
-use Rattle.pr_names.specs.Outcomes.{and_then, provided, in_turn, counted}
-use Rattle.pr_names.specs.Names.{Known, Streaming, is_free, assign, bind}
-use Rattle.pr_names.specs.Constants.{constant_of, place_of}
+use Rattle.pr_scope_names.specs.declared.names.Static.TheVariants.{Index}
+use Rattle.pr_scope_names.specs.Outcomes.{and_then, provided, in_turn, counted}
+use Rattle.pr_scope_names.specs.Names.{Known, Streaming, is_free, assign, bind}
+use Rattle.pr_scope_names.specs.Constants.{constant_of, place_of}
 use Rattle.pr_scope.specs.Expressions.{walk_of, past_of, pasts_of}
 
 abbrev pub is_width : Option ℕ → Bool

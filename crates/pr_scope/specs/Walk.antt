@@ -9,23 +9,23 @@ use Rattle.pr_lang.specs.declared.trees.Param.{Param}
 use Rattle.pr_lang.specs.declared.trees.Item.{Item}
 use Rattle.pr_lang.specs.declared.trees.Item.TheVariants.{Input, Output, Const, Table, Function, Step}
 use Rattle.pr_lang.specs.declared.trees.Program.{Program}
-use Rattle.pr_names.specs.declared.rules.Rule.TheVariants.{Introduced, Bounds, Ends}
-use Rattle.pr_names.specs.declared.rules.Offence.{Offence}
-use Rattle.pr_names.specs.declared.rules.Offence.TheVariants.{Turns, Breaks}
-use Rattle.pr_names.specs.declared.rules.Stop.{Stop}
-use Rattle.pr_names.specs.declared.rules.Stop.TheVariants as stop
-use Rattle.pr_names.specs.declared.counts.Count.{Count}
-use Rattle.pr_names.specs.declared.names.Callee.{Callee}
-use Rattle.pr_names.specs.declared.names.Static.{Static}
-use Rattle.pr_names.specs.declared.names.Static.TheVariants as static
+use Rattle.pr_scope_names.specs.declared.rules.Rule.TheVariants.{Introduced, Bounds, Ends}
+use Rattle.pr_scope_names.specs.declared.rules.Offence.{Offence}
+use Rattle.pr_scope_names.specs.declared.rules.Offence.TheVariants.{Turns, Breaks}
+use Rattle.pr_scope_names.specs.declared.rules.Stop.{Stop}
+use Rattle.pr_scope_names.specs.declared.rules.Stop.TheVariants as stop
+use Rattle.pr_scope_names.specs.declared.counts.Count.{Count}
+use Rattle.pr_scope_names.specs.declared.names.Callee.{Callee}
+use Rattle.pr_scope_names.specs.declared.names.Static.{Static}
+use Rattle.pr_scope_names.specs.declared.names.Static.TheVariants as static
 use Rattle.pr_scope.specs.declared.statements.Ready.{Ready}
 use Rattle.pr_scope.specs.declared.progress.Made.{Made}
 use Rattle.pr_scope.specs.declared.checking.Scoped.{Scoped}
 use Rattle.pr_scope.specs.declared.checking.ScopeFault.{ScopeFault}
 use Rattle.pr_scope.specs.declared.checking.ScopeFault.TheVariants.{Scope, Limit, Memory}
-use Rattle.pr_names.specs.Outcomes.{and_then, provided, in_turn, all_of, counted, number_of}
-use Rattle.pr_names.specs.Names.{Known, Streaming, built_in, is_free, assign, bind, known_in, streams_in}
-use Rattle.pr_names.specs.Constants.{constant_of}
+use Rattle.pr_scope_names.specs.Outcomes.{and_then, provided, in_turn, all_of, counted, number_of}
+use Rattle.pr_scope_names.specs.Names.{Known, Streaming, built_in, is_free, assign, bind, known_in, streams_in}
+use Rattle.pr_scope_names.specs.Constants.{constant_of}
 use Rattle.pr_scope.specs.Expressions.{walk_of, past_of}
 use Rattle.pr_scope.specs.Statements.{Progress, completed, is_width, changes_of, change_of, stmts_past_of}
 

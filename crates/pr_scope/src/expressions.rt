@@ -1,12 +1,12 @@
 //! The walk over an expression.
 ghost use Rattle.std.specs.Prelude.{◌≡◌, ◌≤◌, IfOk, ℕ, Bool, Option, None, Some, if◌then◌else◌, map};
-ghost use Rattle.pr_names.specs.Outcomes.{and_then};
-ghost use Rattle.pr_names.specs.Names.{held, known_in, same_place, streams_in};
-ghost use Rattle.pr_names.specs.Constants.{constant_of, place_of};
+ghost use Rattle.pr_scope_names.specs.Outcomes.{and_then};
+ghost use Rattle.pr_scope_names.specs.Names.{held, known_in, same_place, streams_in};
+ghost use Rattle.pr_scope_names.specs.Constants.{constant_of, place_of};
 ghost use Rattle.pr_scope.specs.Expressions.{back_by, bounds, called, delayed, is_delay, is_instance, is_past, is_shift, past_of, pasts_of, reading, shifted, used, walk_of, walks_of};
 
 use pr_lang::{BinOp, Expr, Fixed, Name, Ref};
-use pr_names::{
+use pr_scope_names::{
     Callee, Count, Instance, Offence, Rule, Static, Statics, Streams, amount, constant, count_one,
     place, read_static,
 };

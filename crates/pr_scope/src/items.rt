@@ -1,8 +1,8 @@
 //! The walk over an item.
 ghost use Rattle.std.specs.Prelude.{◌≡◌, ◌<◌, IfOk, None, OnOk, map};
-ghost use Rattle.pr_names.specs.Outcomes.{Gives, all_of};
-ghost use Rattle.pr_names.specs.Names.{IsOutside, KeepsNames, horizon_in, known_in, streams_in};
-ghost use Rattle.pr_names.specs.Constants.{constant_of};
+ghost use Rattle.pr_scope_names.specs.Outcomes.{Gives, all_of};
+ghost use Rattle.pr_scope_names.specs.Names.{IsOutside, KeepsNames, horizon_in, known_in, streams_in};
+ghost use Rattle.pr_scope_names.specs.Constants.{constant_of};
 ghost use Rattle.pr_scope.specs.Walk.{body_walk, callee_of, constant_change, function_change, have_widths, input_change, input_ready, introduced, item_change, output_change, output_ready, params_from, step_change, table_change, world_of};
 
 use crate::expressions::{Scene, has_past, walk};
@@ -11,7 +11,7 @@ use crate::statements::{
     Ready, any_stmt_past, assign_stream, complete, has_width, is_new, walk_stmt, walk_stmts,
 };
 use pr_lang::{Expr, Fixed, Item, Name, Param, Stmt};
-use pr_names::{
+use pr_scope_names::{
     Callee, Count, Offence, Rule, Static, Statics, Stop, Streams, Table, constant, count_one,
 };
 use std::alloc::Global;

@@ -11,7 +11,7 @@ mod progress;
 mod statements;
 
 pub use checking::{ScopeFault, Scoped};
-pub use pr_names::{
+pub use pr_scope_names::{
     Callee, Offence, Rule, Static, Statics, Table, amount, constant, place, read_name, read_static,
 };
 pub use programs::check;

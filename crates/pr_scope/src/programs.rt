@@ -7,7 +7,7 @@ use crate::items::walk_item;
 use crate::progress::Made;
 use pr_base::Cap;
 use pr_lang::{Item, Program};
-use pr_names::{Count, Offence, Rule, Statics, Stop, Streams};
+use pr_scope_names::{Count, Offence, Rule, Statics, Stop, Streams};
 use std::alloc::{AllocError, Global};
 
 fn fault(stop: Stop, item: u32) -> ScopeFault

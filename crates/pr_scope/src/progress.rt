@@ -1,7 +1,7 @@
 //! What a walk has come to.
-ghost use Rattle.pr_names.specs.Names.{IsOutside};
+ghost use Rattle.pr_scope_names.specs.Names.{IsOutside};
 
-use pr_names::{Count, Statics, Streams};
+use pr_scope_names::{Count, Statics, Streams};
 
 /// What the items so far have made.
 #[derive(Drop)]

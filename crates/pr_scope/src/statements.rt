@@ -1,12 +1,12 @@
 //! The walk over a statement.
 ghost use Rattle.std.specs.Prelude.{◌≡◌, ◌<◌, ◌≤◌, ◌-◌, ◌^◌, IfOk, None, OnOk, map, nat_lt};
-ghost use Rattle.pr_names.specs.Outcomes.{Gives, and_then};
-ghost use Rattle.pr_names.specs.Names.{KeepsNames, assign, horizon_in, is_free, known_in, streams_in};
+ghost use Rattle.pr_scope_names.specs.Outcomes.{Gives, and_then};
+ghost use Rattle.pr_scope_names.specs.Names.{KeepsNames, assign, horizon_in, is_free, known_in, streams_in};
 ghost use Rattle.pr_scope.specs.Statements.{change_of, changes_of, completed, fits, for_ready, is_width, let_ready, rec_begun, rec_body, rec_ready, stmt_past_of, stmts_past_of, turn, turns};
 
 use crate::expressions::{Scene, has_past, walk};
 use pr_lang::{Expr, Fixed, Name, Ref, Stmt};
-use pr_names::{
+use pr_scope_names::{
     Count, Instance, Offence, Rule, Statics, Stop, Streams, constant, count_one, place,
 };
 use std::alloc::Global;

@@ -10,11 +10,11 @@ use Rattle.pr_lang.specs.declared.trees.Stmt.{Stmt}
 use Rattle.pr_lang.specs.declared.trees.Stmt.TheVariants.{Let, Rec, For}
 use Rattle.pr_lang.specs.declared.trees.Stmt.TheOpen.{Stmt-F}
 use Rattle.pr_lang.specs.declared.trees.Stmt.TheFolds.{fold-roll-Stmt}
-use Rattle.pr_names.specs.declared.rules.Offence.{Offence}
-use Rattle.pr_names.specs.Constants.{constant_of}
-use Rattle.pr_meaning.specs.Streams.{Streams}
-use Rattle.pr_meaning.specs.Expressions.{Visible}
-use Rattle.pr_meaning.specs.Statements.{Change, change_of, changes_of, let_change, rec_change, stmt_step, turns, with_known}
+use Rattle.pr_scope_names.specs.declared.rules.Offence.{Offence}
+use Rattle.pr_scope_names.specs.Constants.{constant_of}
+use Rattle.pr_lang_meaning.specs.Streams.{Streams}
+use Rattle.pr_lang_meaning.specs.Expressions.{Visible}
+use Rattle.pr_lang_meaning.specs.Statements.{Change, change_of, changes_of, let_change, rec_change, stmt_step, turns, with_known}
 
 let_law : (target : Ref) (width : Option ℕ) (e : Expr) (v : Visible) (m : ℕ) (env : Streams) → change_of (Let target width e) v m env ≡ let_change target width e v m env
 unfolding statements.roll-Stmt denote.Hole.Carrier.roll

@@ -3,11 +3,11 @@ use Rattle.std.proofs.Common.{◌≡◌, ◌∙◌, ℕ, suc, ◌+◌, ◌<◌, 
 use Rattle.std.specs.Option.{option_or}
 use Rattle.std.proofs.lemmas.Bool.{cases_lt, lt-ltb, ltb-true, le-leb, lt-leb}
 use Rattle.pr_lang.specs.declared.trees.Item.{Item}
-use Rattle.pr_names.specs.declared.names.Static.{Static}
-use Rattle.pr_names.specs.declared.names.Static.TheVariants as static
-use Rattle.pr_names.specs.Names.{bind, built_in}
-use Rattle.pr_meaning.specs.Programs.{at_first, signed_function}
-use Rattle.pr_meaning.specs.Expressions.{Function, Visible}
+use Rattle.pr_scope_names.specs.declared.names.Static.{Static}
+use Rattle.pr_scope_names.specs.declared.names.Static.TheVariants as static
+use Rattle.pr_scope_names.specs.Names.{bind, built_in}
+use Rattle.pr_lang_meaning.specs.Programs.{at_first, signed_function}
+use Rattle.pr_lang_meaning.specs.Expressions.{Function, Visible}
 use Rattle.pr_source.specs.declared.definitions.Callee.{Callee}
 use Rattle.pr_source.specs.declared.definitions.Callee.TheVariants as callee
 use Rattle.pr_source.specs.declared.definitions.Entry.{Entry}

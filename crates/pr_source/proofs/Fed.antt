@@ -11,8 +11,8 @@ use Rattle.pr_lang.specs.declared.trees.Param.{Param}
 use Rattle.pr_scope.specs.declared.checking.Scoped.{Scoped}
 use Rattle.pr_scope.specs.Statements.{is_width}
 use Rattle.pr_scope.specs.Walk.{World, IsScoped, item_change, start}
-use Rattle.pr_lawful.specs.Items.{widths_of_inputs}
-use Rattle.pr_lawful.proofs.InvertedItems.{AllItems, HaveWidths, function-inverted, inputs-scoped, program-inverted}
+use Rattle.pr_scope_facts.specs.Items.{widths_of_inputs}
+use Rattle.pr_scope_facts.proofs.InvertedItems.{AllItems, HaveWidths, function-inverted, inputs-scoped, program-inverted}
 use Rattle.pr_source.specs.Scopes.{has_lawful_params}
 use Rattle.pr_source.specs.Worlds.{AreFed}
 use Rattle.pr_source.proofs.ItemSteps.{inputs_few, inputs_of, together}

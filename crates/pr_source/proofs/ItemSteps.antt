@@ -12,24 +12,24 @@ use Rattle.pr_lang.specs.declared.trees.Stmt.{Stmt}
 use Rattle.pr_lang.specs.declared.trees.Param.{Param}
 use Rattle.pr_lang.specs.declared.trees.Item.{Item}
 use Rattle.pr_lang.specs.declared.trees.Item.TheVariants as item
-use Rattle.pr_names.specs.declared.names.Static.TheVariants.{Constant, Table}
-use Rattle.pr_names.specs.declared.rules.Offence.{Offence}
+use Rattle.pr_scope_names.specs.declared.names.Static.TheVariants.{Constant, Table}
+use Rattle.pr_scope_names.specs.declared.rules.Offence.{Offence}
 use Rattle.std.proofs.Common.{Result, Ok, Err}
-use Rattle.pr_names.specs.Names.{bind}
-use Rattle.pr_names.specs.Constants.{constant_of}
+use Rattle.pr_scope_names.specs.Names.{bind}
+use Rattle.pr_scope_names.specs.Constants.{constant_of}
 use Rattle.pr_flat.specs.Forms.{Stream}
-use Rattle.pr_meaning.specs.Streams.{Streams, assigned, sources, with_stream}
-use Rattle.pr_meaning.specs.Expressions.{Visible, meaning}
-use Rattle.pr_meaning.specs.Statements.{change_of}
-use Rattle.pr_meaning.specs.Programs as programs
+use Rattle.pr_lang_meaning.specs.Streams.{Streams, assigned, sources, with_stream}
+use Rattle.pr_lang_meaning.specs.Expressions.{Visible, meaning}
+use Rattle.pr_lang_meaning.specs.Statements.{change_of}
+use Rattle.pr_lang_meaning.specs.Programs as programs
 use Rattle.pr_source.specs.declared.worlds.World.{World}
 use Rattle.pr_source.specs.declared.definitions.Callee.TheVariants as callee
 use Rattle.pr_source.specs.declared.definitions.Definitions.{Definitions}
 use Rattle.pr_source.specs.declared.definitions.Entry.{Entry}
-use Rattle.pr_columns.specs.Columns.{stream_of}
-use Rattle.pr_columns.specs.Environments.{streams_in}
+use Rattle.pr_source_columns.specs.Columns.{stream_of}
+use Rattle.pr_source_columns.specs.Environments.{streams_in}
 use Rattle.pr_source.specs.Scopes.{Defines, IsFull, after, called, defined, entries_in, function_entry, item_looks_back, past_after, past_at, static_entry, visible_at, with_constant, with_entry, with_table}
-use Rattle.pr_lawful.specs.Items.{widths_of_inputs}
+use Rattle.pr_scope_facts.specs.Items.{widths_of_inputs}
 use Rattle.pr_source.specs.Worlds.{AreFed, IsFed, IsFunction, IsStep, IsWorld, world_of}
 use Rattle.pr_source.proofs.Given.{given_false, given_true}
 use Rattle.pr_source.proofs.Defined.{IsNext, defines_more, defines_same, full_more, full_same, function_next, past_next, static_next, visible_next}

@@ -9,14 +9,14 @@ use Rattle.pr_lang.specs.declared.trees.Expr.{Expr}
 use Rattle.pr_lang.specs.declared.trees.Expr.TheVariants.{Binary, Choose, Call, Cat}
 use Rattle.pr_lang.specs.declared.trees.Expr.TheOpen.{Expr-F}
 use Rattle.pr_lang.specs.declared.trees.Expr.TheFolds.{fold-roll-Expr}
-use Rattle.pr_names.specs.declared.rules.Offence.{Offence}
+use Rattle.pr_scope_names.specs.declared.rules.Offence.{Offence}
 use Rattle.pr_flat.specs.declared.equations.Op.{Op}
 use Rattle.pr_flat.specs.declared.equations.Op.TheVariants as op
 use Rattle.pr_flat.specs.Forms.{Stream}
-use Rattle.pr_meaning.specs.Streams.{Sources, all_parts, part, operate}
-use Rattle.pr_meaning.specs.Expressions.{Function, Sense, Visible, beside, combined, concatenated, constant_shift, meaning, operator, sense_of, sense_step, senses}
-use Rattle.pr_columns.specs.declared.columns.Column.{Column}
-use Rattle.pr_columns.specs.Columns.{Gives, stream_of}
+use Rattle.pr_lang_meaning.specs.Streams.{Sources, all_parts, part, operate}
+use Rattle.pr_lang_meaning.specs.Expressions.{Function, Sense, Visible, beside, combined, concatenated, constant_shift, meaning, operator, sense_of, sense_step, senses}
+use Rattle.pr_source_columns.specs.declared.columns.Column.{Column}
+use Rattle.pr_source_columns.specs.Columns.{Gives, stream_of}
 
 binary_law : (o : BinOp) (l r : Box Expr) (v : Visible) (m : ℕ) (src : Sources) → meaning (Binary o l r) v m src ≡ combined m o (constant_shift o ((sense_of r.value).amount v.known)) (meaning l.value v m src) (meaning r.value v m src)
 unfolding expressions.roll-Expr denote.Hole.Carrier.roll

@@ -4,15 +4,15 @@ use Rattle.std.specs.Option.{option_or}
 use Rattle.std.specs.Result.{result_ok}
 use Rattle.std.proofs.lemmas.Option.{none-some}
 use Rattle.pr_lang.specs.declared.trees.Fixed.{Fixed}
-use Rattle.pr_names.specs.declared.names.Static.{Static}
-use Rattle.pr_names.specs.declared.names.Static.TheVariants.{Constant, Index, Table, Function}
-use Rattle.pr_names.specs.declared.rules.Offence.{Offence}
-use Rattle.pr_names.specs.Names.{Known}
-use Rattle.pr_names.specs.Constants.{read}
-use Rattle.pr_names.specs.Amounts.{named_amount}
+use Rattle.pr_scope_names.specs.declared.names.Static.{Static}
+use Rattle.pr_scope_names.specs.declared.names.Static.TheVariants.{Constant, Index, Table, Function}
+use Rattle.pr_scope_names.specs.declared.rules.Offence.{Offence}
+use Rattle.pr_scope_names.specs.Names.{Known}
+use Rattle.pr_scope_names.specs.Constants.{read}
+use Rattle.pr_scope_names.specs.Amounts.{named_amount}
 use Rattle.pr_flat.specs.Forms.{Stream}
-use Rattle.pr_meaning.specs.Streams.{constant_stream}
-use Rattle.pr_meaning.specs.Expressions.{referred}
+use Rattle.pr_lang_meaning.specs.Streams.{constant_stream}
+use Rattle.pr_lang_meaning.specs.Expressions.{referred}
 use Rattle.pr_source.specs.Scopes.{plain}
 
 pub plain-plain : (o : Option Static) → option_map plain (option_map plain o) ≡ option_map plain o

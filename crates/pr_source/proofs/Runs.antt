@@ -4,12 +4,12 @@ use Rattle.std.proofs.lemmas.Bool.{cond-true, cond-false}
 use Rattle.pr_lang.specs.declared.trees.Expr.{Expr}
 use Rattle.pr_flat.specs.Facts.{is_width}
 use Rattle.pr_flat.specs.Forms.{least_from}
-use Rattle.pr_meaning.specs.Streams as meant
-use Rattle.pr_meaning.specs.Expressions.{Visible, meaning}
-use Rattle.pr_meaning.specs.Statements.{Body, body_of, holds, number_at, recurring, so_far, width_of}
+use Rattle.pr_lang_meaning.specs.Streams as meant
+use Rattle.pr_lang_meaning.specs.Expressions.{Visible, meaning}
+use Rattle.pr_lang_meaning.specs.Statements.{Body, body_of, holds, number_at, recurring, so_far, width_of}
 use Rattle.pr_source.specs.Least.{least_on}
 use Rattle.pr_source.proofs.Given.{given_false, given_true}
-use Rattle.pr_columns.specs.Readings.{sources_by}
+use Rattle.pr_source_columns.specs.Readings.{sources_by}
 
 pub body_is : (e : Expr) (v : Visible) (m : ℕ) (env : meant.Streams) (name key : List ℕ) (place at : Option ℕ) (init w : ℕ) (numbers : List ℕ) (b : meant.Bound) → key ≡ name → at ≡ place → b ≡ so_far m init w numbers → meaning e v m (sources_by None m (meant.with_bound key at b env)) ≡ body_of e name place init v m env w numbers
 body_is e v m env name key place at init w numbers b same there is = λ i. meaning e v m (sources_by None m (meant.with_bound (same i) (there i) (is i) env))

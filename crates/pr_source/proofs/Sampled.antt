@@ -6,25 +6,25 @@ use Rattle.std.proofs.lemmas.List.{get_or_past, get_or-replicate, length-replica
 use Rattle.pr_lang.specs.declared.trees.Expr.{Expr}
 use Rattle.pr_lang.specs.declared.trees.Item.{Item}
 use Rattle.pr_lang.specs.declared.trees.Item.TheVariants as item
-use Rattle.pr_names.specs.declared.rules.Offence.{Offence}
-use Rattle.pr_names.specs.Names.{same_place}
-use Rattle.pr_names.specs.Constants.{constant_of}
+use Rattle.pr_scope_names.specs.declared.rules.Offence.{Offence}
+use Rattle.pr_scope_names.specs.Names.{same_place}
+use Rattle.pr_scope_names.specs.Constants.{constant_of}
 use Rattle.pr_flat.specs.declared.forms.Form.{Form}
 use Rattle.pr_flat.specs.Forms.{Stream, residue, value}
 use Rattle.std.proofs.Common.{◌&&◌, ◌||◌}
-use Rattle.pr_meaning.specs.Streams.{Bound, Streams, delayed, form_of, sources, with_bound}
-use Rattle.pr_meaning.specs.Expressions.{Function, Visible, meaning}
-use Rattle.pr_meaning.specs.Statements.{Body, body_of, number_at, recurring, so_far}
-use Rattle.pr_meaning.specs.Programs.{entries_of, function_of, signed_function}
-use Rattle.pr_meaning.proofs.Pairs.{Both, same-map, some-choice}
-use Rattle.pr_meaning.proofs.Agreeing.{Agree, First, agree-first, delayed-number, first_below, second_below}
-use Rattle.pr_meaning.proofs.EvenExpressions.{AreEven, AreEvenBut, IsEvenFunction, even-meaning, even-where, looks_back}
-use Rattle.pr_meaning.proofs.EvenPrograms.{even-function, even-signed}
-use Rattle.pr_meaning.proofs.Calm.{At, agree-at, calm-function, first_at, second_at, stmts_look_back}
+use Rattle.pr_lang_meaning.specs.Streams.{Bound, Streams, delayed, form_of, sources, with_bound}
+use Rattle.pr_lang_meaning.specs.Expressions.{Function, Visible, meaning}
+use Rattle.pr_lang_meaning.specs.Statements.{Body, body_of, number_at, recurring, so_far}
+use Rattle.pr_lang_meaning.specs.Programs.{entries_of, function_of, signed_function}
+use Rattle.pr_lang_meaning.proofs.Pairs.{Both, same-map, some-choice}
+use Rattle.pr_lang_meaning.proofs.Agreeing.{Agree, First, agree-first, delayed-number, first_below, second_below}
+use Rattle.pr_lang_meaning.proofs.EvenExpressions.{AreEven, AreEvenBut, IsEvenFunction, even-meaning, even-where, looks_back}
+use Rattle.pr_lang_meaning.proofs.EvenPrograms.{even-function, even-signed}
+use Rattle.pr_lang_meaning.proofs.Calm.{At, agree-at, calm-function, first_at, second_at, stmts_look_back}
 use Rattle.std.proofs.lemmas.Option.{none-some}
-use Rattle.pr_columns.specs.Columns.{Gives}
-use Rattle.pr_columns.specs.Readings as readings
-use Rattle.pr_columns.specs.Readings.{cut_at, sources_by}
+use Rattle.pr_source_columns.specs.Columns.{Gives}
+use Rattle.pr_source_columns.specs.Readings as readings
+use Rattle.pr_source_columns.specs.Readings.{cut_at, sources_by}
 use Rattle.pr_source.specs.Scopes.{after, past_after, past_at, visible_at, with_constant, with_table}
 use Rattle.pr_source.proofs.Defined.{past_next, visible_first, visible_next}
 use Rattle.pr_source.proofs.Runs.{recurring_more}

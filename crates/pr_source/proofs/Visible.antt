@@ -7,12 +7,12 @@ use Rattle.std.proofs.Common.{◌+◌, ◌<◌, take, length, get_or, option_map
 use Rattle.std.specs.Option.{option_or}
 use Rattle.std.proofs.lemmas.List.{take_more}
 use Rattle.pr_lang.specs.declared.trees.Item.{Item}
-use Rattle.pr_names.specs.declared.names.Static.{Static}
-use Rattle.pr_names.specs.declared.names.Static.TheVariants.{Index}
-use Rattle.pr_names.specs.Names.{Known, bind, unbind}
+use Rattle.pr_scope_names.specs.declared.names.Static.{Static}
+use Rattle.pr_scope_names.specs.declared.names.Static.TheVariants.{Index}
+use Rattle.pr_scope_names.specs.Names.{Known, bind, unbind}
 use Rattle.std.proofs.Common.{slice_get}
 use Rattle.pr_flat.specs.Forms.{Stream}
-use Rattle.pr_meaning.specs.Expressions.{Visible}
+use Rattle.pr_lang_meaning.specs.Expressions.{Visible}
 use Rattle.pr_source.specs.declared.definitions.Callee.TheVariants as callee
 use Rattle.pr_source.specs.declared.definitions.Entry.{Entry}
 use Rattle.pr_source.specs.declared.counters.Counter.{Counter}

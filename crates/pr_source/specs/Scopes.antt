@@ -4,17 +4,17 @@ use Rattle.std.specs.Option.{option_or}
 use Rattle.std.specs.declared.alloc.Global.{Global}
 use Rattle.pr_lang.specs.declared.trees.Item.{Item}
 use Rattle.pr_lang.specs.declared.trees.Item.TheVariants as item
-use Rattle.pr_names.specs.declared.names.Callee as names
-use Rattle.pr_names.specs.declared.names.Static.{Static}
-use Rattle.pr_names.specs.declared.names.Static.TheVariants.{Constant, Table, Function}
-use Rattle.pr_names.specs.declared.rules.Offence.{Offence}
-use Rattle.pr_names.specs.Names.{Known, at_name, bind}
-use Rattle.pr_names.specs.Constants.{constant_of}
-use Rattle.pr_meaning.specs.Expressions as meant
-use Rattle.pr_meaning.specs.Expressions.{Visible}
-use Rattle.pr_meaning.specs.Programs.{at_first, entries_of, function_at, function_of, signed_function}
-use Rattle.pr_meaning.proofs.EvenExpressions.{looks_back}
-use Rattle.pr_meaning.proofs.Calm.{stmts_look_back}
+use Rattle.pr_scope_names.specs.declared.names.Callee as names
+use Rattle.pr_scope_names.specs.declared.names.Static.{Static}
+use Rattle.pr_scope_names.specs.declared.names.Static.TheVariants.{Constant, Table, Function}
+use Rattle.pr_scope_names.specs.declared.rules.Offence.{Offence}
+use Rattle.pr_scope_names.specs.Names.{Known, at_name, bind}
+use Rattle.pr_scope_names.specs.Constants.{constant_of}
+use Rattle.pr_lang_meaning.specs.Expressions as meant
+use Rattle.pr_lang_meaning.specs.Expressions.{Visible}
+use Rattle.pr_lang_meaning.specs.Programs.{at_first, entries_of, function_at, function_of, signed_function}
+use Rattle.pr_lang_meaning.proofs.EvenExpressions.{looks_back}
+use Rattle.pr_lang_meaning.proofs.Calm.{stmts_look_back}
 use Rattle.pr_scope.specs.Walk.{have_widths}
 use Rattle.pr_source.specs.declared.definitions.Callee.{Callee}
 use Rattle.pr_source.specs.declared.definitions.Callee.TheVariants as callee

@@ -4,10 +4,10 @@ use Rattle.std.specs.Option.{option_and_then}
 use Rattle.std.specs.List.{All}
 use Rattle.pr_lang.specs.declared.trees.Item.{Item}
 use Rattle.pr_lang.specs.declared.trees.Item.TheVariants as item
-use Rattle.pr_meaning.specs.Programs as programs
-use Rattle.pr_lawful.specs.Items.{widths_of_inputs}
-use Rattle.pr_columns.specs.Columns.{stream_of}
-use Rattle.pr_columns.specs.Environments.{streams_in}
+use Rattle.pr_lang_meaning.specs.Programs as programs
+use Rattle.pr_scope_facts.specs.Items.{widths_of_inputs}
+use Rattle.pr_source_columns.specs.Columns.{stream_of}
+use Rattle.pr_source_columns.specs.Environments.{streams_in}
 use Rattle.pr_source.specs.declared.worlds.World.{World}
 use Rattle.pr_source.specs.Scopes.{Defines, IsFull, has_lawful_params, visible_at}
 

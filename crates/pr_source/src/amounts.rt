@@ -1,16 +1,16 @@
 //! The amounts of constant shifts.
 
 ghost use Rattle.std.specs.Prelude.{◌≡◌, Some, None};
-ghost use Rattle.pr_names.specs.Outcomes.{and_then};
-ghost use Rattle.pr_names.specs.Names.{Known};
-ghost use Rattle.pr_names.specs.Constants.{applied, constant_of, read};
-ghost use Rattle.pr_names.specs.Amounts.{fixed_op, named_amount};
-ghost use Rattle.pr_meaning.specs.Expressions.{sense_of};
+ghost use Rattle.pr_scope_names.specs.Outcomes.{and_then};
+ghost use Rattle.pr_scope_names.specs.Names.{Known};
+ghost use Rattle.pr_scope_names.specs.Constants.{applied, constant_of, read};
+ghost use Rattle.pr_scope_names.specs.Amounts.{fixed_op, named_amount};
+ghost use Rattle.pr_lang_meaning.specs.Expressions.{sense_of};
 ghost use Rattle.pr_source.specs.Scopes.{IsScope, known_of};
 
 use crate::scopes::Scope;
 use pr_lang::{BinOp, Expr, Fixed, FixedOp, Ref};
-use pr_names::{Offence, Static, apply, read_static};
+use pr_scope_names::{Offence, Static, apply, read_static};
 
 fn constant_op(op: BinOp) -> Option<FixedOp>
     ensures { result ≡ fixed_op op }

@@ -1,15 +1,15 @@
 //! The arguments of calls.
 
 ghost use Rattle.std.specs.Prelude.{◌≡◌, ℕ, IfOk, map, option_map, true};
-ghost use Rattle.pr_meaning.specs.Streams.{no_streams};
-ghost use Rattle.pr_meaning.specs.Programs as programs;
+ghost use Rattle.pr_lang_meaning.specs.Streams.{no_streams};
+ghost use Rattle.pr_lang_meaning.specs.Programs as programs;
 ghost use Rattle.pr_scope.specs.Statements.{is_width};
 ghost use Rattle.pr_scope.specs.Walk.{have_widths};
-ghost use Rattle.pr_columns.specs.Columns.{Gives, stream_of};
-ghost use Rattle.pr_columns.specs.Environments.{streams_in};
+ghost use Rattle.pr_source_columns.specs.Columns.{Gives, stream_of};
+ghost use Rattle.pr_source_columns.specs.Environments.{streams_in};
 
-use pr_columns::{Column, Environment, fitted, kept, lawful, signed, with_column_at};
 use pr_lang::Param;
+use pr_source_columns::{Column, Environment, fitted, kept, lawful, signed, with_column_at};
 use std::alloc::{AllocError, Global};
 
 /// An argument, at the parameter's declared width if it has one.

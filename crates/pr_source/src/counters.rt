@@ -4,7 +4,7 @@ ghost use Rattle.std.specs.Prelude.{◌≡◌, true};
 ghost use Rattle.pr_source.specs.Indices.{is_index};
 
 use pr_lang::Name;
-use pr_names::Static;
+use pr_scope_names::Static;
 use std::alloc::{AllocError, Global};
 
 /// A loop's index, at its value.

@@ -1,11 +1,11 @@
 //! What the items of a program define beside streams.
 
 ghost use Rattle.std.specs.Prelude.{◌≡◌, ◌+◌, ◌<◌, ◌^◌, List, IfOk, OnOk, option_map};
-ghost use Rattle.pr_names.specs.Names.{at_name, bind, unbind};
+ghost use Rattle.pr_scope_names.specs.Names.{at_name, bind, unbind};
 ghost use Rattle.pr_source.specs.Scopes.{Defines, IsFull, callee_at, callee_before, entries_in, function_entry, known_before, latest, nameless, signed_entry, static_before, static_entry, with_entry};
 
 use pr_lang::{Item, Name};
-use pr_names::Static;
+use pr_scope_names::Static;
 use std::alloc::{AllocError, Global};
 use std::collections::BTreeMap;
 
@@ -94,7 +94,7 @@ impl Entry {
 fn nameless() -> Static
     ensures { result ≡ Static.Function nameless }
 {
-    Static::Function(pr_names::Callee {
+    Static::Function(pr_scope_names::Callee {
         item: None,
         params: 0,
         turns: 0,

@@ -3,9 +3,9 @@
 ghost use Rattle.std.specs.Prelude.{◌≡◌, ◌++◌, [], ◌∷◌, All, IfOk, get_or, map, option_map};
 ghost use Rattle.pr_base.specs.Rows.{IsRow};
 ghost use Rattle.pr_flat.specs.Forms.{Stream};
-ghost use Rattle.pr_meaning.specs.Programs.{items_change, out, rows_of, start};
-ghost use Rattle.pr_meaning.specs.Programs as programs;
-ghost use Rattle.pr_columns.specs.Columns.{stream_of};
+ghost use Rattle.pr_lang_meaning.specs.Programs.{items_change, out, rows_of, start};
+ghost use Rattle.pr_lang_meaning.specs.Programs as programs;
+ghost use Rattle.pr_source_columns.specs.Columns.{stream_of};
 ghost use Rattle.pr_scope.specs.Walk.{IsScoped};
 ghost use Rattle.pr_source.specs.Worlds.{AreFed, IsWorld, world_of};
 
@@ -13,9 +13,9 @@ use crate::definitions::Definitions;
 use crate::steps::take_item;
 use crate::worlds::World;
 use pr_base::Sample;
-use pr_columns::{Column, Environment, with_number};
 use pr_lang::Item;
 use pr_scope::Scoped;
+use pr_source_columns::{Column, Environment, with_number};
 use std::alloc::{AllocError, Global};
 
 /// What there is before the first item.

@@ -2,13 +2,13 @@
 
 ghost use Rattle.std.specs.Prelude.{◌≡◌, ◌^◌, ◌<◌, All, ℕ, [], ◌∷◌, ◌++◌, IfOk, get_or, length, option_map, slice_get, true};
 ghost use Rattle.std.specs.Result.{result_ok};
-ghost use Rattle.pr_meaning.specs.Streams.{assigned, sources};
-ghost use Rattle.pr_meaning.specs.Statements.{change_of};
-ghost use Rattle.pr_meaning.specs.Expressions.{meaning};
-ghost use Rattle.pr_meaning.specs.Programs.{column, entries_of, input_stream};
-ghost use Rattle.pr_names.specs.Constants.{constant_of};
-ghost use Rattle.pr_columns.specs.Columns.{stream_of};
-ghost use Rattle.pr_columns.specs.Environments.{streams_in};
+ghost use Rattle.pr_lang_meaning.specs.Streams.{assigned, sources};
+ghost use Rattle.pr_lang_meaning.specs.Statements.{change_of};
+ghost use Rattle.pr_lang_meaning.specs.Expressions.{meaning};
+ghost use Rattle.pr_lang_meaning.specs.Programs.{column, entries_of, input_stream};
+ghost use Rattle.pr_scope_names.specs.Constants.{constant_of};
+ghost use Rattle.pr_source_columns.specs.Columns.{stream_of};
+ghost use Rattle.pr_source_columns.specs.Environments.{streams_in};
 ghost use Rattle.pr_source.specs.Scopes.{Defines, IsScope, has_lawful_params, visible_at, visible_of};
 ghost use Rattle.pr_source.specs.Worlds.{IsFed};
 
@@ -16,8 +16,8 @@ use crate::definitions::Definitions;
 use crate::scopes::Scope;
 use crate::values::{statement, value_in};
 use pr_base::{Num, Sample, Width};
-use pr_columns::{Column, Environment, assign, column_of, with_number};
 use pr_lang::{Expr, Fixed, Item, Stmt};
+use pr_source_columns::{Column, Environment, assign, column_of, with_number};
 use std::alloc::{AllocError, Global};
 
 /// What is visible at an item.

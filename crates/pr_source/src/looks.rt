@@ -2,8 +2,8 @@
 
 ghost use Rattle.std.specs.Prelude.{◌≡◌, Some, map, true};
 ghost use Rattle.std.specs.List.{list_any};
-ghost use Rattle.pr_meaning.proofs.Calm.{stmt_looks_back, stmts_look_back};
-ghost use Rattle.pr_meaning.proofs.EvenExpressions.{looks_back};
+ghost use Rattle.pr_lang_meaning.proofs.Calm.{stmt_looks_back, stmts_look_back};
+ghost use Rattle.pr_lang_meaning.proofs.EvenExpressions.{looks_back};
 ghost use Rattle.pr_source.specs.Scopes.{IsScope, item_looks_back, past_in};
 
 use crate::definitions::Callee;

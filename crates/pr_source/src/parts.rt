@@ -2,12 +2,12 @@
 
 ghost use Rattle.std.specs.Prelude.{IfOk, Option, map, option_map};
 ghost use Rattle.pr_flat.specs.Forms.{Stream};
-ghost use Rattle.pr_meaning.specs.Expressions.{beside, concatenated};
-ghost use Rattle.pr_columns.specs.Columns.{Gives, stream_of};
+ghost use Rattle.pr_lang_meaning.specs.Expressions.{beside, concatenated};
+ghost use Rattle.pr_source_columns.specs.Columns.{Gives, stream_of};
 
 use crate::references::number_value;
-use pr_columns::{Column, kept, two, unsigned};
 use pr_flat::Op;
+use pr_source_columns::{Column, kept, two, unsigned};
 use std::alloc::{AllocError, Global};
 
 /// Parts beside what stands above them.

@@ -4,18 +4,18 @@ ghost use Rattle.std.specs.Prelude.{◌≡◌, [], ◌∷◌, IfOk, Option, Some
 ghost use Rattle.std.specs.Option.{option_and_then};
 ghost use Rattle.std.specs.Result.{result_ok};
 ghost use Rattle.pr_flat.specs.Forms.{Stream};
-ghost use Rattle.pr_names.specs.Constants.{constant_of, place_of, read};
-ghost use Rattle.pr_meaning.specs.Streams.{constant_stream, operate};
-ghost use Rattle.pr_meaning.specs.Expressions.{referred};
-ghost use Rattle.pr_columns.specs.Columns.{Gives, stream_of};
-ghost use Rattle.pr_columns.specs.Readings.{sources_of};
+ghost use Rattle.pr_scope_names.specs.Constants.{constant_of, place_of, read};
+ghost use Rattle.pr_lang_meaning.specs.Streams.{constant_stream, operate};
+ghost use Rattle.pr_lang_meaning.specs.Expressions.{referred};
+ghost use Rattle.pr_source_columns.specs.Columns.{Gives, stream_of};
+ghost use Rattle.pr_source_columns.specs.Readings.{sources_of};
 ghost use Rattle.pr_source.specs.Scopes.{IsScope, known_of};
 
 use crate::scopes::Scope;
-use pr_columns::{Column, Reading, constant, kept, one, own};
 use pr_flat::Op;
 use pr_lang::{Fixed, Ref};
-use pr_names::{Static, read_static};
+use pr_scope_names::{Static, read_static};
+use pr_source_columns::{Column, Reading, constant, kept, one, own};
 use std::alloc::{AllocError, Global};
 
 /// The same number at each sample.

@@ -1,14 +1,14 @@
 //! What is visible where an expression stands.
 
 ghost use Rattle.std.specs.Prelude.{◌≡◌, ◌<◌, ℕ, List, [], IfOk, None, Option, option_map, true};
-ghost use Rattle.pr_meaning.specs.Statements.{with_known};
-ghost use Rattle.pr_names.specs.Constants.{constant_of, place_of, read};
+ghost use Rattle.pr_lang_meaning.specs.Statements.{with_known};
+ghost use Rattle.pr_scope_names.specs.Constants.{constant_of, place_of, read};
 ghost use Rattle.pr_source.specs.Scopes.{IsScope, callee_at, counted, is_earlier, known_of, latest, plain, visible_at, visible_of};
 
 use crate::counters::Counter;
 use crate::definitions::{Callee, Definitions};
 use pr_lang::{Fixed, Item, Name, Ref};
-use pr_names::{Offence, Rule, Static, apply, read_static};
+use pr_scope_names::{Offence, Rule, Static, apply, read_static};
 use std::alloc::{AllocError, Global};
 
 /// What is visible in a function's body or at an item: what the items before define, and the indices of the loops around.

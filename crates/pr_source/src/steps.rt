@@ -8,9 +8,9 @@ use crate::definitions::Entry;
 use crate::items::{constant_at, entries_at, input_column, output_column, step};
 use crate::worlds::{World, with_definition, with_input, with_output};
 use pr_base::Sample;
-use pr_columns::declared;
 use pr_lang::{Expr, Fixed, Item, Name, Stmt};
-use pr_names::{Static, Table};
+use pr_scope_names::{Static, Table};
+use pr_source_columns::declared;
 use std::alloc::{AllocError, Global};
 
 fn input_item(

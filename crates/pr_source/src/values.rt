@@ -3,13 +3,13 @@
 ghost use Rattle.std.specs.Prelude.{◌≡◌, ℕ, ◌≤◌, ◌-◌, ◌++◌, [], ◌∷◌, ◌&&◌, All, IfOk, IfSome, Option, Some, None, cond, map, nat_lt, option_map, false, true, ◌<◌, ◌^◌, IsTrue};
 ghost use Rattle.std.specs.Option.{option_and_then};
 ghost use Rattle.pr_flat.specs.Facts.{is_width};
-ghost use Rattle.pr_meaning.specs.Streams.{Streams, all_parts, form_of, assigned, sources, with_bound};
-ghost use Rattle.pr_meaning.proofs.EvenExpressions.{looks_back};
-ghost use Rattle.pr_meaning.specs.Statements.{body_of, change_of, changes_of, holds, let_change, rec_change, recurrence, so_far, turns, width_of, with_known, with_recurrence};
-ghost use Rattle.pr_meaning.specs.Expressions.{Function, meaning, sense_of, senses};
-ghost use Rattle.pr_columns.specs.Columns.{Gives, stream_of};
-ghost use Rattle.pr_columns.specs.Environments.{bound_of, streams_in};
-ghost use Rattle.pr_columns.specs.Readings.{sources_by, sources_of};
+ghost use Rattle.pr_lang_meaning.specs.Streams.{Streams, all_parts, form_of, assigned, sources, with_bound};
+ghost use Rattle.pr_lang_meaning.proofs.EvenExpressions.{looks_back};
+ghost use Rattle.pr_lang_meaning.specs.Statements.{body_of, change_of, changes_of, holds, let_change, rec_change, recurrence, so_far, turns, width_of, with_known, with_recurrence};
+ghost use Rattle.pr_lang_meaning.specs.Expressions.{Function, meaning, sense_of, senses};
+ghost use Rattle.pr_source_columns.specs.Columns.{Gives, stream_of};
+ghost use Rattle.pr_source_columns.specs.Environments.{bound_of, streams_in};
+ghost use Rattle.pr_source_columns.specs.Readings.{sources_by, sources_of};
 ghost use Rattle.pr_source.specs.Least.{least_on};
 ghost use Rattle.pr_source.specs.Scopes.{IsScope, defined, has_lawful_params, past_in, visible_of};
 
@@ -21,13 +21,13 @@ use crate::parts::concatenate;
 use crate::references::{delay, number_value, refer, slice};
 use crate::scopes::Scope;
 use pr_base::{Num, Width};
-use pr_columns::{
+use pr_flat::{Form, Op};
+use pr_lang::{Expr, Fixed, Item, Name, Ref, Stmt};
+use pr_source_columns::{
     Bound, Column, Environment, Own, Reading, assign, column_in, column_of, declared, first_bound,
     fits, is_within, lawful, narrow, number_from, one, op_of, own, padded, shift, three, two,
     with_bound_at, with_column_at, with_next, with_number,
 };
-use pr_flat::{Form, Op};
-use pr_lang::{Expr, Fixed, Item, Name, Ref, Stmt};
 use std::alloc::{AllocError, Global};
 
 fn with_column(mut columns: Vec<Column>, column: Column) -> Result<Vec<Column>, AllocError>

@@ -1,14 +1,14 @@
 //! What the items of a program have made so far.
 
 ghost use Rattle.std.specs.Prelude.{◌≡◌, ◌+◌, ◌<◌, ◌^◌, [], ◌∷◌, ◌++◌, IfOk, None, map};
-ghost use Rattle.pr_meaning.specs.Streams.{with_stream};
-ghost use Rattle.pr_columns.specs.Columns.{stream_of};
-ghost use Rattle.pr_columns.specs.Environments.{streams_in};
+ghost use Rattle.pr_lang_meaning.specs.Streams.{with_stream};
+ghost use Rattle.pr_source_columns.specs.Columns.{stream_of};
+ghost use Rattle.pr_source_columns.specs.Environments.{streams_in};
 ghost use Rattle.pr_source.specs.Scopes.{entries_in, with_entry};
 
 use crate::definitions::{Definitions, Entry};
-use pr_columns::{Column, Environment, with_column_at};
 use pr_lang::Name;
+use pr_source_columns::{Column, Environment, with_column_at};
 use std::alloc::{AllocError, Global};
 
 /// What the items so far have made.

@@ -2,7 +2,7 @@
 use Rattle.std.proofs.Common.{◌≡◌, ◌⊎◌, ℕ, Bool, true, false, List, Option, Some, None, refl, sym, ap, ◌∙◌, subst, inl, inr, true≢false}
 use Rattle.pr_edge.specs.Count.{Rose}
 use Rattle.pr_edge.specs.Files.{Told}
-use Rattle.pr_words.specs.Lawful.{Order, Task, Run, Trace, Compile, Show, Migrate, Exec, Eval, Gen, Share, Checkpoint, Move, Extend}
+use Rattle.pr_tool_words.specs.Lawful.{Order, Task, Run, Trace, Compile, Show, Migrate, Exec, Eval, Gen, Share, Checkpoint, Move, Extend}
 use Rattle.pr_modes.specs.declared.outcomes.Outcome.{Outcome}
 use Rattle.pr_modes.specs.Owed.{IsOwed, outcome_faults}
 use Rattle.pr_modes.proofs.OwedLemmas.{owed_read}

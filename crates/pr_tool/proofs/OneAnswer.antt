@@ -1,6 +1,6 @@
 -- Words and files have one verdict at most.
 use Rattle.std.proofs.Common.{◌≡◌, ◌∙◌, ℕ, Bool, true, false, List, Option, Some, None, sym, ap}
-use Rattle.pr_words.specs.Lawful.{Order, Task, Run, Eval}
+use Rattle.pr_tool_words.specs.Lawful.{Order, Task, Run, Eval}
 use Rattle.pr_modes.specs.declared.outcomes.Outcome.{Outcome}
 use Rattle.pr_exec.specs.Executions.{Job, job}
 use Rattle.pr_programs.specs.Verdicts.{IsRunVerdict, IsUnbuiltVerdict}

@@ -3,7 +3,7 @@ use Rattle.std.specs.Prelude.{◌≡◌, ◌≢◌, ◌⊎◌, ℕ, List, Option
 use Rattle.pr_edge.specs.Count.{Rose}
 use Rattle.pr_edge.specs.Files.{Told}
 use Rattle.pr_edge.specs.Tape.{Tape}
-use Rattle.pr_words.specs.Lawful.{Order, Task, Run, Show, Migrate, Exec, Eval}
+use Rattle.pr_tool_words.specs.Lawful.{Order, Task, Run, Show, Migrate, Exec, Eval}
 use Rattle.pr_run.specs.Setting.{View}
 use Rattle.pr_modes.specs.declared.outcomes.Outcome.{Outcome}
 use Rattle.pr_modes.specs.declared.texts.Form.{Form}

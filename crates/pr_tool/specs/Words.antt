@@ -2,7 +2,7 @@
 use Rattle.std.specs.Prelude.{◌≡◌, ◌≢◌, ℕ, Bool, true, false, List, Option, Some, None, map, string_bytes, String, ⊤}
 use Rattle.std.specs.declared.alloc.Global.{Global}
 use Rattle.pr_code.specs.declared.fabrics.Fabric.{Fabric}
-use Rattle.pr_words.specs.Lawful.{Order, Task, Run, Show, Migrate, Exec, Eval, lawful_words}
+use Rattle.pr_tool_words.specs.Lawful.{Order, Task, Run, Show, Migrate, Exec, Eval, lawful_words}
 use Rattle.pr_tool.specs.declared.notes.Bounds.{Bounds}
 
 -- what is asked for, if the words are lawful

@@ -2,7 +2,7 @@
 ghost use Rattle.std.specs.Prelude.{◌≡◌, ◌≤◌, ℕ, List, Some, None, Option};
 ghost use Rattle.pr_edge.specs.Count.{Rose};
 ghost use Rattle.pr_run.specs.Setting.{view};
-ghost use Rattle.pr_words.specs.Orders.{order_of, mode_task};
+ghost use Rattle.pr_tool_words.specs.Orders.{order_of, mode_task};
 ghost use Rattle.pr_modes.specs.Owed.{IsOwed, outcome_faults};
 ghost use Rattle.pr_tool.specs.Words.{is_plain, bounds_for, IsOtherFile, IsLaterFile};
 ghost use Rattle.pr_tool.specs.Calls.{call, IsDone, IsTaskVerdict};
@@ -12,7 +12,7 @@ use pr_edge::{Shelf, Sink};
 use pr_exec::{Bench, exec};
 use pr_modes::{Form, Outcome, write_configuration};
 use pr_programs::{eval, refuse_run, run};
-use pr_words::{Fabric, Mode, Options, Words};
+use pr_tool_words::{Fabric, Mode, Options, Words};
 use std::alloc::Global;
 
 /// Whether runs of programs are built with these options: for the base fabric, and not narrowed.

@@ -5,7 +5,7 @@ ghost use Rattle.pr_modes.specs.Owed.{IsOwed};
 ghost use Rattle.pr_run.specs.Setting.{view};
 ghost use Rattle.pr_exec.specs.Executions.{job};
 ghost use Rattle.pr_programs.specs.Lines.{AreRunLines, AreEvalLines};
-ghost use Rattle.pr_words.specs.Lawful.{Order, Run, Eval};
+ghost use Rattle.pr_tool_words.specs.Lawful.{Order, Run, Eval};
 ghost use Rattle.pr_tool.specs.Answers.{answer_faults};
 ghost use Rattle.pr_tool.specs.Notes.{note_of};
 ghost use Rattle.pr_tool.specs.Noted.{GainsNote};
@@ -17,7 +17,7 @@ use crate::modes::{bounds_of, do_task};
 use crate::notes::{Bounds, put_note};
 use pr_edge::{Shelf, Sink};
 use pr_exec::Bench;
-use pr_words::{WordsFault, read_words};
+use pr_tool_words::{WordsFault, read_words};
 use std::alloc::Global;
 
 /// An answer, and the limits that its line tells.

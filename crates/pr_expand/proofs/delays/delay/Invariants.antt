@@ -1,5 +1,5 @@
 use Rattle.std.proofs.Common.{◌≡◌, ◌-◌}
-use Rattle.pr_equations.specs.Making.{delayed}
+use Rattle.pr_expand_spec.specs.Making.{delayed}
 use Rattle.pr_expand.specs.Code.{shapes_in}
 use Rattle.pr_expand.proofs.delays.delay.Given as goal
 

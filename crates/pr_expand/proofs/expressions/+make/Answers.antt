@@ -1,15 +1,15 @@
 use Rattle.std.proofs.Common.{◌≡◌, ◌∙◌, ◌<◌, ℕ, IfErr, IfOk, List, take, [], ◌∷◌, option_map, Some, None, length, arith, refl, sym, ap, subst}
-use Rattle.pr_names.specs.declared.names.Static.TheVariants.{Index}
-use Rattle.pr_names.specs.Names.{Known, known_in}
+use Rattle.pr_scope_names.specs.declared.names.Static.TheVariants.{Index}
+use Rattle.pr_scope_names.specs.Names.{Known, known_in}
 use Rattle.pr_flat.specs.declared.equations.Op.TheVariants as op
 use Rattle.pr_flat.specs.Shape.{EquationShape, shapes_of}
-use Rattle.pr_names.proofs.Seen.{names_on}
-use Rattle.pr_meaning.specs.Expressions.{constant_shift, operator}
-use Rattle.pr_equations.specs.declared.givens.Standing.TheVariants.{Own}
-use Rattle.pr_equations.specs.Making.{Made, with_equation}
-use Rattle.pr_equations.specs.Expressions.{Visible, assigned, declared_at_operator, place, plan_of}
-use Rattle.pr_equations.specs.Statements.{Progress, changes_of, number_after, with_index, with_standing}
-use Rattle.pr_lawful.proofs.Appending.{appends-length, appends-with, assigned-appends, body-appends}
+use Rattle.pr_scope_names.proofs.Seen.{names_on}
+use Rattle.pr_lang_meaning.specs.Expressions.{constant_shift, operator}
+use Rattle.pr_expand_spec.specs.declared.givens.Standing.TheVariants.{Own}
+use Rattle.pr_expand_spec.specs.Making.{Made, with_equation}
+use Rattle.pr_expand_spec.specs.Expressions.{Visible, assigned, declared_at_operator, place, plan_of}
+use Rattle.pr_expand_spec.specs.Statements.{Progress, changes_of, number_after, with_index, with_standing}
+use Rattle.pr_scope_facts.proofs.Appending.{appends-length, appends-with, assigned-appends, body-appends}
 use Rattle.pr_expand.specs.Code.{IsPast, all_of, longer, made_of, progress_of, shapes_in, streams_in}
 use Rattle.pr_expand.specs.Scopes.{functions_before, visible_in}
 use Rattle.pr_expand.proofs.Callables.{called_is, callee_known, entered}

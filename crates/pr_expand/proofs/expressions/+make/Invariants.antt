@@ -1,7 +1,7 @@
 use Rattle.std.proofs.Common.{◌≡◌, ◌-◌, ◌+◌, ◌*◌, drop, map, option_map}
-use Rattle.pr_names.specs.Names.{KeepsNames}
-use Rattle.pr_equations.specs.Expressions.{all_made, plan_of}
-use Rattle.pr_equations.specs.Statements.{changes_of, turns, with_index}
+use Rattle.pr_scope_names.specs.Names.{KeepsNames}
+use Rattle.pr_expand_spec.specs.Expressions.{all_made, plan_of}
+use Rattle.pr_expand_spec.specs.Statements.{changes_of, turns, with_index}
 use Rattle.pr_expand.specs.Code.{progress_of, shapes_in, streams_in}
 use Rattle.pr_expand.specs.Scopes.{visible_in}
 use Rattle.pr_expand.proofs.Layers.{with_given}

@@ -1,5 +1,5 @@
 use Rattle.std.proofs.Common.{◌≡◌, drop}
-use Rattle.pr_equations.specs.Programs.{no_streams, with_arguments}
+use Rattle.pr_expand_spec.specs.Programs.{no_streams, with_arguments}
 use Rattle.pr_expand.specs.Code.{shapes_in, streams_in}
 use Rattle.pr_expand.proofs.expressions.with_arguments.Given as goal
 

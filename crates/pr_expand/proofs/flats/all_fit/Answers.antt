@@ -1,6 +1,6 @@
 use Rattle.std.proofs.Common.{arith}
 use Rattle.pr_flat.specs.declared.equations.Operand.TheVariants.{Const}
-use Rattle.pr_lawful.specs.Numbers.{is_number}
+use Rattle.pr_scope_facts.specs.Numbers.{is_number}
 use Rattle.pr_expand.proofs.Fitting.{all_more}
 use Rattle.pr_expand.proofs.flats.all_fit.Goals as goal
 

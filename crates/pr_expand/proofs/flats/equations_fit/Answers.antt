@@ -3,7 +3,7 @@ use Rattle.std.specs.List.{list_all}
 use Rattle.std.proofs.lemmas.List.{take_all}
 use Rattle.pr_flat.specs.declared.equations.Equation.{Equation}
 use Rattle.pr_flat.specs.declared.equations.Operand.{Operand}
-use Rattle.pr_lawful.specs.Numbers.{is_number}
+use Rattle.pr_scope_facts.specs.Numbers.{is_number}
 use Rattle.pr_expand.proofs.Fitting.{all_more, fitting}
 use Rattle.pr_expand.proofs.flats.equations_fit.Goals as goal
 

@@ -1,7 +1,7 @@
 use Rattle.std.proofs.Common.{◌≡◌, true, take}
 use Rattle.std.specs.List.{list_all}
 use Rattle.pr_flat.specs.declared.equations.Equation.{Equation}
-use Rattle.pr_lawful.specs.Numbers.{is_number}
+use Rattle.pr_scope_facts.specs.Numbers.{is_number}
 use Rattle.pr_expand.proofs.flats.equations_fit.Given as goal
 
 abbrev pub invariant-loop-equation : goal.invariant-loop-equation

@@ -3,7 +3,7 @@ use Rattle.std.specs.List.{list_all}
 use Rattle.pr_flat.specs.declared.equations.Equation.{Equation}
 use Rattle.pr_flat.specs.declared.equations.Operand.{Operand}
 use Rattle.pr_flat.specs.Shape.{EquationShape, shapes_of}
-use Rattle.pr_lawful.specs.Numbers.{is_number}
+use Rattle.pr_scope_facts.specs.Numbers.{is_number}
 use Rattle.pr_expand.proofs.Fitting.{made_flat}
 use Rattle.pr_expand.proofs.Recurrences.{counted_number}
 use Rattle.pr_expand.proofs.flats.flatten.Goals as goal

@@ -1,6 +1,6 @@
 use Rattle.std.proofs.Common.{◌≡◌, ◌∙◌, ◌+◌, ◌<◌, ℕ, Some, length, get_or, refl, sym, ap, subst, arith, slice_get}
 use Rattle.std.proofs.lemmas.Option.{slice_get_read}
-use Rattle.pr_equations.specs.Programs.{items_change}
+use Rattle.pr_expand_spec.specs.Programs.{items_change}
 use Rattle.pr_expand.specs.Worlds.{world_at}
 use Rattle.pr_expand.proofs.Between.{items_step, walk_first, walk_free, walk_next}
 use Rattle.pr_expand.proofs.Limits.{item_within, passed_on}

@@ -1,5 +1,5 @@
 use Rattle.std.proofs.Common.{◌≡◌, drop}
-use Rattle.pr_equations.specs.Programs.{items_change, start}
+use Rattle.pr_expand_spec.specs.Programs.{items_change, start}
 use Rattle.pr_expand.specs.Scopes.{IsBefore}
 use Rattle.pr_expand.specs.Worlds.{world_at}
 use Rattle.pr_expand.proofs.Between.{WalkBefore}

@@ -1,6 +1,6 @@
 use Rattle.std.proofs.Common.{◌≡◌, take, map}
-use Rattle.pr_names.specs.Names.{known_in}
-use Rattle.pr_equations.specs.Making.{constant}
+use Rattle.pr_scope_names.specs.Names.{known_in}
+use Rattle.pr_expand_spec.specs.Making.{constant}
 use Rattle.pr_expand.proofs.items.entries_of.Given as goal
 
 abbrev pub invariant-loop-value : goal.invariant-loop-value

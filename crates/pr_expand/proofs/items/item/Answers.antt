@@ -1,6 +1,6 @@
 use Rattle.std.proofs.Common.{◌≡◌, Some, refl, subst}
 use Rattle.pr_lang.specs.declared.trees.Item.TheVariants as item
-use Rattle.pr_equations.specs.Expressions.{assigned}
+use Rattle.pr_expand_spec.specs.Expressions.{assigned}
 use Rattle.pr_expand.specs.Code.{progress_of}
 use Rattle.pr_expand.specs.Scopes.{visible_at, after}
 use Rattle.pr_lang.specs.declared.trees.Item.{Item}

@@ -1,8 +1,8 @@
 use Rattle.std.proofs.Common.{◌≡◌, ◌∙◌, ◌++◌, [], ◌∷◌, None, List, sym, ap}
 use Rattle.pr_flat.specs.declared.equations.Operand.{Operand}
-use Rattle.pr_equations.specs.Making.{Made}
-use Rattle.pr_equations.specs.Expressions.{Visible, assigned}
-use Rattle.pr_equations.specs.Statements.{named}
+use Rattle.pr_expand_spec.specs.Making.{Made}
+use Rattle.pr_expand_spec.specs.Expressions.{Visible, assigned}
+use Rattle.pr_expand_spec.specs.Statements.{named}
 use Rattle.pr_expand.specs.Code.{made_of, shapes_in, streams_in}
 use Rattle.pr_expand.specs.Scopes.{visible_at}
 use Rattle.pr_expand.proofs.Between.{scene_inside, visible_inside}

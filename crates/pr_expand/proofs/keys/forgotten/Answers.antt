@@ -1,6 +1,6 @@
 use Rattle.std.proofs.Common.{◌≡◌, ◌∙◌, ℕ, List, true, rules, sym, ap, subst}
-use Rattle.pr_names.specs.Names.{at_name, unbind}
-use Rattle.pr_names.proofs.Maps.{at_name_updates}
+use Rattle.pr_scope_names.specs.Names.{at_name, unbind}
+use Rattle.pr_scope_names.proofs.Maps.{at_name_updates}
 use Rattle.pr_expand.specs.Keys.{is_number}
 use Rattle.pr_expand.proofs.KeyLemmas.{forgotten_is}
 use Rattle.pr_expand.proofs.keys.forgotten.Goals as goal

@@ -1,6 +1,6 @@
 use Rattle.std.proofs.Common.{◌≡◌, ◌∙◌, ℕ, List, false, is_some, sym, ap}
-use Rattle.pr_names.specs.Names.{at_name}
-use Rattle.pr_names.proofs.Maps.{at_name_updates}
+use Rattle.pr_scope_names.specs.Names.{at_name}
+use Rattle.pr_scope_names.proofs.Maps.{at_name_updates}
 use Rattle.pr_expand.proofs.KeyLemmas.{noted_is}
 use Rattle.pr_expand.proofs.keys.noted.Goals as goal
 

@@ -1,5 +1,5 @@
 use Rattle.std.proofs.Common.{◌∙◌, Option, ap, arith, ℕ, List}
-use Rattle.pr_names.specs.Names.{at_name}
+use Rattle.pr_scope_names.specs.Names.{at_name}
 use Rattle.pr_flat.specs.Shape.{equation_shape, shapes_of}
 use Rattle.pr_expand.specs.Keys.{with_key}
 use Rattle.pr_expand.proofs.KeyLemmas.{found_more, found_there}

@@ -1,6 +1,6 @@
 use Rattle.std.proofs.Common.{◌≡◌, ◌∙◌, ◌-◌, arith, rules, sym, ap}
 use Rattle.pr_flat.specs.Shape.{shapes_of}
-use Rattle.pr_equations.specs.Making.{Equations, delay_from}
+use Rattle.pr_expand_spec.specs.Making.{Equations, delay_from}
 use Rattle.pr_expand.proofs.Arguments.{last_set}
 use Rattle.pr_expand.proofs.KeyLemmas.{found_declared}
 use Rattle.pr_expand.proofs.making.with_width.Goals as goal

@@ -1,5 +1,5 @@
 use Rattle.std.proofs.Common.{◌≡◌, drop}
-use Rattle.pr_equations.specs.Expressions.{beside}
+use Rattle.pr_expand_spec.specs.Expressions.{beside}
 use Rattle.pr_expand.specs.Code.{made_of}
 use Rattle.pr_expand.proofs.operands.beside_all.Given as goal
 

@@ -1,6 +1,6 @@
 use Rattle.std.proofs.Common.{◌≡◌, ◌∙◌, ap}
-use Rattle.pr_names.specs.Names.{known_in}
-use Rattle.pr_equations.specs.Expressions.{place, referred}
+use Rattle.pr_scope_names.specs.Names.{known_in}
+use Rattle.pr_expand_spec.specs.Expressions.{place, referred}
 use Rattle.pr_expand.specs.Code.{shapes_in, streams_in}
 use Rattle.pr_expand.proofs.operands.refer.Goals as goal
 

@@ -1,7 +1,7 @@
 use Rattle.std.proofs.Common.{◌++◌, ◌∷◌, [], ap, ◌∙◌, arith, cond}
-use Rattle.pr_account.specs.Account.{Cycle}
+use Rattle.pr_machine_account.specs.Account.{Cycle}
 use Rattle.pr_machine.specs.Stands.{account_of}
-use Rattle.pr_script.specs.Text.{log_line}
+use Rattle.pr_run_script.specs.Text.{log_line}
 use Rattle.pr_run.proofs.CycleLines.{cycle_line}
 use Rattle.pr_samples.proofs.ResultLemmas.{on_ok, on_err}
 use Rattle.pr_run.proofs.Lines.{done_cycle, begun_cycle, nothing_appended}

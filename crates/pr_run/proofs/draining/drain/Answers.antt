@@ -1,11 +1,11 @@
 use Rattle.std.proofs.Common.{◌≡◌, ℕ, ◌+◌, ◌++◌, replicate, arith, ap, sym, ◌∙◌, subst}
-use Rattle.pr_account.specs.Account.{Take, account}
+use Rattle.pr_machine_account.specs.Account.{Take, account}
 use Rattle.pr_conf.specs.declared.configurations.Configuration.{Configuration}
 use Rattle.pr_conf.specs.Configuration.{shape_of}
 use Rattle.pr_conf.specs.Rules.{bytes_in}
 use Rattle.pr_conf.specs.Through.{output_widths}
 use Rattle.pr_machine.specs.Stands.{History}
-use Rattle.pr_script.specs.Script.{waiting}
+use Rattle.pr_run_script.specs.Script.{waiting}
 use Rattle.pr_run.specs.Setting.{stages_of}
 use Rattle.pr_run.specs.Turns.{HasDone}
 use Rattle.pr_run.proofs.Lines.{takes_more, takes_front, begun_within, kept_on}

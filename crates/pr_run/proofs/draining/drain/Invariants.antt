@@ -1,5 +1,5 @@
 use Rattle.std.proofs.Common.{◌≡◌, ◌+◌, ◌≤◌, ◌++◌, length, replicate}
-use Rattle.pr_account.specs.Account.{Take}
+use Rattle.pr_machine_account.specs.Account.{Take}
 use Rattle.pr_machine.specs.Stands.{History, waiting_results, IsKept}
 use Rattle.pr_run.specs.Setting.{Setting}
 use Rattle.pr_run.specs.Turns.{HasDone}

@@ -1,6 +1,6 @@
 use Rattle.std.proofs.Common.{◌≡◌, map, ap, ◌∙◌}
 use Rattle.std.proofs.lemmas.Bool.{and_parts}
-use Rattle.pr_account.specs.Replies.{taken_now}
+use Rattle.pr_machine_account.specs.Replies.{taken_now}
 use Rattle.pr_conf.specs.Shape.{output_shape}
 use Rattle.pr_conf.specs.Through.{steps_of, tapped, output_widths}
 use Rattle.pr_machine.specs.Stands.{account_of}

@@ -1,6 +1,6 @@
 use Rattle.std.proofs.Common.{◌≡◌, sym, ◌∙◌, subst}
 use Rattle.pr_samples.specs.declared.feed.Got.{Got}
-use Rattle.pr_script.specs.Script.{fed}
+use Rattle.pr_run_script.specs.Script.{fed}
 use Rattle.pr_run.specs.Setting.{view, stages_of}
 use Rattle.pr_run.specs.Turns.{IsOn}
 use Rattle.pr_run.proofs.NextSamples.{IsNext, is_sample_end}

@@ -3,7 +3,7 @@ use Rattle.pr_conf.specs.declared.configurations.Configuration.{Configuration}
 use Rattle.pr_conf.specs.Configuration.{shape_of}
 use Rattle.pr_conf.specs.Through.{output_widths}
 use Rattle.pr_samples.specs.Stall.{turns_left}
-use Rattle.pr_script.specs.Script.{Run, begun, turns}
+use Rattle.pr_run_script.specs.Script.{Run, begun, turns}
 use Rattle.pr_run.specs.Setting.{Setting, IsSet, view, setting_of, stages_of}
 use Rattle.pr_run.specs.Turns.{IsCut}
 use Rattle.pr_run.specs.Runs.{IsFinished, script_run}

@@ -3,7 +3,7 @@ use Rattle.pr_control.specs.Counts.{drain}
 use Rattle.pr_samples.specs.Stall.{turns_left}
 use Rattle.pr_samples.specs.Feed.{widths_of}
 use Rattle.pr_machine.specs.Stands.{conf_of, stripes_of, time_of}
-use Rattle.pr_script.specs.Script.{begun, turns}
+use Rattle.pr_run_script.specs.Script.{begun, turns}
 use Rattle.pr_run.specs.Setting.{view, setting_of, stall_turns}
 use Rattle.pr_run.specs.Turns.{IsOn}
 use Rattle.pr_run.proofs.runs.take_turns.Given as goal

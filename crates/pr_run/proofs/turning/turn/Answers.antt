@@ -1,5 +1,5 @@
 use Rattle.std.proofs.Common.{refl, ◌∙◌}
-use Rattle.pr_script.specs.Script.{fed, emptied}
+use Rattle.pr_run_script.specs.Script.{fed, emptied}
 use Rattle.pr_run.specs.Setting.{view, stages_of, held_of}
 use Rattle.pr_run.proofs.Closing.{turned_steps, turned_fed, on_drained, cut_drained}
 use Rattle.pr_run.proofs.turning.turn.Goals as goal

@@ -1,5 +1,5 @@
 use Rattle.std.proofs.Common.{◌≡◌, drop, map}
-use Rattle.pr_names.specs.Names.{known_in}
+use Rattle.pr_scope_names.specs.Names.{known_in}
 use Rattle.pr_scope.specs.Expressions.{past_of, pasts_of}
 use Rattle.pr_scope.proofs.expressions.+past.Given as goal
 

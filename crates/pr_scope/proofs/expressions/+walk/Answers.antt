@@ -1,6 +1,6 @@
 use Rattle.std.proofs.Common.{◌∙◌, ap, sym}
 use Rattle.pr_lang.specs.declared.trees.Expr.{Expr}
-use Rattle.pr_names.specs.Names.{known_in, streams_in}
+use Rattle.pr_scope_names.specs.Names.{known_in, streams_in}
 use Rattle.pr_scope.specs.Expressions.{walk_of}
 use Rattle.pr_scope.proofs.Walks.{call_law, call_met, call_stopped}
 use Rattle.pr_scope.proofs.expressions.+walk.Goals as goal

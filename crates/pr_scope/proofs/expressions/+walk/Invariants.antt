@@ -1,5 +1,5 @@
 use Rattle.std.proofs.Common.{◌≡◌, ◌≤◌, drop, map}
-use Rattle.pr_names.specs.Names.{known_in, streams_in}
+use Rattle.pr_scope_names.specs.Names.{known_in, streams_in}
 use Rattle.pr_scope.specs.Expressions.{reading, walks_of}
 use Rattle.pr_scope.proofs.expressions.+walk.Given as goal
 

@@ -1,7 +1,7 @@
 use Rattle.std.proofs.Common.{◌≡◌, ◌∙◌, true, None, ap, sym, rules}
 use Rattle.std.proofs.lemmas.Bool.{cond-true}
-use Rattle.pr_names.specs.Amounts.{Amount}
-use Rattle.pr_names.specs.Names.{known_in}
+use Rattle.pr_scope_names.specs.Amounts.{Amount}
+use Rattle.pr_scope_names.specs.Names.{known_in}
 use Rattle.pr_scope.specs.Expressions.{is_shift, reading}
 use Rattle.pr_scope.proofs.Walks.{reading_amount}
 use Rattle.pr_scope.proofs.expressions.shift_amount.Goals as goal

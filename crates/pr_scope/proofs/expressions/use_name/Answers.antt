@@ -1,4 +1,4 @@
-use Rattle.pr_names.specs.Names.{held, streams_in}
+use Rattle.pr_scope_names.specs.Names.{held, streams_in}
 use Rattle.pr_scope.specs.Expressions.{is_instance}
 use Rattle.pr_scope.proofs.expressions.use_name.Goals as goal
 

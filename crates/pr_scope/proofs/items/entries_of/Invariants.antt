@@ -1,7 +1,7 @@
 use Rattle.std.proofs.Common.{◌≡◌, ◌++◌, drop, map, Ok}
-use Rattle.pr_names.specs.Outcomes.{all_of, and_then}
-use Rattle.pr_names.specs.Names.{known_in}
-use Rattle.pr_names.specs.Constants.{constant_of}
+use Rattle.pr_scope_names.specs.Outcomes.{all_of, and_then}
+use Rattle.pr_scope_names.specs.Names.{known_in}
+use Rattle.pr_scope_names.specs.Constants.{constant_of}
 use Rattle.pr_scope.proofs.items.entries_of.Given as goal
 
 abbrev pub invariant-loop-value : goal.invariant-loop-value

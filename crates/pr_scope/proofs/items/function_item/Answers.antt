@@ -1,5 +1,5 @@
 use Rattle.std.proofs.Common.{◌∙◌, ap, rules}
-use Rattle.pr_names.specs.Names.{Known}
+use Rattle.pr_scope_names.specs.Names.{Known}
 use Rattle.pr_scope.proofs.items.function_item.Goals as goal
 
 pub set-requires-clause-free : goal.set-requires-clause-free

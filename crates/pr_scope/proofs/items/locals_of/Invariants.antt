@@ -1,5 +1,5 @@
 use Rattle.std.proofs.Common.{◌≡◌, drop, None}
-use Rattle.pr_names.specs.Names.{known_in, streams_in}
+use Rattle.pr_scope_names.specs.Names.{known_in, streams_in}
 use Rattle.pr_scope.specs.Walk.{params_from}
 use Rattle.pr_scope.proofs.items.locals_of.Given as goal
 

@@ -1,5 +1,5 @@
 use Rattle.std.proofs.Common.{Err, Ok}
-use Rattle.pr_names.specs.Names.{known_in, streams_in}
+use Rattle.pr_scope_names.specs.Names.{known_in, streams_in}
 use Rattle.pr_scope.specs.Statements.{Progress}
 use Rattle.pr_scope.proofs.Walks.{body_met}
 use Rattle.pr_scope.proofs.items.walk_body.Goals as goal

@@ -1,5 +1,5 @@
 use Rattle.std.proofs.Common.{◌≡◌, drop}
-use Rattle.pr_names.specs.Names.{known_in}
+use Rattle.pr_scope_names.specs.Names.{known_in}
 use Rattle.pr_scope.specs.Statements.{stmts_past_of}
 use Rattle.pr_scope.proofs.statements.+stmt_past.Given as goal
 

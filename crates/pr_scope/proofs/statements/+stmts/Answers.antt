@@ -1,12 +1,12 @@
 use Rattle.std.proofs.Common.{◌≡◌, ◌∙◌, ℕ, ap, arith, map, Result, Ok, rules}
 use Rattle.pr_lang.specs.declared.trees.Stmt.{Stmt}
-use Rattle.pr_names.specs.declared.counts.Count.{Count}
-use Rattle.pr_names.specs.declared.names.Static.TheVariants.{Index}
-use Rattle.pr_names.specs.declared.rules.Offence.{Offence}
-use Rattle.pr_names.specs.Outcomes.{IsOffence}
-use Rattle.pr_names.specs.Names.{Known, known_in, streams_in}
+use Rattle.pr_scope_names.specs.declared.counts.Count.{Count}
+use Rattle.pr_scope_names.specs.declared.names.Static.TheVariants.{Index}
+use Rattle.pr_scope_names.specs.declared.rules.Offence.{Offence}
+use Rattle.pr_scope_names.specs.Outcomes.{IsOffence}
+use Rattle.pr_scope_names.specs.Names.{Known, known_in, streams_in}
 use Rattle.pr_scope.specs.Statements.{Progress, change_of, for_ready, turn}
-use Rattle.pr_names.proofs.Seen.{index_over, known_kept, names_on}
+use Rattle.pr_scope_names.proofs.Seen.{index_over, known_kept, names_on}
 use Rattle.pr_scope.proofs.Walks.{for_law, for_met, gives_at, let_law, rec_law, stmts_step, stmts_stop, turns_step, turns_stop}
 use Rattle.pr_scope.proofs.statements.+stmts.Goals as goal
 

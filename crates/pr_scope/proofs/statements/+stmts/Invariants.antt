@@ -1,5 +1,5 @@
 use Rattle.std.proofs.Common.{◌≡◌, ◌≤◌, ◌-◌, drop, map}
-use Rattle.pr_names.specs.Names.{KeepsNames, horizon_in, known_in, streams_in}
+use Rattle.pr_scope_names.specs.Names.{KeepsNames, horizon_in, known_in, streams_in}
 use Rattle.pr_scope.specs.Statements.{change_of, changes_of, turn, turns}
 use Rattle.pr_scope.proofs.statements.+stmts.Given as goal
 

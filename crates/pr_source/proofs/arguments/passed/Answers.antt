@@ -1,7 +1,7 @@
 use Rattle.std.proofs.Common.{◌≡◌, ◌∙◌, ℕ, Option, Some, ap, sym}
 use Rattle.pr_flat.specs.Forms.{Stream}
-use Rattle.pr_meaning.specs.Programs as programs
-use Rattle.pr_columns.specs.Columns.{stream_of}
+use Rattle.pr_lang_meaning.specs.Programs as programs
+use Rattle.pr_source_columns.specs.Columns.{stream_of}
 use Rattle.pr_source.proofs.arguments.passed.Goals as goal
 
 pub returns-in_ok-column-in-Some : goal.returns-in_ok-column-in-Some

@@ -1,4 +1,4 @@
-use Rattle.pr_meaning.specs.Streams.{no_streams}
+use Rattle.pr_lang_meaning.specs.Streams.{no_streams}
 use Rattle.pr_source.proofs.Calls.{mismatched}
 use Rattle.pr_source.proofs.arguments.with_arguments.Goals as goal
 

@@ -1,8 +1,8 @@
 use Rattle.std.proofs.Common.{◌≡◌, drop, map}
-use Rattle.pr_meaning.specs.Streams.{no_streams}
-use Rattle.pr_meaning.specs.Programs as programs
-use Rattle.pr_columns.specs.Columns.{stream_of}
-use Rattle.pr_columns.specs.Environments.{streams_in}
+use Rattle.pr_lang_meaning.specs.Streams.{no_streams}
+use Rattle.pr_lang_meaning.specs.Programs as programs
+use Rattle.pr_source_columns.specs.Columns.{stream_of}
+use Rattle.pr_source_columns.specs.Environments.{streams_in}
 use Rattle.pr_source.proofs.arguments.with_arguments.Given as goal
 
 abbrev pub invariant-loop-i : goal.invariant-loop-i

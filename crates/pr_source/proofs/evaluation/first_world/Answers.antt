@@ -1,5 +1,5 @@
 use Rattle.std.proofs.Common.{map}
-use Rattle.pr_columns.specs.Columns.{stream_of}
+use Rattle.pr_source_columns.specs.Columns.{stream_of}
 use Rattle.pr_source.proofs.Defined.{visible_first}
 use Rattle.pr_source.proofs.evaluation.first_world.Goals as goal
 

@@ -1,6 +1,6 @@
 use Rattle.std.proofs.Common.{◌∙◌, ◌+◌, ◌<◌, length, drop, Option, option_map, IfSome, sym, ap, subst, arith}
 use Rattle.std.specs.Option.{option_and_then}
-use Rattle.pr_meaning.specs.Programs as programs
+use Rattle.pr_lang_meaning.specs.Programs as programs
 use Rattle.pr_source.specs.declared.worlds.World.{World}
 use Rattle.pr_source.specs.Worlds.{IsWorld, world_of}
 use Rattle.pr_source.proofs.ItemSteps.{items_step}

@@ -1,5 +1,5 @@
 use Rattle.std.proofs.Common.{◌≡◌, drop}
-use Rattle.pr_meaning.specs.Programs.{items_change, start}
+use Rattle.pr_lang_meaning.specs.Programs.{items_change, start}
 use Rattle.pr_source.specs.Worlds.{IsWorld, world_of}
 use Rattle.pr_source.proofs.evaluation.outputs_of.Given as goal
 

@@ -1,6 +1,6 @@
 use Rattle.std.proofs.Common.{◌≡◌, get_or, map, take}
 use Rattle.pr_flat.specs.Forms.{Stream}
-use Rattle.pr_columns.specs.Columns.{stream_of}
+use Rattle.pr_source_columns.specs.Columns.{stream_of}
 use Rattle.pr_source.proofs.evaluation.row.Given as goal
 
 abbrev pub invariant-loop-column : goal.invariant-loop-column

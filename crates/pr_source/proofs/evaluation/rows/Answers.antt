@@ -1,7 +1,7 @@
 use Rattle.std.proofs.Common.{◌∙◌, ◌++◌, ℕ, List, [], ◌∷◌, get_or, map, sym, arith}
 use Rattle.std.proofs.lemmas.List.FromFn.{map-range_with_len_more}
 use Rattle.pr_flat.specs.Forms.{Stream}
-use Rattle.pr_columns.specs.Columns.{stream_of}
+use Rattle.pr_source_columns.specs.Columns.{stream_of}
 use Rattle.pr_source.proofs.evaluation.rows.Goals as goal
 
 pub loop-sample-preserved : goal.loop-sample-preserved

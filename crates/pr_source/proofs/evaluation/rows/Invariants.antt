@@ -1,6 +1,6 @@
 use Rattle.std.proofs.Common.{◌≡◌, map}
-use Rattle.pr_meaning.specs.Programs.{rows_of}
-use Rattle.pr_columns.specs.Columns.{stream_of}
+use Rattle.pr_lang_meaning.specs.Programs.{rows_of}
+use Rattle.pr_source_columns.specs.Columns.{stream_of}
 use Rattle.pr_source.proofs.evaluation.rows.Given as goal
 
 abbrev pub invariant-loop-sample : goal.invariant-loop-sample

@@ -1,5 +1,5 @@
 use Rattle.std.proofs.Common.{◌≡◌, ◌++◌, ℕ, List, drop, option_map}
-use Rattle.pr_meaning.specs.Programs.{entries_of}
+use Rattle.pr_lang_meaning.specs.Programs.{entries_of}
 use Rattle.pr_source.specs.Scopes.{visible_at}
 use Rattle.pr_source.proofs.items.entries_at.Given as goal
 

@@ -1,7 +1,7 @@
 use Rattle.std.proofs.Common.{◌≡◌, ◌∙◌, ◌+◌, ◌<◌, ◌^◌, ℕ, List, [], ◌∷◌, ◌++◌, get_or, take, ap, sym, subst, arith}
 use Rattle.std.proofs.lemmas.List.{map_more}
 use Rattle.std.proofs.lemmas.List.Elements.{All-push, All-same}
-use Rattle.pr_meaning.specs.Programs.{column}
+use Rattle.pr_lang_meaning.specs.Programs.{column}
 use Rattle.pr_source.proofs.items.numbers_of.Goals as goal
 
 pub loop-sample-preserved : goal.loop-sample-preserved

@@ -1,6 +1,6 @@
 use Rattle.std.proofs.Common.{◌≡◌, ◌<◌, ◌^◌, take}
 use Rattle.std.specs.List.{All}
-use Rattle.pr_meaning.specs.Programs.{column}
+use Rattle.pr_lang_meaning.specs.Programs.{column}
 use Rattle.pr_source.proofs.items.numbers_of.Given as goal
 
 abbrev pub invariant-loop-sample : goal.invariant-loop-sample

@@ -1,7 +1,7 @@
 use Rattle.std.proofs.Common.{◌≡◌, ◌+◌, ◌*◌, Some, drop, map}
 use Rattle.std.specs.List.{list_any}
-use Rattle.pr_meaning.proofs.Calm.{stmts_look_back}
-use Rattle.pr_meaning.proofs.EvenExpressions.{looks_back}
+use Rattle.pr_lang_meaning.proofs.Calm.{stmts_look_back}
+use Rattle.pr_lang_meaning.proofs.EvenExpressions.{looks_back}
 use Rattle.pr_source.specs.Scopes.{past_in}
 use Rattle.pr_source.proofs.Weights.{weight, weights, stmt_weight, stmt_weights, item_weight, before_weight}
 use Rattle.pr_source.proofs.looks.+looks.Given as goal

@@ -1,5 +1,5 @@
 use Rattle.std.proofs.Common.{◌∙◌, Some, arith}
-use Rattle.pr_columns.specs.Columns.{stream_of}
+use Rattle.pr_source_columns.specs.Columns.{stream_of}
 use Rattle.pr_source.proofs.Meanings.{beside_step}
 use Rattle.pr_source.proofs.parts.below.Goals as goal
 

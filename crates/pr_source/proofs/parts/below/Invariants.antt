@@ -1,7 +1,7 @@
 use Rattle.std.proofs.Common.{◌≡◌, drop, map, Option, option_map}
 use Rattle.pr_flat.specs.Forms.{Stream}
-use Rattle.pr_meaning.specs.Expressions.{beside}
-use Rattle.pr_columns.specs.Columns.{Gives, stream_of}
+use Rattle.pr_lang_meaning.specs.Expressions.{beside}
+use Rattle.pr_source_columns.specs.Columns.{Gives, stream_of}
 use Rattle.pr_source.proofs.parts.below.Given as goal
 
 abbrev pub invariant-loop-part : goal.invariant-loop-part

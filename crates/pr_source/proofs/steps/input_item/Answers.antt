@@ -1,6 +1,6 @@
 use Rattle.std.proofs.Common.{◌∙◌, option_map, sym, ap}
 use Rattle.pr_base.specs.declared.numbers.Width.{Width}
-use Rattle.pr_columns.specs.Columns.{stream_of}
+use Rattle.pr_source_columns.specs.Columns.{stream_of}
 use Rattle.pr_source.proofs.Fed.{inputs_room}
 use Rattle.pr_source.proofs.ItemSteps.{input_fed, input_none, input_step}
 use Rattle.pr_source.proofs.steps.input_item.Goals as goal

@@ -1,6 +1,6 @@
 use Rattle.std.proofs.Common.{◌∙◌, Option, option_map, sym, ap}
-use Rattle.pr_columns.specs.declared.columns.Column.{Column}
-use Rattle.pr_columns.specs.Columns.{stream_of}
+use Rattle.pr_source_columns.specs.declared.columns.Column.{Column}
+use Rattle.pr_source_columns.specs.Columns.{stream_of}
 use Rattle.pr_source.proofs.ItemSteps.{output_step}
 use Rattle.pr_source.proofs.steps.output_item.Goals as goal
 

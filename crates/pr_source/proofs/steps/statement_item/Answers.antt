@@ -1,6 +1,6 @@
 use Rattle.std.proofs.Common.{◌∙◌, Option, option_map, refl, sym, ap}
-use Rattle.pr_columns.specs.declared.environment.Environment.{Environment}
-use Rattle.pr_columns.specs.Environments.{streams_in}
+use Rattle.pr_source_columns.specs.declared.environment.Environment.{Environment}
+use Rattle.pr_source_columns.specs.Environments.{streams_in}
 use Rattle.pr_source.proofs.ItemSteps.{statement_step}
 use Rattle.pr_source.proofs.steps.statement_item.Goals as goal
 

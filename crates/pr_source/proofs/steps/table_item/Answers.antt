@@ -1,7 +1,7 @@
 use Rattle.std.proofs.Common.{◌≡◌, ◌∙◌, ℕ, List, Some, Option, option_map, Vec, Global, sym, ap}
 use Rattle.pr_lang.specs.declared.trees.Fixed.{Fixed}
-use Rattle.pr_names.specs.declared.names.Static.TheVariants.{Table}
-use Rattle.pr_meaning.specs.Programs as programs
+use Rattle.pr_scope_names.specs.declared.names.Static.TheVariants.{Table}
+use Rattle.pr_lang_meaning.specs.Programs as programs
 use Rattle.pr_source.specs.declared.definitions.Entry.{Entry}
 use Rattle.pr_source.specs.Scopes.{entries_in, static_entry, visible_at, with_entry}
 use Rattle.pr_source.proofs.ItemSteps.{table_step}

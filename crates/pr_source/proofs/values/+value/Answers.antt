@@ -5,22 +5,22 @@ use Rattle.std.proofs.lemmas.Bool.{ltb-true}
 use Rattle.std.proofs.lemmas.List.{map-append}
 use Rattle.std.proofs.lemmas.List.Elements.{All-push, All-same}
 use Rattle.pr_flat.specs.Forms.{Stream}
-use Rattle.pr_meaning.specs.Expressions.{Function, Visible, concatenated, meaning}
+use Rattle.pr_lang_meaning.specs.Expressions.{Function, Visible, concatenated, meaning}
 use Rattle.std.specs.Option.{option_and_then}
-use Rattle.pr_columns.specs.declared.columns.Column.{Column}
-use Rattle.pr_columns.specs.Columns.{Gives, stream_of}
-use Rattle.pr_columns.specs.Readings.{sources_by, sources_of}
+use Rattle.pr_source_columns.specs.declared.columns.Column.{Column}
+use Rattle.pr_source_columns.specs.Columns.{Gives, stream_of}
+use Rattle.pr_source_columns.specs.Readings.{sources_by, sources_of}
 use Rattle.pr_source.specs.Scopes.{has_lawful_params, is_earlier, past_in, visible_of}
 use Rattle.pr_source.proofs.Sampled.{begun, even_at, even_forms, form_is, next_bound, sample_is}
 use Rattle.pr_source.proofs.Weights.{before_weight, body_parts, call_parts, cat_parts, condition_part, earlier_part, first_part, for_part, left_part, let_part, not_part, paren_part, part_weight, rec_part, right_part, second_part, slice_part, stmt_part}
 use Rattle.pr_source.proofs.Meanings.{two_met, three_met, call_is, cat_is, parts_step}
-use Rattle.pr_meaning.specs.Streams.{Streams}
-use Rattle.pr_meaning.specs.Streams as meant
-use Rattle.pr_meaning.specs.Statements.{body_of, changes_of, holds, number_at, recurring, width_of, with_known}
+use Rattle.pr_lang_meaning.specs.Streams.{Streams}
+use Rattle.pr_lang_meaning.specs.Streams as meant
+use Rattle.pr_lang_meaning.specs.Statements.{body_of, changes_of, holds, number_at, recurring, width_of, with_known}
 use Rattle.pr_source.specs.declared.definitions.Callee.{Callee}
 use Rattle.pr_source.specs.declared.definitions.Callee.TheVariants as callee
 use Rattle.pr_base.specs.declared.numbers.Width.{Width}
-use Rattle.pr_columns.specs.Environments.{bound_of, streams_in}
+use Rattle.pr_source_columns.specs.Environments.{bound_of, streams_in}
 use Rattle.pr_source.proofs.Visible.{called_is, called_item, no_item}
 use Rattle.pr_source.proofs.Changes.{let_is, rec_is, turns_step}
 use Rattle.pr_source.proofs.Runs.{body_is, least_end, least_step, least_stop, recurring_more, undeclared}

@@ -1,13 +1,13 @@
 use Rattle.std.proofs.Common.{◌≡◌, ◌<◌, ◌^◌, ◌≤◌, ◌+◌, ◌-◌, ◌*◌, ◌++◌, ℕ, List, Some, drop, map, option_map}
 use Rattle.std.specs.List.{All}
 use Rattle.pr_flat.specs.Forms.{Stream}
-use Rattle.pr_meaning.specs.Streams.{all_parts}
-use Rattle.pr_meaning.specs.Expressions.{sense_of, senses}
-use Rattle.pr_meaning.specs.Statements.{body_of, changes_of, holds, recurring, turns, with_known}
-use Rattle.pr_columns.specs.Columns.{stream_of}
-use Rattle.pr_columns.specs.Environments.{bound_of, streams_in}
+use Rattle.pr_lang_meaning.specs.Streams.{all_parts}
+use Rattle.pr_lang_meaning.specs.Expressions.{sense_of, senses}
+use Rattle.pr_lang_meaning.specs.Statements.{body_of, changes_of, holds, recurring, turns, with_known}
+use Rattle.pr_source_columns.specs.Columns.{stream_of}
+use Rattle.pr_source_columns.specs.Environments.{bound_of, streams_in}
 use Rattle.pr_source.specs.Least.{least_on}
-use Rattle.pr_columns.specs.Readings.{sources_of}
+use Rattle.pr_source_columns.specs.Readings.{sources_of}
 use Rattle.pr_source.specs.Scopes.{visible_of}
 use Rattle.pr_source.proofs.Sampled.{begun}
 use Rattle.pr_source.proofs.Weights.{weight, weights, stmt_weight, stmt_weights, item_weight, before_weight}

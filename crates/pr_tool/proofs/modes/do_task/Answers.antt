@@ -1,6 +1,6 @@
 use Rattle.std.proofs.Common.{Bool, sym, subst}
-use Rattle.pr_words.specs.declared.modes.Mode.{Mode}
-use Rattle.pr_words.specs.Orders.{mode_task, order_of}
+use Rattle.pr_tool_words.specs.declared.modes.Mode.{Mode}
+use Rattle.pr_tool_words.specs.Orders.{mode_task, order_of}
 use Rattle.pr_modes.specs.declared.outcomes.Outcome.{Outcome}
 use Rattle.pr_exec.specs.Executions.{job}
 use Rattle.pr_modes.specs.Owed.{IsOwed, outcome_faults}

@@ -1,5 +1,5 @@
 use Rattle.std.proofs.Common.{sym, subst, Some}
-use Rattle.pr_words.specs.Orders.{order_of, mode_task}
+use Rattle.pr_tool_words.specs.Orders.{order_of, mode_task}
 use Rattle.pr_modes.specs.Owed.{IsOwed}
 use Rattle.pr_tool.specs.declared.answers.Answer.{Answer}
 use Rattle.pr_tool.specs.Answers.{answer_faults}

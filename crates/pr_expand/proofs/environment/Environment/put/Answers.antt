@@ -1,4 +1,4 @@
-use Rattle.pr_names.proofs.Maps.{at_name_updates}
+use Rattle.pr_scope_names.proofs.Maps.{at_name_updates}
 use Rattle.pr_expand.proofs.environment.Environment.put.Goals as goal
 
 pub returns : goal.returns

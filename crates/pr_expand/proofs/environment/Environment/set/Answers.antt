@@ -1,6 +1,6 @@
 use Rattle.std.proofs.Common.{◌≡◌, ◌∙◌, ℕ, List, ap}
 use Rattle.std.proofs.lemmas.Result.{on_ok_weaker}
-use Rattle.pr_names.specs.Names.{at_name, bind}
+use Rattle.pr_scope_names.specs.Names.{at_name, bind}
 use Rattle.pr_expand.specs.Code.{streams_by}
 use Rattle.pr_expand.proofs.Placed.{with_place}
 use Rattle.pr_expand.proofs.environment.Environment.set.Goals as goal

@@ -1,6 +1,6 @@
 use Rattle.std.proofs.Common.{◌≡◌, ℕ, List, None, subst}
-use Rattle.pr_names.specs.Names.{at_name, unbind}
-use Rattle.pr_names.proofs.Maps.{at_name_updates}
+use Rattle.pr_scope_names.specs.Names.{at_name, unbind}
+use Rattle.pr_scope_names.proofs.Maps.{at_name_updates}
 use Rattle.pr_expand.proofs.environment.Environment.take.Goals as goal
 
 pub returns-in-None-clause-rest : goal.returns-in-None-clause-rest

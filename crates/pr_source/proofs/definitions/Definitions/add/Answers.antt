@@ -1,6 +1,6 @@
 use Rattle.std.proofs.Common.{◌∙◌}
 use Rattle.std.proofs.lemmas.Result.{on_ok_weaker}
-use Rattle.pr_names.specs.Names.{at_name}
+use Rattle.pr_scope_names.specs.Names.{at_name}
 use Rattle.pr_source.proofs.Visible.{entry_added}
 use Rattle.pr_source.proofs.definitions.Definitions.add.Goals as goal
 

@@ -1,5 +1,5 @@
 use Rattle.std.proofs.Common.{◌≡◌, ◌∙◌, ℕ, List, [], Option, Vec, Global, ap}
-use Rattle.pr_names.proofs.Maps.{at_name_empty}
+use Rattle.pr_scope_names.proofs.Maps.{at_name_empty}
 use Rattle.pr_source.specs.declared.definitions.Entry.{Entry}
 use Rattle.pr_source.specs.declared.definitions.Definitions.{Definitions}
 use Rattle.pr_source.specs.Scopes.{all_entries, entries_in, signed_entry, with_entry}

@@ -1,5 +1,0 @@
-use Rattle.pr_alike.proofs.Meanings.{same-has_widths, same-out}
-use Rattle.pr_alike.proofs.meaning_law.Goals as goal
-
-pub returns : goal.returns
-returns c = record { widths = same-has_widths; rows = same-out }

@@ -1,5 +1,0 @@
-use Rattle.pr_alike.proofs.Walks.{same-offence, same-inputs}
-use Rattle.pr_alike.proofs.walk_law.Goals as goal
-
-pub returns : goal.returns
-returns c = record { offence = same-offence; inputs = same-inputs }

@@ -1,0 +1,18 @@
+use Rattle.std.proofs.Common.{lit<}
+use Rattle.pr_machine.proofs.FirstStates.{states_whole, states_count, states_first, some_sample, some_result}
+use Rattle.pr_machine.proofs.buffers.buffers_for.Goals as goal
+
+pub make-requires : goal.make-requires
+make-requires g c = (lit< tt, states_whole g.row.N g.row.P c.args.conf.now c.deref.result.now c.in_ok-states.states.items c.deref-2.result.now c.deref.ensures.value c.in_ok-states.ensures c.deref-2.ensures.value)
+
+pub make-requires-2-clause-low : goal.make-requires-2-clause-low
+make-requires-2-clause-low g c = some_sample g.row.N g.row.P c.args.conf.now c.sample_bytes.result c.sample_bytes.ensures.bytes
+
+pub make-requires-3-clause-low : goal.make-requires-3-clause-low
+make-requires-3-clause-low g c = some_result g.row.N g.row.P c.args.conf.now c.result_bytes.result c.result_bytes.ensures.bytes
+
+pub returns-clause-states : goal.returns-clause-states
+returns-clause-states g c = states_first g.row.N g.row.P c.args.conf.now c.deref.result.now c.in_ok-states.states.items c.deref-2.result.now c.in_ok-store.store c.deref.ensures.value c.in_ok-states.ensures c.deref-2.ensures.value c.in_ok-store.ensures.rows
+
+pub returns-clause-rows : goal.returns-clause-rows
+returns-clause-rows g c = states_count g.row.N g.row.P c.args.conf.now c.deref.result.now c.in_ok-states.states.items c.deref-2.result.now c.in_ok-store.store c.deref.ensures.value c.in_ok-states.ensures c.deref-2.ensures.value c.in_ok-store.ensures.rows

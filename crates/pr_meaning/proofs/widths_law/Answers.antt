@@ -1,5 +1,0 @@
-use Rattle.pr_meaning.proofs.EvenPrograms.{same-has_widths, same-forms_of}
-use Rattle.pr_meaning.proofs.widths_law.Goals as goal
-
-pub returns : goal.returns
-returns c = record { widths = same-has_widths; forms = same-forms_of }

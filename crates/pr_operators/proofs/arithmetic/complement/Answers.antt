@@ -1,6 +1,0 @@
-use Rattle.pr_operators.proofs.Values.{point_bits}
-use Rattle.pr_operators.proofs.SumLemmas.{wrapped_complement}
-use Rattle.pr_operators.proofs.arithmetic.complement.Goals as goal
-
-pub returns : goal.returns
-returns c = wrapped_complement c.args.a c.whole_of.result.bits c.requires (point_bits c.args.a c.whole_of.result.bits c.requires c.whole_of.ensures.bits)

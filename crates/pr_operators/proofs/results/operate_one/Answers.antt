@@ -1,6 +1,0 @@
-use Rattle.std.proofs.Common.{[], ◌∷◌}
-use Rattle.pr_operators.proofs.Wrapping.{finished}
-use Rattle.pr_operators.proofs.results.operate_one.Goals as goal
-
-pub returns-clause-number : goal.returns-clause-number
-returns-clause-number c = finished c.args.op (c.args.a ∷ []) c.wrapped_one.result c.width_one.result c.narrowed.result c.wrapped_one.ensures c.width_one.ensures c.narrowed.ensures

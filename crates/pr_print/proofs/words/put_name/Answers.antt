@@ -1,6 +1,0 @@
-use Rattle.std.proofs.lemmas.Result.{on_ok_weaker}
-use Rattle.pr_print.proofs.Puts.{one_put}
-use Rattle.pr_print.proofs.words.put_name.Goals as goal
-
-pub returns : goal.returns
-returns c = on_ok_weaker c.put_bytes.result (λ h. one_put h c.as_bytes.ensures) c.put_bytes.ensures
