@@ -1,8 +1,8 @@
 -- What is written unit by unit is the configuration.
-use Rattle.std.proofs.Common.{◌≡◌, ℕ, zero, suc, ◌+◌, ◌-◌, ◌<◌, ◌≤◌, ◌⊎◌, ◌==◌, ◌&&◌, Bool, true, false, List, [], ◌∷◌, ◌++◌, length, get_or, map, cond, replicate, None, Some, Option, if◌then◌else◌, refl, sym, ap, ◌∙◌, subst, arith, inl, inr}
-use Rattle.std.specs.List.{All, Contains, find, range_with_len}
+use Rattle.std.proofs.Common.{◌≡◌, ℕ, zero, suc, ◌+◌, ◌-◌, ◌<◌, ◌≤◌, ◌==◌, Bool, true, false, List, [], ◌∷◌, ◌++◌, length, get_or, map, cond, replicate, None, Some, Option, if◌then◌else◌, refl, sym, ap, ◌∙◌, subst, arith, inl, inr}
+use Rattle.std.specs.List.{All, find, range_with_len}
 use Rattle.std.proofs.lemmas.Bool.{cases_Bool, cases_lt, eqb-true, eqb-false, eq-eqb, ne_eqb}
-use Rattle.std.proofs.lemmas.List.{map-id, length-map, get_or-map, get_or_past, get_or-replicate, length-replicate, same_lists}
+use Rattle.std.proofs.lemmas.List.{map-id, length-map, get_or_past, get_or-replicate, length-replicate}
 use Rattle.std.proofs.lemmas.List.Elements.{All-from_get_or, Contains-get_or}
 use Rattle.std.proofs.lemmas.List.FromFn.{map-range_with_len_more, get_or-map-range_with_len, length-map-range_with_len, fill_by_all}
 use Rattle.pr_net.specs.declared.cells.Cell.{Cell}
@@ -13,19 +13,24 @@ use Rattle.pr_net.specs.Shape.{NetShape, OutputShape as Slices, cells_of}
 use Rattle.pr_net.specs.Nets.{group_of, is_wire_of, is_bit_of, unit_reads, cell_reads, IsLawfulWire, IsLawfulBit, IsLawfulSlice, IsNet}
 use Rattle.pr_net.proofs.Lists.{find_only, in_range, range_below}
 use Rattle.pr_place.specs.Placements.{HomeShape, PlacementShape, home_of, stage_of, column_of, register_of}
-use Rattle.pr_place.specs.Greedy.{IsGreedy, home_in, homes_in, seat_of, placed_after}
+use Rattle.pr_place.specs.Greedy.{IsGreedy, home_in, seat_of, placed_after}
 use Rattle.pr_place.specs.Sound.{IsCell, Reads, IsSound}
 use Rattle.pr_place.proofs.Soundness.{soundness}
+use Rattle.pr_place.proofs.Stages.{few_stages}
 use Rattle.pr_conf.specs.declared.pes.Source.{Source}
 use Rattle.pr_conf.specs.declared.pes.Bit.{Bit}
 use Rattle.pr_conf.specs.declared.pes.Pe.{Pe}
 use Rattle.pr_conf.specs.declared.stages.Stage.{Stage}
-use Rattle.pr_conf.specs.Configuration.{pes_of}
-use Rattle.pr_route.specs.Conf.{source_of, bit_of, pe_of, idle_pe, idle_cell, stands_at, pe_by, pe_at, pes_at}
-use Rattle.pr_route.specs.Written.{source_in, bit_in, pe_in, IsHoused, ReadsHoused, ChoosesHoused, HasHoused, ShowsHoused, IsWritable, element, covers, written}
-use Rattle.pr_route.proofs.Homes.{stands_there, length-pes_at, pes_at_is}
+use Rattle.pr_conf.specs.declared.outputs.Output.{Output}
+use Rattle.pr_conf.specs.Configuration.{pes_of, parts_of}
+use Rattle.pr_conf.specs.Shape.{output_shape}
+use Rattle.pr_conf.specs.Rules.{IsLawful}
+use Rattle.pr_route.specs.Conf.{source_of, bit_of, pe_of, idle_pe, idle_cell, stands_at, pe_by, pe_at, pes_at, taps_of, conf_of}
+use Rattle.pr_route.specs.Written.{source_in, bit_in, pe_in, IsHoused, ReadsHoused, ChoosesHoused, ShowsHoused, IsWritable, element, covers, written}
+use Rattle.pr_route.proofs.Homes.{stands_there}
 use Rattle.pr_route.proofs.Columns.{unit_reads_by, wire_self, reads_a, reads_hi, reads_lo, reads_c}
 use Rattle.pr_route.proofs.Results.{lawful_slices}
+use Rattle.pr_route.proofs.Lawful.{conf_lawful}
 use Rattle.pr_route.proofs.Elements.{length-pes_of}
 
 -- a placed net, whose units have a register for each cell
@@ -79,8 +84,8 @@ pub outputs_housed : (N P : ℕ) (net : NetShape) (pl : PlacementShape) → IsSe
 outputs_housed N P net pl h =
     let none : Slices = record { width = 0; slices = [] } in
     All-from_get_or (λ (o : Slices). All (ShowsHoused pl) o.slices) net.outputs none (λ i l.
-        let o = get_or net.outputs i none in
-        All-from_get_or (ShowsHoused pl) o.slices (Slice.Const 0) (λ k lk. slice_housed N P net pl h (get_or o.slices k (Slice.Const 0)) (lawful_slices N net h.net_is o (Contains-get_or net.outputs i none l) (get_or o.slices k (Slice.Const 0)) (Contains-get_or o.slices k (Slice.Const 0) lk))))
+    let o = get_or net.outputs i none in
+    All-from_get_or (ShowsHoused pl) o.slices (Slice.Const 0) (λ k lk. slice_housed N P net pl h (get_or o.slices k (Slice.Const 0)) (lawful_slices N net h.net_is o (Contains-get_or net.outputs i none l) (get_or o.slices k (Slice.Const 0)) (Contains-get_or o.slices k (Slice.Const 0) lk))))
 
 pub writable : (N P : ℕ) (net : NetShape) (pl : PlacementShape) → IsSeated N P net pl → (u : ℕ) → u < length net.units → IsWritable N pl.stages pl u (cells_of net u)
 writable N P net pl h u l =
@@ -160,9 +165,9 @@ written_more N P net pl h u s c l =
       | inl t ↦
           (let at = stands_there net pl s c u l t in
           let found : find stands (range_with_len 0 (u + 1)) ≡ Some u = find_only stands (range_with_len 0 (u + 1)) u (in_range (u + 1) u (omega arith)) t (λ w m q.
-              let lw = range_below (u + 1) w m in
-              let other = stands_there net pl s c w (omega (arith, lw, l)) q in
-              (h.sound.alone w (c - (home_of pl w).col) u (c - (home_of pl u).col) other.cell at.cell (other.stage ∙ sym at.stage) (other.column ∙ sym at.column)).0) in
+          let lw = range_below (u + 1) w m in
+          let other = stands_there net pl s c w (omega (arith, lw, l)) q in
+          (h.sound.alone w (c - (home_of pl w).col) u (c - (home_of pl u).col) other.cell at.cell (other.stage ∙ sym at.stage) (other.column ∙ sym at.column)).0) in
           ap by t ∙ cell_same N P net pl h u (c - (home_of pl u).col) (register_of pl u (c - (home_of pl u).col)) l at.cell.place ∙ sym (ap (pe_by net pl c) found))
       | inr f ↦ ap by f ∙ sym (ap (λ (xs : List ℕ). pe_by net pl c (find stands xs)) (range_more u) ∙ ap (pe_by net pl c) (find_skip stands (range_with_len 0 u) u f))
     ]
@@ -211,3 +216,14 @@ stages_here {N} net pl stages long same = all_written N net pl (map (pes_of {N =
     wide {N} [] s l = absurd (omega (arith, l))
     wide {N} (x ∷ xs) zero l = length-pes_of x
     wide {N} (x ∷ xs) (suc s) l = wide xs s (omega (arith, l))
+
+-- ---- the parts together
+pub parts_here : {N : ℕ} (net : NetShape) (pl : PlacementShape) (inputs : List ℕ) (outputs : List Output) (stages : List (Stage N)) → inputs ≡ net.inputs → map output_shape outputs ≡ map (taps_of pl) net.outputs
+    → map pes_of stages ≡ map (pes_at N net pl) (range_with_len 0 pl.stages) → parts_of inputs outputs stages ≡ conf_of N net pl
+parts_here {N} net pl inputs outputs stages i o s = cc
+
+pub lawful_here : (N P : ℕ) (net : NetShape) (pl : PlacementShape) → 1 ≤ N → N ≤ 64 → 2 ≤ P → P ≤ 16 → IsNet N net → IsGreedy N P net pl → IsLawful N P (conf_of N net pl)
+lawful_here N P net pl n1 n2 p1 p2 n g = conf_lawful N P net pl n1 n2 p1 p2 n (soundness N P net pl n p1 g) (let s = few_stages N P net pl g in let f = n.few_groups in omega (arith, s, f))
+
+pub counted_here : {N : ℕ} (stages : List (Stage N)) → length (map pes_of stages) ≡ length stages
+counted_here {N} stages = length-map stages (pes_of {N = N})

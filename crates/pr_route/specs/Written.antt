@@ -79,6 +79,10 @@ covers pl u count s col = (stage_of pl u == s) && (nat_le (home_of pl u).col col
 abbrev pub written : PlacementShape → ℕ → List Cell → ℕ → Pe
 written pl u cells col = pe_in pl (stage_of pl u) (slice_index_or cells (col - (home_of pl u).col) idle_cell) (register_of pl u (col - (home_of pl u).col))
 
+-- the element of a column once a unit with these cells is written over what stood there
+abbrev pub over : PlacementShape → ℕ → List Cell → ℕ → ℕ → Pe → Pe
+over pl u cells s col before = if covers pl u (length cells) s col then written pl u cells col else before
+
 -- a unit with these cells can be written to so many stages of so many columns
 pub record IsWritable (columns stages : ℕ) (pl : PlacementShape) (u : ℕ) (ks : List Cell) : Type 0 where
   pub unit : u < length pl.homes

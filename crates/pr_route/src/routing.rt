@@ -33,7 +33,8 @@ fn taps(alloc: Global, placement: &Placement, slices: &[Slice]) -> Result<Vec<Ta
 /// The outputs of a net, each with its taps.
 fn outputs(alloc: Global, net: &Net, placement: &Placement) -> Result<Vec<Output>, AllocError>
     requires { All (λ o. All (ShowsHoused (shape_of placement.now)) o.slices) (net_shape net.now).outputs }
-    ensures { IfOk result (λ v. map output_shape v.items ≡ map (taps_of (shape_of placement.now)) (net_shape net.now).outputs) }
+    ensures { IfOk result (λ v. map output_shape v.items
+        ≡ map (taps_of (shape_of placement.now)) (net_shape net.now).outputs) }
 {
     let mut outputs = Vec::with_capacity(alloc, net.outputs.len())?;
     for output in &net.outputs {
@@ -75,15 +76,15 @@ pub fn route<const N: usize, const P: usize>(
 ) -> Result<Configuration<N, P>, AllocError>
     requires net { IsNet N (net_shape net.now) }
     requires placed { IsGreedy N P (net_shape net.now) (shape_of placement.now) }
-    requires some_columns { 1 ≤ N }
-    requires columns { N ≤ 64 }
+    requires columns { 1 ≤ N }
+    requires most_columns { N ≤ 64 }
     requires registers { 2 ≤ P }
     requires most_registers { P ≤ 16 }
     ensures routed { IfOk result (λ c. conf_shape c ≡ conf_of N (net_shape net.now) (shape_of placement.now)) }
 {
     let stages = stages::<N, P>(alloc, net, placement)?;
     Ok(Configuration {
-        inputs: net.inputs.clone()?,
+        inputs: net.inputs.to_vec(alloc)?,
         outputs: outputs(alloc, net, placement)?,
         stages,
     })

@@ -4,7 +4,7 @@ ghost use Rattle.std.specs.Prelude.{◌≡◌, ◌<◌, ◌≤◌, ◌==◌, ◌
 ghost use Rattle.pr_conf.specs.Configuration.{pes_of};
 ghost use Rattle.pr_place.specs.Placements.{shape_of};
 ghost use Rattle.pr_route.specs.Conf.{idle_pe};
-ghost use Rattle.pr_route.specs.Written.{element, covers, written, IsWritable};
+ghost use Rattle.pr_route.specs.Written.{element, over, IsWritable};
 
 use crate::sources::{home_of, pe_of};
 use pr_conf::{Pe, Stage};
@@ -43,8 +43,8 @@ pub fn put_unit<const N: usize>(
     cells: &[Cell],
 )
     requires { IsWritable N (length stages.old) (shape_of placement.now) unit cells.now }
-    ensures { let pl = shape_of placement.now in (s c : ℕ) → element (map pes_of stages.new) s c
-        ≡ (if covers pl unit (length cells.now) s c then written pl unit cells.now c else element (map pes_of stages.old) s c) }
+    ensures { (s c : ℕ) → element (map pes_of stages.new) s c
+        ≡ over (shape_of placement.now) unit cells.now s c (element (map pes_of stages.old) s c) }
 {
     let home = home_of(placement, unit);
     let stage = home.stage as usize;

@@ -1,4 +1,4 @@
-use Rattle.std.proofs.Common.{◌≡◌, ℕ, ◌<◌, ◌++◌, List, [], length, get_or, take, drop, map, sym, ap, ◌∙◌, subst, arith}
+use Rattle.std.proofs.Common.{◌≡◌, ℕ, ◌<◌, List, [], length, drop, map, ap, ◌∙◌, subst, arith}
 use Rattle.std.proofs.lemmas.List.{get_or_default, take_at}
 use Rattle.pr_conf.specs.declared.stages.Stage.{Stage}
 use Rattle.pr_conf.specs.Configuration.{pes_of}
@@ -39,7 +39,7 @@ loop-unit-preserved g c =
     record {
       size = ap length whole ∙ omega (arith, size, c.loop-unit.invariant.size);
       elements = λ s k. ap (λ (xs : List (Stage g.row.N)). element (map pes_of xs) s k) whole
-        ∙ written_here g.row.N g.row.P net pl seats c.loop-unit.unit s k c.deref.result.now (element (map pes_of c.deref_mut.result.now) s k) (element (map pes_of c.put_unit.new.stages) s k) here cells
+          ∙ written_here g.row.N g.row.P net pl seats c.loop-unit.unit s k c.deref.result.now (element (map pes_of c.deref_mut.result.now) s k) (element (map pes_of c.put_unit.new.stages) s k) here cells
           (ap (λ (xs : List (Stage g.row.N)). element (map pes_of xs) s k) c.deref_mut.ensures.value ∙ c.loop-unit.invariant.elements s k) (c.put_unit.ensures s k);
     }
 

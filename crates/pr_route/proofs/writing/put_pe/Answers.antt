@@ -1,4 +1,4 @@
-use Rattle.std.proofs.Common.{refl, arith}
+use Rattle.std.proofs.Common.{refl}
 use Rattle.pr_route.proofs.Elements.{put_stage}
 use Rattle.pr_route.proofs.writing.put_pe.Goals as goal
 
