@@ -1,8 +1,7 @@
 -- A net is lawful where tests of its lists say so.
-use Rattle.std.proofs.Common.{◌≡◌, ◌≢◌, ℕ, zero, suc, ◌+◌, ◌<◌, ◌≤◌, ◌⊎◌, ◌==◌, ◌&&◌, ◌||◌, Bool, true, false, not, nat_lt, nat_le, List, [], ◌∷◌, length, get_or, slice_index, refl, sym, ap, ◌∙◌, subst, arith, inl, inr}
+use Rattle.std.proofs.Common.{◌≡◌, ◌≢◌, ℕ, ◌<◌, ◌==◌, ◌&&◌, ◌||◌, Bool, true, false, not, nat_lt, nat_le, List, [], ◌∷◌, length, get_or, slice_index, refl, sym, ap, ◌∙◌, subst, arith, inl, inr}
 use Rattle.std.specs.List.{Contains, list_all, list_any, range_with_len, sum_by}
-use Rattle.std.proofs.lemmas.Bool.{cases_Bool, false≢true, and_parts, or_cases, or_from, eqb-true, ltb-true, leb-true, lt-ltb, not-true}
-use Rattle.std.proofs.lemmas.List.{get_or_default}
+use Rattle.std.proofs.lemmas.Bool.{false≢true, and_parts, or_cases, or_from, eqb-true, ltb-true, leb-true, lt-ltb, not-true}
 use Rattle.std.proofs.lemmas.List.Elements.{Contains-get_or}
 use Rattle.pr_base.specs.Numbers.{slices_of}
 use Rattle.pr_base.specs.declared.choices.Carry.{Carry}
@@ -11,7 +10,7 @@ use Rattle.pr_net.specs.declared.cells.Wire.{Wire}
 use Rattle.pr_net.specs.declared.cells.WireBit.{WireBit}
 use Rattle.pr_net.specs.declared.cells.Slice.{Slice}
 use Rattle.pr_net.specs.Shape.{NetShape, OutputShape, cells_of, units_of}
-use Rattle.pr_net.specs.Nets.{group_of, is_wire_of, is_bit_of, cell_reads, unit_reads, IsLawfulWire, IsLawfulBit, IsLawfulCarry, IsLawfulCell, IsLawfulSlice, IsLawfulOutput, IsNet}
+use Rattle.pr_net.specs.Nets.{group_of, is_wire_of, is_bit_of, cell_reads, IsLawfulWire, IsLawfulBit, IsLawfulCarry, IsLawfulCell, IsLawfulSlice, IsLawfulOutput, IsNet}
 use Rattle.pr_net.proofs.Lists.{all_pass, any_found, in_range}
 
 and-both : {x y : Bool} → (x && y) ≡ true → (x ≡ true) × (y ≡ true)

@@ -1,10 +1,10 @@
-use Rattle.std.proofs.Common.{◌≡◌, sym, subst, ap, ◌∙◌, arith}
+use Rattle.std.proofs.Common.{sym, subst, arith}
 use Rattle.pr_net.specs.Whole.{shape_of as net_shape}
 use Rattle.pr_net.specs.Shape.{NetShape}
 use Rattle.pr_net.specs.Nets.{IsNet}
-use Rattle.pr_place.specs.Placements.{PlacementShape, shape_of}
+use Rattle.pr_place.specs.Placements.{shape_of}
 use Rattle.pr_place.specs.Greedy.{IsGreedy}
-use Rattle.pr_route_tests.specs.Nets.{xor_net, xor_placement}
+use Rattle.pr_route_tests.specs.Nets.{xor_net}
 use Rattle.pr_route_tests.proofs.Placed.{xor_lawful, xor_placed}
 use Rattle.pr_route_tests.proofs.routed.xor.Goals as goal
 
