@@ -1,54 +1,19 @@
 -- What the tables hold as a stripe opens: which groups wait for others, which may be placed, and in which stage each one stands.
-use Rattle.std.specs.Prelude.{◌≡◌, ◌≢◌, ℕ, ◌+◌, ◌*◌, ◌<◌, ◌==◌, ◌&&◌, Bool, true, false, not, nat_lt, List, [], ◌∷◌, length, map, Option, None, Some, slice_index_or}
-use Rattle.std.specs.List.{Contains, All}
+use Rattle.std.specs.Prelude.{◌≡◌, ◌≢◌, ℕ, ◌+◌, ◌*◌, ◌<◌, ◌⊎◌, ◌==◌, ◌&&◌, Bool, true, false, not, nat_lt, List, [], ◌∷◌, length, map, Option, None, Some, slice_index, slice_index_or, replicate}
+use Rattle.std.specs.List.{Contains, All, sum_by}
 use Rattle.std.specs.Option.{is_some}
 use Rattle.pr_net.specs.Shape.{NetShape}
 use Rattle.pr_net.specs.Nets.{group_reads}
-use Rattle.pr_place.specs.declared.plans.Tables.{Tables}
+use Rattle.pr_place.specs.declared.lookups.Tables.{Tables}
+use Rattle.pr_place.specs.Waits.{waits_of}
 use Rattle.pr_place.specs.Greedy.{Seat, is_placed}
 use Rattle.pr_place.specs.Registers.{Progress, count_of}
 use Rattle.pr_place.specs.Candidates.{IsCovered}
-use Rattle.pr_place.specs.Tracking.{IsCellOf, Tracks, Fixed, needs_of, ops_of}
-
--- the group of a cell
-abbrev pub owner_of : List ℕ → ℕ → ℕ
-owner_of owner x = slice_index_or owner x 0
-
--- how many of these readings are of groups that are not placed
-abbrev pub wait_of : Bool → ℕ
-wait_of true = 0
-wait_of false = 1
-
-abbrev pub waits_of : List ℕ → List Seat → List ℕ → ℕ
-waits_of owner placed [] = 0
-waits_of owner placed (x ∷ xs) = wait_of (is_placed placed (owner_of owner x)) + waits_of owner placed xs
+use Rattle.pr_place.specs.Tracking.{IsCellOf, Tracks, Fixed, needs_of, ops_of, uses_of}
 
 -- how often a group reads another: for each reading of a cell the group of that cell is counted
 abbrev pub reads_of : List ℕ → ℕ → List ℕ → ℕ
-reads_of owner h xs = count_of h (map (owner_of owner) xs)
-
--- ---- the tables that stay as they are
--- the cells' groups, and what is read is among what is counted
-pub record Owned (net : NetShape) (first : List ℕ) (ops : List (List ℕ)) (owner : List ℕ) : Type 0 where
-  pub owner_is : (g u i : ℕ) → IsCellOf net g u i → owner_of owner (slice_index_or first u 0 + i) ≡ g
-  pub counted : (g h v j : ℕ) → g < length net.groups → IsCellOf net h v j → h ≢ g → group_reads net v j g ≡ true → Contains (slice_index_or ops g []) (slice_index_or first v 0 + j)
-
--- groups of one class have the same needs
-pub record Alike (net : NetShape) (class : List ℕ) : Type 0 where
-  pub alike : (g h : ℕ) → g < length net.groups → h < length net.groups → slice_index_or class g 0 ≡ slice_index_or class h 0 → slice_index_or class g 0 ≢ 63 → needs_of net g ≡ needs_of net h
-
--- who reads a group, each as often as it reads it
-pub record ReadBy (net : NetShape) (owner : List ℕ) (ops readers : List (List ℕ)) : Type 0 where
-  pub long : length readers ≡ length net.groups
-  pub count : (h g : ℕ) → h < length net.groups → g < length net.groups → count_of g (slice_index_or readers h []) ≡ reads_of owner h (slice_index_or ops g [])
-  pub inside : (h : ℕ) → All (λ g. g < length net.groups) (slice_index_or readers h [])
-
-pub record AreTables (N P : ℕ) (net : NetShape) (tables : Tables) (cells : ℕ) : Type 0 where
-  pub fixed : Fixed N P net tables.first.items tables.kept.items tables.plans.items tables.class.items cells
-  pub alike : Alike net tables.class.items
-  pub owned : Owned net tables.first.items (ops_of tables.plans.items) tables.owner.items
-  pub owner_long : length tables.owner.items ≡ cells
-  pub read_by : ReadBy net tables.owner.items (ops_of tables.plans.items) tables.readers.items
+reads_of owner h xs = count_of h (map (λ x. slice_index owner x) xs)
 
 -- ---- the tables for what is placed
 -- each group waits for so many readings
@@ -67,13 +32,26 @@ pub record Staged (net : NetShape) (placed : List Seat) (stages : List (Option �
   pub stands : (t : Seat) → Contains placed t → slice_index_or stages t.group None ≡ Some t.stage
   pub placed_is : (g : ℕ) → g < length net.groups → is_placed placed g ≡ is_some (slice_index_or stages g None)
 
+-- how many groups are not placed
+unfoldable pub left_of : NetShape → List Seat → ℕ
+left_of net placed = uses_of (replicate (length net.groups) (0 ∷ [])) placed 0
+
+-- a stripe has received these groups, each once: what was placed before and is now, and the candidates before and now
+pub record Received (net : NetShape) (class : List ℕ) (stage : ℕ) (start placed : List Seat) (before ready groups : List ℕ) : Type 0 where
+  pub counted : (owner xs : List ℕ) → waits_of owner start xs ≡ waits_of owner placed xs + sum_by (λ h. reads_of owner h xs) groups
+  pub left : left_of net start ≡ left_of net placed + length groups
+  pub seats : (t : Seat) → Contains placed t → Contains start t ⊎ ((t.stage ≡ stage) × Contains groups t.group)
+  pub stays : (t : Seat) → Contains start t → Contains placed t
+  pub inside : (g : ℕ) → Contains groups g → (g < length net.groups) × (is_placed start g ≡ false) × (is_placed placed g ≡ true)
+  pub candidates : (waits : List ℕ) → AreReady net class waits start before → AreReady net class waits placed ready
+
 -- all of them as a stripe opens
 pub record Opening (N P : ℕ) (net : NetShape) (tables : Tables) (s : Progress) (ready summary waits : List ℕ) (stages : List (Option ℕ)) (stage : ℕ) (placed : List Seat) : Type 0 where
   pub uses_long : length s.table.uses ≡ length s.spots
   pub ready_long : length ready ≡ length net.groups
   pub blocks : length ready < 128 * length summary
   pub covered : IsCovered ready summary
-  pub tracks : Tracks N P net tables.first.items tables.kept.items (ops_of tables.plans.items) stage placed s
+  pub tracks : Tracks N P net tables.cells.first.items tables.cells.kept.items (ops_of tables.plans.items) stage placed s
   pub candidates : AreReady net tables.class.items waits placed ready
-  pub waiting : Waits net tables.owner.items (ops_of tables.plans.items) placed waits
+  pub waiting : Waits net tables.cells.owner.items (ops_of tables.plans.items) placed waits
   pub standing : Staged net placed stages
