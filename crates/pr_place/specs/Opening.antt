@@ -1,10 +1,12 @@
 -- What the tables hold as a stripe opens: which groups wait for others, which may be placed, and in which stage each one stands.
-use Rattle.std.specs.Prelude.{◌≡◌, ◌≢◌, ℕ, ◌+◌, ◌*◌, ◌<◌, ◌⊎◌, ◌==◌, ◌&&◌, Bool, true, false, not, nat_lt, List, [], ◌∷◌, length, map, Option, None, Some, slice_index, slice_index_or, replicate}
-use Rattle.std.specs.List.{Contains, All, sum_by}
+use Rattle.std.specs.Prelude.{◌≡◌, ◌≢◌, ℕ, ◌+◌, ◌*◌, ◌<◌, ◌≤◌, ◌⊎◌, ◌==◌, ◌&&◌, Bool, true, false, not, nat_lt, List, [], ◌∷◌, length, map, Option, None, Some, slice_index, slice_index_or, slice_set, replicate}
+use Rattle.std.specs.List.{Contains, fold, sum_by}
 use Rattle.std.specs.Option.{is_some}
 use Rattle.pr_net.specs.Shape.{NetShape}
 use Rattle.pr_net.specs.Nets.{group_reads}
+use Rattle.pr_place.specs.declared.candidates.Candidates.{Candidates}
 use Rattle.pr_place.specs.declared.lookups.Tables.{Tables}
+use Rattle.pr_place.specs.Tables.{readers_in}
 use Rattle.pr_place.specs.Waits.{waits_of}
 use Rattle.pr_place.specs.Greedy.{Seat, is_placed}
 use Rattle.pr_place.specs.Registers.{Progress, count_of}
@@ -55,3 +57,26 @@ pub record Opening (N P : ℕ) (net : NetShape) (tables : Tables) (s : Progress)
   pub candidates : AreReady net tables.class.items waits placed ready
   pub waiting : Waits net tables.cells.owner.items (ops_of tables.plans.items) placed waits
   pub standing : Staged net placed stages
+
+-- ---- how the next stripe opens
+-- the stage of these groups is noted
+abbrev pub noted : ℕ → List (Option ℕ) → List ℕ → List (Option ℕ)
+noted stage stages groups = fold (λ stages g. slice_set stages g (Some stage)) stages groups
+
+-- how often a group reads these
+abbrev pub readings : Tables → ℕ → List ℕ → ℕ
+readings tables g groups = sum_by (λ h. count_of g (readers_in tables h)) groups
+
+-- the lists have an entry for each group, and each block's set has the classes of its candidates
+pub record AreLists (class waits : List ℕ) (candidates : Candidates) : Type 0 where
+  pub ready : length candidates.ready.items ≡ length waits
+  pub classes : length class ≡ length waits
+  pub small : (g : ℕ) → slice_index class g < 64
+  pub blocks : length candidates.ready.items < 128 * length candidates.summary.items
+  pub covered : IsCovered candidates.ready.items candidates.summary.items
+
+-- groups wait for less than before: those that wait for nothing now and did before are candidates, the others as they were
+pub record Woken (class before ready now candidates : List ℕ) : Type 0 where
+  pub less : (g : ℕ) → slice_index now g ≤ slice_index before g
+  pub still : (g : ℕ) → (slice_index now g ≡ 0 → slice_index before g ≡ 0) → slice_index candidates g ≡ slice_index ready g
+  pub woken : (g : ℕ) → slice_index before g ≢ 0 → slice_index now g ≡ 0 → slice_index candidates g ≡ slice_index class g
