@@ -2,7 +2,7 @@
 
 ghost use Rattle.std.specs.Prelude.{◌≡◌, ◌≤◌, ◌<◌, ◌+◌, ◌^◌, ℕ, [], ◌++◌, IfOk, OnOk, length, slice_index, slice_index_or};
 ghost use Rattle.std.specs.List.{range_with_len};
-ghost use Rattle.pr_place.specs.Numbering.{IsNumbered, group_numbers};
+ghost use Rattle.pr_place.specs.Numbering.{IsNumbered, CanNumber, group_numbers};
 
 use pr_net::Unit;
 use std::alloc::{AllocError, Global};
@@ -54,9 +54,7 @@ pub fn group_cells(
     first: &[u32],
     group: &[u32],
 ) -> Result<Vec<u32>, AllocError>
-    requires long { length first.now ≡ length units.now }
-    requires there { (k : ℕ) → k < length group.now → slice_index group.now k < length units.now }
-    requires small { (u : ℕ) → slice_index first.now u + length (slice_index_or units.now u []) < 2 ^ 32 }
+    requires { CanNumber units.now first.now group.now }
     ensures { IfOk result (λ numbers. numbers.items ≡ group_numbers units.now first.now group.now) }
 {
     let mut numbers = Vec::new(alloc);

@@ -2,7 +2,7 @@
 
 ghost use Rattle.std.specs.Prelude.{◌≡◌, ◌<◌, ◌≤◌, ◌^◌, ℕ, [], ◌++◌, IfOk, OnOk, length, slice_index, slice_index_or};
 ghost use Rattle.pr_net.specs.declared.cells.Cell.{Cell};
-ghost use Rattle.pr_place.specs.Numbering.{IsWireBelow, IsCellBelow, wire_numbers, cell_numbers, unit_reads_of, group_reads_of};
+ghost use Rattle.pr_place.specs.Numbering.{IsWireBelow, IsCellBelow, CanRead, wire_numbers, cell_numbers, unit_reads_of, group_reads_of};
 
 use pr_net::{Cell, Unit, Wire, WireBit};
 use std::alloc::{AllocError, Global};
@@ -76,9 +76,7 @@ pub fn group_reads(
     group: u32,
     members: &[u32],
 ) -> Result<Vec<u32>, AllocError>
-    requires there { (k : ℕ) → k < length members.now → slice_index members.now k < length units.now }
-    requires below { (u i : ℕ) (d : Cell) → u < length units.now → i < length (slice_index_or units.now u []) → IsCellBelow first.now (length owner.now) (slice_index_or (slice_index_or units.now u []) i d) }
-    requires small { length owner.now < 2 ^ 32 }
+    requires { CanRead units.now first.now (length owner.now) members.now }
     ensures { IfOk result (λ reads. reads.items ≡ group_reads_of units.now first.now owner.now group members.now) }
 {
     let mut reads = Vec::new(alloc);
