@@ -105,3 +105,14 @@ needs_in kept uses cells = map (is_needed kept uses) cells
 abbrev pub readers_from : List ℕ → ℕ → ℕ → List (List ℕ) → List ℕ
 readers_from owner g h [] = []
 readers_from owner g h (reads ∷ ops) = replicate (count_of g (map (λ x. slice_index owner x) reads)) h ++ readers_from owner g (suc h) ops
+
+-- units whose cells can be numbered, and whose readings can be listed
+pub record CanNumber (units : List (List Cell)) (first us : List ℕ) : Type 0 where
+  pub long : length first ≡ length units
+  pub there : (k : ℕ) → k < length us → slice_index us k < length units
+  pub small : (u : ℕ) → slice_index first u + length (slice_index_or units u []) < 2 ^ 32
+
+pub record CanRead (units : List (List Cell)) (first : List ℕ) (cells : ℕ) (us : List ℕ) : Type 0 where
+  pub there : (k : ℕ) → k < length us → slice_index us k < length units
+  pub below : (u i : ℕ) (d : Cell) → u < length units → i < length (slice_index_or units u []) → IsCellBelow first cells (slice_index_or (slice_index_or units u []) i d)
+  pub small : cells < 2 ^ 32
