@@ -1,11 +1,14 @@
 -- What holds of the tables while a net is placed, stripe after stripe.
-use Rattle.std.specs.Prelude.{◌≡◌, ℕ, suc, ◌-◌, ◌^◌, ◌<◌, List, length}
-use Rattle.pr_net.specs.Shape.{NetShape}
+use Rattle.std.specs.Prelude.{◌≡◌, ℕ, suc, ◌+◌, ◌-◌, ◌^◌, ◌<◌, not, List, Option, None, length, map, slice_index, slice_index_or}
+use Rattle.std.specs.List.{find, range_with_len}
+use Rattle.std.specs.Option.{is_some, unwrap_or}
+use Rattle.pr_net.specs.Shape.{NetShape, cells_of}
 use Rattle.pr_place.specs.declared.candidates.Candidates.{Candidates}
 use Rattle.pr_place.specs.declared.course.Course.{Course}
 use Rattle.pr_place.specs.declared.lookups.Tables.{Tables}
+use Rattle.pr_place.specs.Placements.{HomeShape}
 use Rattle.pr_place.specs.Greedy.{Seat, placed_after, stripe}
-use Rattle.pr_place.specs.Registers.{Progress}
+use Rattle.pr_place.specs.Registers.{Progress, spotted}
 use Rattle.pr_place.specs.Tracking.{Filling, ops_of}
 use Rattle.pr_place.specs.Opening.{left_of, Waits, AreReady, Staged, Received, Opening}
 
@@ -41,3 +44,22 @@ pub record Filled (N P : ℕ) (net : NetShape) (tables : Tables) (course : Cours
   pub standing : Staged net (placed_after N P net course.stage) course.stages.items
   pub left : course.left ≡ left_of net (placed_after N P net course.stage)
   pub each : EachGrew N P net course.stage
+
+-- a stripe received no group though some are left; each group's stage stands in the list
+pub record IsStuck (N P : ℕ) (net : NetShape) (stages : List (Option ℕ)) : Type 0 where
+  pub stage : ℕ
+  pub idle : placed_after N P net (suc stage) ≡ placed_after N P net stage
+  pub standing : Staged net (placed_after N P net stage) stages
+  pub some_left : 0 < left_of net (placed_after N P net stage)
+
+-- the first group that has no stage
+abbrev pub first_open : List (Option ℕ) → Option ℕ
+first_open stages = find (λ g. not (is_some (slice_index_or stages g None))) (range_with_len 0 (length stages))
+
+-- the home of a unit, by the tables
+abbrev pub home_at : NetShape → Tables → Course → ℕ → HomeShape
+home_at net tables course u = record {
+  stage = unwrap_or (slice_index_or course.stages.items (slice_index tables.cells.owner.items (slice_index tables.cells.first.items u)) None) 0;
+  col = (spotted course.progress.spots (slice_index tables.cells.first.items u)).0;
+  regs = map (λ i. (spotted course.progress.spots (slice_index tables.cells.first.items u + i)).1) (range_with_len 0 (length (cells_of net u)));
+}

@@ -36,6 +36,7 @@ pub record AreCells (net : NetShape) (t : CellTables) : Type 0 where
 -- the tables of a net: who reads a group stands there as often as it reads a cell of it
 pub record AreTables (N P : ℕ) (net : NetShape) (t : Tables) : Type 0 where
   pub fixed : Fixed N P net t.cells.first.items t.cells.kept.items t.plans.items t.class.items (length t.cells.owner.items)
+  pub first_long : length t.cells.first.items ≡ length net.units
   pub owned : Owned net t.cells.first.items (ops_of t.plans.items) t.cells.owner.items
   pub uses_long : length t.cells.uses.items ≡ length t.cells.owner.items
   pub uses : (x : ℕ) → slice_index t.cells.uses.items x ≡ uses_of (ops_of t.plans.items) [] x

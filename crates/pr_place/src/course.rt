@@ -1,9 +1,8 @@
 //! The course of placing, stripe after stripe.
 
-ghost use Rattle.std.specs.Prelude.{◌≡◌, ◌+◌, ◌<◌, suc, true, false, IfOk, length};
+ghost use Rattle.std.specs.Prelude.{◌≡◌, ◌≤◌, ◌<◌, true, false, IfOk, length};
 ghost use Rattle.pr_net.specs.Whole.{shape_of};
-ghost use Rattle.pr_place.specs.Courses.{Opens, Filled};
-ghost use Rattle.pr_place.specs.Greedy.{placed_after};
+ghost use Rattle.pr_place.specs.Courses.{Opens, Filled, IsStuck};
 ghost use Rattle.pr_place.specs.Tables.{AreTables};
 
 use crate::candidates::Candidates;
@@ -11,8 +10,9 @@ use crate::fills::fill;
 use crate::lookups::Tables;
 use crate::opening::{note, wake};
 use crate::progress::Progress;
+use crate::starts::Start;
 use pr_net::Net;
-use std::alloc::AllocError;
+use std::alloc::{AllocError, Global};
 
 /// How far a net is placed.
 #[derive(Drop)]
@@ -29,6 +29,31 @@ pub struct Course {
     pub waits: Vec<usize>,
     /// The stage of each group that is placed.
     pub stages: Vec<Option<u32>>,
+}
+
+/// Nothing is placed.
+pub fn begin<const N: usize, const P: usize>(
+    alloc: Global,
+    net: &Net,
+    tables: &Tables,
+) -> Result<Course, AllocError>
+    requires tables { AreTables N P (shape_of net.now) tables.now }
+    requires registers { 2 ≤ P }
+    ensures { IfOk result (λ course. Opens N P (shape_of net.now) tables.now course) }
+{
+    let stages = vec![in alloc; None; net.groups.len()]?;
+    let start = Start::of::<N, P>(alloc, net, tables)?;
+    Ok(Course {
+        stage: 0,
+        left: net.groups.len(),
+        progress: start.progress,
+        candidates: Candidates {
+            ready: start.ready,
+            summary: start.summary,
+        },
+        waits: start.waits,
+        stages,
+    })
 }
 
 /// Opens the stripe after one that has received these groups.
@@ -61,10 +86,10 @@ pub fn advance<const N: usize, const P: usize>(
 ) -> Result<bool, AllocError>
     requires tables { AreTables N P (shape_of net.now) tables.now }
     requires opens { Opens N P (shape_of net.now) tables.now course.old }
+    requires some { 0 < course.old.left }
     ensures opens { IfOk result (λ more. more ≡ true → Opens N P (shape_of net.now) tables.now course.new) }
     ensures left { IfOk result (λ more. more ≡ true → course.new.left < course.old.left) }
-    ensures stuck { IfOk result (λ more. more ≡ false → placed_after N P (shape_of net.now) (suc course.old.stage) ≡ placed_after N P (shape_of net.now) course.old.stage) }
-    ensures same { IfOk result (λ more. more ≡ false → course.new.stages.items ≡ course.old.stages.items) }
+    ensures stuck { IfOk result (λ more. more ≡ false → IsStuck N P (shape_of net.now) course.new.stages.items) }
 {
     received.clear();
     let stage = course.stage;
@@ -73,5 +98,27 @@ pub fn advance<const N: usize, const P: usize>(
         return Ok(false);
     }
     open_next::<N, P>(net, tables, course, received);
+    Ok(true)
+}
+
+/// Places the groups stripe by stripe as long as one fits, and says whether all are placed.
+pub fn place_groups<const N: usize, const P: usize>(
+    alloc: Global,
+    net: &Net,
+    tables: &Tables,
+    course: &mut Course,
+) -> Result<bool, AllocError>
+    requires tables { AreTables N P (shape_of net.now) tables.now }
+    requires opens { Opens N P (shape_of net.now) tables.now course.old }
+    ensures opens { IfOk result (λ all. all ≡ true → Opens N P (shape_of net.now) tables.now course.new) }
+    ensures none { IfOk result (λ all. all ≡ true → course.new.left ≡ 0) }
+    ensures stuck { IfOk result (λ all. all ≡ false → IsStuck N P (shape_of net.now) course.new.stages.items) }
+{
+    let mut received = Vec::new(alloc);
+    while course.left > 0 {
+        if !advance::<N, P>(net, tables, course, &mut received)? {
+            return Ok(false);
+        }
+    }
     Ok(true)
 }

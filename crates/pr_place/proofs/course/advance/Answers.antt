@@ -17,8 +17,14 @@ pub returns-then-is_empty-clause-stuck : goal.returns-then-is_empty-clause-stuck
 returns-then-is_empty-clause-stuck g c = λ is.
     let net = shape_of c.args.net.now in
     let stage = c.args.course.now.stage in
+    let h = c.requires.opens in
     let none : length c.fill.new.received.items ≡ 0 = (let e = eqb-true (vec_len c.fill.new.received) 0 (sym c.is_empty.ensures ∙ c.if-is_empty.true) in omega (arith, e)) in
-    after_next g.row.N g.row.P net stage ∙ stripe_idle g.row.N g.row.P net stage c.args.tables.now.class.items c.args.course.now.candidates.ready.items c.fill.new.candidates.ready.items c.fill.new.received.items (placed_after g.row.N g.row.P net stage) c.in_ok-fill.ensures.received none
+    record {
+      stage = stage;
+      idle = after_next g.row.N g.row.P net stage ∙ stripe_idle g.row.N g.row.P net stage c.args.tables.now.class.items c.args.course.now.candidates.ready.items c.fill.new.candidates.ready.items c.fill.new.received.items (placed_after g.row.N g.row.P net stage) c.in_ok-fill.ensures.received none;
+      standing = h.opening.standing;
+      some_left = (let l = h.left in let some = c.requires.some in omega (arith, l, some));
+    }
 
 pub open_next-requires-clause-filled : goal.open_next-requires-clause-filled
 open_next-requires-clause-filled g c =
