@@ -30,24 +30,24 @@ owned_here : (g : ℕ) (owner cells : List ℕ) (x : ℕ) → All (λ y. y < len
 owned_here g owner [] x there c = absurd (in_none x c)
 owned_here g owner (y ∷ ys) x there c =
     let long : length (set owner y g) ≡ length owner = length-set owner y g in
-    let rest : All (λ y. y < length (set owner y g)) ys = λ k d l. (let t = there (suc k) d (omega (arith, l)) in omega (arith, long, t)) in
+    let rest : All (λ z. z < length (set owner y g)) ys = λ k d l. (let t = there (suc k) d (omega (arith, l)) in omega (arith, long, t)) in
     elim (head_or_tail y x ys c) [
       | inl e ↦ owned_stays g (set owner y g) ys x rest (ap (λ (k : ℕ). get_or (set owner y g) k 0) (sym e) ∙ get_or-set_same owner y g 0 (there 0 0 (omega arith)))
       | inr t ↦ owned_here g (set owner y g) ys x rest t
     ]
 
 owned_other : (g : ℕ) (owner cells : List ℕ) (x : ℕ) → (Contains cells x → ⊥) → get_or (owned_by g owner cells) x 0 ≡ get_or owner x 0
-owned_other g owner [] x no = refl
-owned_other g owner (y ∷ ys) x no =
-    owned_other g (set owner y g) ys x (λ c. no (in_tail y x ys c))
-    ∙ get_or-set_other owner y x g 0 (λ e. no (subst (λ (k : ℕ). Contains (y ∷ ys) k) (sym e) (at_head y ys)))
+owned_other g owner [] x out = refl
+owned_other g owner (y ∷ ys) x out =
+    owned_other g (set owner y g) ys x (λ c. out (in_tail y x ys c))
+    ∙ get_or-set_other owner y x g 0 (λ e. out (subst (λ (k : ℕ). Contains (y ∷ ys) k) (sym e) (at_head y ys)))
 
 -- the numbers of a group's cells
 number_in : (N : ℕ) (net : NetShape) (first : List ℕ) (g u i : ℕ) → IsNet N net → IsCellOf net g u i → Contains (group_numbers net.units first (units_of net g)) (get_or first u 0 + i)
 number_in N net first g u i n c =
     let s = subst (λ (k : ℕ). Contains (spots_of net k) (spot u i)) c.is (spot_in N net n u i (record { unit = c.unit; place = c.place })) in
     let there : Contains (map (spot_number first) (spots_of net g)) (spot_number first (spot u i)) =
-        (s.0, subst (λ (k : ℕ). s.0 < k) (sym (length-map (spots_of net g) (spot_number first))) s.1, get_or-map (spot_number first) (spots_of net g) s.0 (spot u i) (spot_number first (spot u i)) s.1 ∙ ap (spot_number first) s.2) in
+    (s.0, subst (λ (k : ℕ). s.0 < k) (sym (length-map (spots_of net g) (spot_number first))) s.1, get_or-map (spot_number first) (spots_of net g) s.0 (spot u i) (spot_number first (spot u i)) s.1 ∙ ap (spot_number first) s.2) in
     subst (λ (xs : List ℕ). Contains xs (get_or first u 0 + i)) (sym (numbers_are net first (units_of net g))) there
 
 number_of_group : (N : ℕ) (net : NetShape) (first : List ℕ) (cells g h u i : ℕ) → IsNet N net → IsNumbered net.units first cells → g < length net.groups → IsCellOf net h u i → Contains (group_numbers net.units first (units_of net g)) (get_or first u 0 + i) → h ≡ g

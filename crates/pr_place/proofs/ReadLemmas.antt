@@ -205,6 +205,21 @@ can_read N net first cells g n h lg = record {
   small = (let f = h.few in omega (arith, f));
 }
 
+-- what is read has a number
+pub reads_below : (N : ℕ) (net : NetShape) (first owner : List ℕ) (cells g : ℕ) → IsNet N net → IsNumbered net.units first cells → g < length net.groups → All (λ x. x < cells) (group_reads_of net.units first owner g (units_of net g))
+reads_below N net first owner cells g n h lg = λ i d l.
+    let x = get_or (group_reads_of net.units first owner g (units_of net g)) i d in
+    let c = Contains-get_or (group_reads_of net.units first owner g (units_of net g)) i d l in
+    let u = flat_found (λ (u : ℕ). unit_reads_of first owner g (cells_of net u)) (units_of net g) x c in
+    let k = flat_found (cell_numbers first owner g) (cells_of net u.0) x u.2 in
+    let lu : u.0 < length net.units = (n.members g u.0 lg u.1).0 in
+    let r = cell_found first owner g k.0 x k.2 in
+    let lawful : IsLawfulCell net u.0 k.0 = subst (IsLawfulCell net u.0) k.1.2 (n.cells u.0 k.1.0 k.0 lu k.1.1) in
+    let w = cell_lawful net u.0 k.0 r.unit r.place lawful r.is in
+    let b = number_below net.units first cells r.unit r.place h (omega (arith, w.0, lu)) w.1 in
+    let e = r.number in
+    omega (arith, b, e)
+
 -- the groups of the cells, by their numbers
 pub record AreOwners (net : NetShape) (first owner : List ℕ) : Type 0 where
   pub is : (g u i : ℕ) → IsCellOf net g u i → get_or owner (get_or first u 0 + i) 0 ≡ g
@@ -270,6 +285,6 @@ own_uncounted N net first owner cells g v j n num own cell =
     let x = get_or first v 0 + j in
     let xs = group_reads_of net.units first owner g (units_of net g) in
     none (count_of x xs) (λ some.
-        let r = read_found N net first owner g x n own cell.group (count_found x xs some) in
-        let same = number_apart net.units first cells r.unit r.place v j num r.cell.unit r.cell.place cell.unit cell.place r.number in
-        r.other (sym r.cell.is ∙ ap (group_of net) same.0 ∙ cell.is))
+    let r = read_found N net first owner g x n own cell.group (count_found x xs some) in
+    let same = number_apart net.units first cells r.unit r.place v j num r.cell.unit r.cell.place cell.unit cell.place r.number in
+    r.other (sym r.cell.is ∙ ap (group_of net) same.0 ∙ cell.is))

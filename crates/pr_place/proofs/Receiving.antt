@@ -96,7 +96,7 @@ received_more N P net class stage g col start placed before ready groups n l ins
             | inl idle ↦ absurd (false≢true (sym new ∙ ap (λ (ps : List Seat). is_placed ps g) (sym idle ∙ is) ∙ now))
             | inr less ↦ (let w : left_of net placed ≡ left_of net (placed ++ b) + 1 = subst (λ (ps : List Seat). left_of net placed ≡ left_of net ps + 1) is less in omega (arith, e, w, p))
           ]
-      );
+          );
       seats = λ t c. elim (Contains-append_cases placed b t c) [
         | inl old ↦ elim (h.seats t old) [ inl first ↦ inl first | inr (s, there) ↦ inr (s, Contains-append_left groups (g ∷ []) t.group there) ]
         | inr fresh ↦

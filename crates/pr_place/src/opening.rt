@@ -61,6 +61,11 @@ pub fn wake(tables: &Tables, waits: &mut Vec<usize>, candidates: &mut Candidates
     ensures woken { Woken tables.now.class.items waits.old.items candidates.old.ready.items waits.new.items candidates.new.ready.items }
 {
     for &group in groups {
-        wake_readers(&tables.class, waits, candidates, &tables.readers[group as usize]);
+        wake_readers(
+            &tables.class,
+            waits,
+            candidates,
+            &tables.readers[group as usize],
+        );
     }
 }

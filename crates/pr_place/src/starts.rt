@@ -6,15 +6,12 @@ ghost use Rattle.pr_place.specs.Candidates.{IsCovered};
 ghost use Rattle.pr_place.specs.Tables.{AreTables, IsStart};
 ghost use Rattle.pr_place.specs.Tracking.{ops_of};
 
-use crate::candidates::{BLOCK, with};
+use crate::candidates::{BLOCK, NONE, with};
 use crate::lookups::Tables;
 use crate::plans::Plan;
 use crate::progress::Progress;
 use pr_net::Net;
 use std::alloc::{AllocError, Global};
-
-/// The class of groups that are no candidates.
-const NONE: u8 = 255;
 
 /// The counts, the candidates and the columns with which the first stripe begins.
 #[derive(Drop)]
