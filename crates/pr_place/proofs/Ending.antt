@@ -1,9 +1,9 @@
 -- How placing begins and ends.
 use Rattle.std.proofs.Common.{◌≡◌, ◌≢◌, ℕ, zero, suc, ◌+◌, ◌-◌, ◌^◌, ◌<◌, ◌≤◌, ◌==◌, ◌&&◌, Bool, true, false, not, nat_lt, List, [], ◌∷◌, length, get_or, map, replicate, Option, None, Some, if◌then◌else◌, refl, sym, ap, ap₂, ◌∙◌, subst, inl, inr, arith}
 use Rattle.std.specs.List.{Contains, find, range_with_len}
-use Rattle.std.specs.Option.{is_some, unwrap_or}
+use Rattle.std.specs.Option.{is_some, is_none, unwrap_or}
 use Rattle.std.proofs.lemmas.Bool.{cases_Bool, false≢true, not-false, not-true}
-use Rattle.std.proofs.lemmas.List.{length-replicate, get_or-replicate}
+use Rattle.std.proofs.lemmas.List.{length-replicate, get_or-replicate, get_or_default}
 use Rattle.pr_net.specs.Shape.{NetShape, cells_of}
 use Rattle.pr_net.specs.Nets.{IsNet, group_of}
 use Rattle.pr_net.proofs.Lists.{sought, all_pass, all_from, in_range, range_below, at_head, in_tail}
@@ -20,6 +20,7 @@ use Rattle.pr_place.specs.Opening.{Staged, left_of, Opening}
 use Rattle.pr_place.specs.Courses.{Opens, IsStuck, first_open, home_at}
 use Rattle.pr_place.proofs.Uses.{uses_of, none_left, all_read}
 use Rattle.pr_place.proofs.Tables.{find_same}
+use Rattle.pr_place.proofs.Filling.{first_is}
 use Rattle.pr_place.proofs.Stages.{left_at_first}
 use Rattle.pr_place.proofs.Stripes.{placed_sound}
 use Rattle.pr_place.proofs.Soundness.{Setting, At, at, first_cell, cell_of}
@@ -103,7 +104,7 @@ filled_now N P net t course h none = record { all = all_if_none net (placed_afte
 -- ---- the homes
 map_same : {X : Type 0} (f k : ℕ → X) (xs : List ℕ) → ((x : ℕ) → Contains xs x → f x ≡ k x) → map f xs ≡ map k xs
 map_same f k [] h = refl
-map_same f k (x ∷ xs) h = ap₂ (λ (y : _) (ys : List _). y ∷ ys) (h x (at_head x xs)) (map_same f k xs (λ y c. h y (in_tail x y xs c)))
+map_same {X} f k (x ∷ xs) h = ap₂ (λ (y : X) (ys : List X). y ∷ ys) (h x (at_head x xs)) (map_same f k xs (λ y c. h y (in_tail x y xs c)))
 
 -- the placement that the course has come to
 ended : (N P : ℕ) (net : NetShape) → ℕ → PlacementShape
@@ -117,6 +118,43 @@ setting N P net t course tables hp h none = record {
   greedy = record { filled = filled_now N P net t course h none; homes = refl };
   sound = placed_sound N P net course.stage tables.fixed.net_is tables.fixed.registers;
 }
+
+abbrev pub home_by : ℕ → ℕ → List ℕ → HomeShape
+home_by stage col regs = record { stage = stage; col = col; regs = regs }
+
+pub same_home : {a b d e : ℕ} {xs ys : List ℕ} → a ≡ b → d ≡ e → xs ≡ ys → home_by a d xs ≡ home_by b e ys
+same_home {a} {b} {d} {e} {xs} {ys} p q r = ap (λ (k : ℕ). home_by k d xs) p ∙ ap (λ (k : ℕ). home_by b k xs) q ∙ ap (home_by b e) r
+
+-- where the tables are looked at
+pub at_now : {X : Type 0} (xs : List X) (i : ℕ) (x d : X) → x ≡ get_or xs i x → i < length xs → x ≡ get_or xs i d
+at_now xs i x d is l = is ∙ get_or_default xs i x d l
+
+pub cells_inside : (N P : ℕ) (net : NetShape) (t : Tables) (u : ℕ) → AreTables N P net t → u < length net.units → get_or t.cells.first.items u 0 + length (cells_of net u) ≤ length t.cells.owner.items
+cells_inside N P net t u tables l =
+    let n = tables.fixed.net_is in
+    let some = n.filled u l in
+    let last : IsCell net u (length (cells_of net u) - 1) = record { unit = l; place = omega (arith, some) } in
+    let inside = tables.fixed.numbered.inside (group_of net u) u (length (cells_of net u) - 1) (cell_of N net n u (length (cells_of net u) - 1) last) in
+    omega (arith, inside, some)
+
+pub first_inside : (N P : ℕ) (net : NetShape) (t : Tables) (u : ℕ) → AreTables N P net t → u < length net.units → get_or t.cells.first.items u 0 < length t.cells.owner.items
+first_inside N P net t u tables l = let some = tables.fixed.net_is.filled u l in let all = cells_inside N P net t u tables l in omega (arith, some, all)
+
+pub owner_inside : (N P : ℕ) (net : NetShape) (t : Tables) (u : ℕ) → AreTables N P net t → u < length net.units → get_or t.cells.owner.items (get_or t.cells.first.items u 0) 0 < length net.groups
+owner_inside N P net t u tables l =
+    let n = tables.fixed.net_is in
+    let cell = cell_of N net n u 0 (first_cell N net n u l) in
+    let first = get_or t.cells.first.items u 0 in
+    let z : first ≡ first + 0 = omega arith in
+    let own : get_or t.cells.owner.items first 0 ≡ group_of net u = ap (λ (k : ℕ). get_or t.cells.owner.items k 0) z ∙ tables.owned.owner_is (group_of net u) u 0 cell in
+    subst (λ (k : ℕ). k < length net.groups) (sym own) cell.group
+
+pub none_is : (o : Option ℕ) → not (is_some o) ≡ is_none o
+none_is None = refl
+none_is (Some x) = refl
+
+pub open_below : (stages : List (Option ℕ)) (g : ℕ) → first_open stages ≡ Some g → g < length stages
+open_below stages g e = let f = first_is (λ k. not (is_some (get_or stages k None))) (length stages) 0 g e in let h = f.high in omega (arith, h)
 
 pub home_is_at : (N P : ℕ) (net : NetShape) (t : Tables) (course : Course) → AreTables N P net t → 2 ≤ P → Opens N P net t course → course.left ≡ 0 → (u : ℕ) → u < length net.units → home_at net t course u ≡ home_in net (placed_after N P net course.stage) u
 unfolding ended
@@ -139,9 +177,6 @@ home_is_at N P net t course tables hp h none u l =
         let c : IsCell net u i = record { unit = l; place = range_below (length (cells_of net u)) i m } in
         ap (λ (q : ℕ × ℕ). q.1) (spot_is i c) ∙ sym (ap (λ (q : Seat). q.reg) (seen i c).found)) in
     same_home stage col regs
-  where
-    same_home : {a b d e : ℕ} {xs ys : List ℕ} → a ≡ b → d ≡ e → xs ≡ ys → (record { stage = a; col = d; regs = xs } : HomeShape) ≡ record { stage = b; col = e; regs = ys }
-    same_home {a} {b} {d} {e} {xs} {ys} p q r = cc
 
 pub homes_are : (N P : ℕ) (net : NetShape) (t : Tables) (course : Course) → AreTables N P net t → 2 ≤ P → Opens N P net t course → course.left ≡ 0 → map (home_at net t course) (range_with_len 0 (length net.units)) ≡ homes_in net (placed_after N P net course.stage)
 homes_are N P net t course tables hp h none = map_same (home_at net t course) (home_in net (placed_after N P net course.stage)) (range_with_len 0 (length net.units)) (λ u c. home_is_at N P net t course tables hp h none u (range_below (length net.units) u c))

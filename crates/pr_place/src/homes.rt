@@ -1,6 +1,6 @@
 //! Where the units of a net stand.
 
-ghost use Rattle.std.specs.Prelude.{◌≡◌, ◌≤◌, ◌<◌, ◌+◌, ℕ, Some, None, IfOk, length, map};
+ghost use Rattle.std.specs.Prelude.{◌≡◌, ◌≤◌, ◌<◌, ◌+◌, ◌^◌, ℕ, Some, None, IfOk, length, map};
 ghost use Rattle.std.specs.List.{range_with_len};
 ghost use Rattle.pr_net.specs.Nets.{IsNet};
 ghost use Rattle.pr_net.specs.Whole.{shape_of};
@@ -19,7 +19,8 @@ use std::alloc::{AllocError, Global};
 
 /// The registers of so many cells from one on.
 fn registers(alloc: Global, progress: &Progress, from: usize, count: usize) -> Result<Vec<u8>, AllocError>
-    requires { from + count ≤ length progress.now.spots }
+    requires inside { from + count ≤ length progress.now.spots }
+    requires small { from + count < 2 ^ 64 }
     ensures { IfOk result (λ regs. regs.items ≡ map (λ i. (spotted progress.now.spots (from + i)).1) (range_with_len 0 count)) }
 {
     let mut regs = Vec::with_capacity(alloc, count)?;
@@ -60,6 +61,7 @@ pub fn homes<const N: usize, const P: usize>(
 ) -> Result<Vec<Home>, AllocError>
     requires tables { AreTables N P (shape_of net.now) tables.now }
     requires opens { Opens N P (shape_of net.now) tables.now course.now }
+    requires registers { 2 ≤ P }
     requires none { course.now.left ≡ 0 }
     ensures { IfOk result (λ homes. map home_shape homes.items ≡ homes_in (shape_of net.now) (placed_after N P (shape_of net.now) course.now.stage)) }
 {

@@ -2,5 +2,5 @@ use Rattle.pr_net.specs.Whole.{shape_of}
 use Rattle.pr_place.proofs.Ending.{opens_first}
 use Rattle.pr_place.proofs.course.begin.Goals as goal
 
-pub returns-in_ok-start : goal.returns-in_ok-start
-returns-in_ok-start g c = ?
+pub returns : goal.returns
+returns g c = ?
