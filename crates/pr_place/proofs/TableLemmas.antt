@@ -21,7 +21,7 @@ use Rattle.pr_place.specs.Waits.{Owned}
 use Rattle.pr_place.proofs.Rule.{nothing}
 use Rattle.pr_place.proofs.Tracking.{new_lives}
 use Rattle.pr_place.proofs.Settling.{count_here, count_other}
-use Rattle.pr_place.proofs.NumberLemmas.{number_below, number_apart, numbers_are, cell_at_spot}
+use Rattle.pr_place.proofs.NumberLemmas.{first_long, number_below, number_apart, numbers_are, cell_at_spot}
 use Rattle.pr_place.proofs.ReadLemmas.{AreOwners, ReadCell, read_found, read_into, reads_counted, own_uncounted, reads_below}
 use Rattle.pr_place.proofs.MarkLemmas.{kept_is, outputs_long}
 use Rattle.pr_place.proofs.ReaderLemmas.{owns}
@@ -232,6 +232,7 @@ tables_are N P net t h q columns registers few class_long small alike readers_lo
     let ops_long : length ops ≡ length plans = length-map plans (λ (p : Plan). p.reads.items) in
     record {
       fixed = fixed_by N P net t.cells plans t.class.items h q columns registers few class_long small;
+      first_long = first_long net.units t.cells.first.items (length t.cells.owner.items) h.cells.numbered;
       owned = owned_by_cells N net t.cells ops h;
       uses_long = h.cells.uses_long;
       uses = uses_by N net t.cells ops h;
