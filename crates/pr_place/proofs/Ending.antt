@@ -1,7 +1,7 @@
 -- How placing begins and ends.
-use Rattle.std.proofs.Common.{◌≡◌, ◌≢◌, ℕ, zero, suc, ◌+◌, ◌-◌, ◌^◌, ◌<◌, ◌≤◌, ◌==◌, ◌&&◌, Bool, true, false, not, nat_lt, List, [], ◌∷◌, length, get_or, map, replicate, Option, None, Some, if◌then◌else◌, refl, sym, ap, ap₂, ◌∙◌, subst, inl, inr, arith}
+use Rattle.std.proofs.Common.{◌≡◌, ◌≢◌, ℕ, zero, suc, ◌+◌, ◌-◌, ◌^◌, ◌<◌, ◌≤◌, ◌==◌, ◌&&◌, Bool, true, false, not, nat_lt, List, [], ◌∷◌, ◌++◌, length, get_or, map, replicate, Option, None, Some, if◌then◌else◌, refl, sym, ap, ap₂, ◌∙◌, subst, inl, inr, arith}
 use Rattle.std.specs.List.{Contains, find, range_with_len}
-use Rattle.std.specs.Option.{is_some, is_none, unwrap_or}
+use Rattle.std.specs.Option.{is_some, unwrap_or}
 use Rattle.std.proofs.lemmas.Bool.{cases_Bool, false≢true, not-false, not-true}
 use Rattle.std.proofs.lemmas.List.{length-replicate, get_or-replicate, get_or_default}
 use Rattle.pr_net.specs.Shape.{NetShape, cells_of}
@@ -28,6 +28,10 @@ use Rattle.pr_place.proofs.Opened.{cell_at, spot_at}
 use Rattle.pr_place.proofs.Waking.{ready_is}
 
 -- ---- nothing is placed
+pub one_none_more : (n : ℕ) → replicate {A = Option ℕ} n None ++ None ∷ [] ≡ replicate (suc n) None
+one_none_more zero = refl
+one_none_more (suc n) = ap (λ (os : List (Option ℕ)). None ∷ os) (one_none_more n)
+
 none_after : (N P : ℕ) (net : NetShape) → placed_after N P net 0 ≡ []
 unfolding placed_after
 none_after N P net = refl
@@ -63,11 +67,11 @@ opens_first N P net t start course tables h stage left progress ready summary wa
       standing = none_staged net;
     } in
     let at : Opening N P net t course.progress course.candidates.ready.items course.candidates.summary.items course.waits.items course.stages.items 0 [] =
-        subst (λ (s : Progress). Opening N P net t s course.candidates.ready.items course.candidates.summary.items course.waits.items course.stages.items 0 []) (sym progress)
-        (subst (λ (r : List ℕ). Opening N P net t start.progress r course.candidates.summary.items course.waits.items course.stages.items 0 []) (sym ready)
-        (subst (λ (r : List ℕ). Opening N P net t start.progress start.ready.items r course.waits.items course.stages.items 0 []) (sym summary)
-        (subst (λ (r : List ℕ). Opening N P net t start.progress start.ready.items start.summary.items r course.stages.items 0 []) (sym waits)
-        (subst (λ (r : List (Option ℕ)). Opening N P net t start.progress start.ready.items start.summary.items start.waits.items r 0 []) (sym stages) opening)))) in
+    subst (λ (s : Progress). Opening N P net t s course.candidates.ready.items course.candidates.summary.items course.waits.items course.stages.items 0 []) (sym progress)
+    (subst (λ (r : List ℕ). Opening N P net t start.progress r course.candidates.summary.items course.waits.items course.stages.items 0 []) (sym ready)
+    (subst (λ (r : List ℕ). Opening N P net t start.progress start.ready.items r course.waits.items course.stages.items 0 []) (sym summary)
+    (subst (λ (r : List ℕ). Opening N P net t start.progress start.ready.items start.summary.items r course.stages.items 0 []) (sym waits)
+    (subst (λ (r : List (Option ℕ)). Opening N P net t start.progress start.ready.items start.summary.items start.waits.items r 0 []) (sym stages) opening)))) in
     record {
       spots = ap (λ (s : Progress). length s.spots) progress ∙ h.spots;
       opening = subst (λ (k : ℕ). Opening N P net t course.progress course.candidates.ready.items course.candidates.summary.items course.waits.items course.stages.items k (placed_after N P net k)) (sym stage)
@@ -149,10 +153,6 @@ owner_inside N P net t u tables l =
     let own : get_or t.cells.owner.items first 0 ≡ group_of net u = ap (λ (k : ℕ). get_or t.cells.owner.items k 0) z ∙ tables.owned.owner_is (group_of net u) u 0 cell in
     subst (λ (k : ℕ). k < length net.groups) (sym own) cell.group
 
-pub none_is : (o : Option ℕ) → not (is_some o) ≡ is_none o
-none_is None = refl
-none_is (Some x) = refl
-
 pub open_below : (stages : List (Option ℕ)) (g : ℕ) → first_open stages ≡ Some g → g < length stages
 open_below stages g e = let f = first_is (λ k. not (is_some (get_or stages k None))) (length stages) 0 g e in let h = f.high in omega (arith, h)
 
@@ -164,7 +164,7 @@ home_is_at N P net t course tables hp h none u l =
     let first = get_or t.cells.first.items u 0 in
     let seen = λ (i : ℕ) (c : IsCell net u i). at N P net (ended N P net course.stage) s u i c in
     let spot_is = λ (i : ℕ) (c : IsCell net u i). (let a = seen i c in
-        let e : spotted course.progress.spots (first + i) ≡ (a.seat.col, a.seat.reg) = ap₂ (λ (v j : ℕ). spotted course.progress.spots (get_or t.cells.first.items v 0 + j)) (sym a.unit) (sym a.place) ∙ h.opening.tracks.spots_is a.seat a.there in e) in
+    let e : spotted course.progress.spots (first + i) ≡ (a.seat.col, a.seat.reg) = ap₂ (λ (v j : ℕ). spotted course.progress.spots (get_or t.cells.first.items v 0 + j)) (sym a.unit) (sym a.place) ∙ h.opening.tracks.spots_is a.seat a.there in e) in
     let head = first_cell N net tables.fixed.net_is u l in
     let a = seen 0 head in
     let z : first ≡ first + 0 = omega arith in
@@ -173,9 +173,9 @@ home_is_at N P net t course tables hp h none u l =
     let stage : unwrap_or (get_or course.stages.items (get_or t.cells.owner.items first 0) None) 0 ≡ (seat_of placed u 0).stage = ap (λ (g : ℕ). unwrap_or (get_or course.stages.items g None) 0) own ∙ ap (λ (o : Option ℕ). unwrap_or o 0) (h.opening.standing.stands a.seat a.there) ∙ sym (ap (λ (q : Seat). q.stage) a.found) in
     let col : (spotted course.progress.spots first).0 ≡ (seat_of placed u 0).col = ap (λ (k : ℕ). (spotted course.progress.spots k).0) z ∙ ap (λ (q : ℕ × ℕ). q.0) (spot_is 0 head) ∙ sym (ap (λ (q : Seat). q.col) a.found) in
     let regs : map (λ i. (spotted course.progress.spots (first + i)).1) (range_with_len 0 (length (cells_of net u))) ≡ map (λ i. (seat_of placed u i).reg) (range_with_len 0 (length (cells_of net u))) =
-        map_same (λ i. (spotted course.progress.spots (first + i)).1) (λ i. (seat_of placed u i).reg) (range_with_len 0 (length (cells_of net u))) (λ i m.
-        let c : IsCell net u i = record { unit = l; place = range_below (length (cells_of net u)) i m } in
-        ap (λ (q : ℕ × ℕ). q.1) (spot_is i c) ∙ sym (ap (λ (q : Seat). q.reg) (seen i c).found)) in
+    map_same (λ i. (spotted course.progress.spots (first + i)).1) (λ i. (seat_of placed u i).reg) (range_with_len 0 (length (cells_of net u))) (λ i m.
+    let c : IsCell net u i = record { unit = l; place = range_below (length (cells_of net u)) i m } in
+    ap (λ (q : ℕ × ℕ). q.1) (spot_is i c) ∙ sym (ap (λ (q : Seat). q.reg) (seen i c).found)) in
     same_home stage col regs
 
 pub homes_are : (N P : ℕ) (net : NetShape) (t : Tables) (course : Course) → AreTables N P net t → 2 ≤ P → Opens N P net t course → course.left ≡ 0 → map (home_at net t course) (range_with_len 0 (length net.units)) ≡ homes_in net (placed_after N P net course.stage)

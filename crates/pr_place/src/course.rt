@@ -1,6 +1,6 @@
 //! The course of placing, stripe after stripe.
 
-ghost use Rattle.std.specs.Prelude.{◌≡◌, ◌≤◌, ◌<◌, true, false, IfOk, length};
+ghost use Rattle.std.specs.Prelude.{◌≡◌, ◌≤◌, ◌<◌, true, false, None, IfOk, length, replicate};
 ghost use Rattle.pr_net.specs.Whole.{shape_of};
 ghost use Rattle.pr_place.specs.Courses.{Opens, Filled, IsStuck};
 ghost use Rattle.pr_place.specs.Tables.{AreTables};
@@ -31,6 +31,17 @@ pub struct Course {
     pub stages: Vec<Option<u32>>,
 }
 
+/// No group has a stage.
+fn no_stages(alloc: Global, groups: usize) -> Result<Vec<Option<u32>>, AllocError>
+    ensures { IfOk result (λ stages. stages.items ≡ replicate groups None) }
+{
+    let mut stages = Vec::with_capacity(alloc, groups)?;
+    for group in 0..groups {
+        stages.push(None)?;
+    }
+    Ok(stages)
+}
+
 /// Nothing is placed.
 pub fn begin<const N: usize, const P: usize>(
     alloc: Global,
@@ -41,7 +52,7 @@ pub fn begin<const N: usize, const P: usize>(
     requires registers { 2 ≤ P }
     ensures { IfOk result (λ course. Opens N P (shape_of net.now) tables.now course) }
 {
-    let stages = vec![in alloc; None; net.groups.len()]?;
+    let stages = no_stages(alloc, net.groups.len())?;
     let start = Start::of::<N, P>(alloc, net, tables)?;
     Ok(Course {
         stage: 0,
@@ -93,7 +104,14 @@ pub fn advance<const N: usize, const P: usize>(
 {
     received.clear();
     let stage = course.stage;
-    fill::<N, P>(net, tables, &mut course.candidates, &mut course.progress, received, stage)?;
+    fill::<N, P>(
+        net,
+        tables,
+        &mut course.candidates,
+        &mut course.progress,
+        received,
+        stage,
+    )?;
     if received.is_empty() {
         return Ok(false);
     }

@@ -17,7 +17,10 @@ use std::alloc::Global;
 
 /// The placement of a net by the greedy rule, on N columns and P registers; else the number of the least group that fits in
 /// no stripe.
-pub fn place<const N: usize, const P: usize>(alloc: Global, net: &Net) -> Result<Placement, PlaceFault>
+pub fn place<const N: usize, const P: usize>(
+    alloc: Global,
+    net: &Net,
+) -> Result<Placement, PlaceFault>
     requires net { IsNet N (net_shape net.now) }
     requires columns { 1 ≤ N }
     requires most_columns { N ≤ 64 }

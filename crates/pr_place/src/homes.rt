@@ -18,7 +18,12 @@ use pr_net::Net;
 use std::alloc::{AllocError, Global};
 
 /// The registers of so many cells from one on.
-fn registers(alloc: Global, progress: &Progress, from: usize, count: usize) -> Result<Vec<u8>, AllocError>
+fn registers(
+    alloc: Global,
+    progress: &Progress,
+    from: usize,
+    count: usize,
+) -> Result<Vec<u8>, AllocError>
     requires inside { from + count ≤ length progress.now.spots }
     requires small { from + count < 2 ^ 64 }
     ensures { IfOk result (λ regs. regs.items ≡ map (λ i. (spotted progress.now.spots (from + i)).1) (range_with_len 0 count)) }
