@@ -1,22 +1,19 @@
 -- The course of placing goes on.
-use Rattle.std.proofs.Common.{◌≡◌, ℕ, suc, ◌+◌, ◌*◌, ◌-◌, ◌^◌, ◌<◌, ◌≤◌, List, [], length, get_or, replicate, false, Option, refl, sym, ap, ◌∙◌, subst, inl, inr, arith}
+use Rattle.std.proofs.Common.{◌≡◌, ℕ, suc, ◌+◌, ◌-◌, ◌<◌, ◌≤◌, List, length, get_or, replicate, false, refl, sym, ap, ◌∙◌, subst, inl, inr, arith}
 use Rattle.std.specs.List.{Contains, All}
 use Rattle.std.proofs.lemmas.Bool.{cases_lt, cases_eq}
 use Rattle.std.proofs.lemmas.List.Elements.{Contains-get_or}
 use Rattle.pr_net.specs.Shape.{NetShape}
-use Rattle.pr_place.specs.declared.candidates.Candidates.{Candidates}
 use Rattle.pr_place.specs.declared.course.Course.{Course}
 use Rattle.pr_place.specs.declared.lookups.Tables.{Tables}
 use Rattle.pr_place.specs.Greedy.{Seat, placed_after, stripe}
 use Rattle.pr_place.specs.Registers.{Progress, opened}
-use Rattle.pr_place.specs.Tracking.{Tracks, Filling, ops_of}
+use Rattle.pr_place.specs.Tracking.{Tracks, ops_of}
 use Rattle.pr_place.specs.Tables.{AreTables, reads_in}
-use Rattle.pr_place.specs.Waits.{waits_of}
-use Rattle.pr_place.specs.Opening.{Waits, AreReady, Staged, left_of, Received, Opening, noted, readings, AreLists, Woken}
+use Rattle.pr_place.specs.Opening.{Waits, Staged, left_of, Received, Opening, noted, readings, AreLists, Woken}
 use Rattle.pr_place.specs.Courses.{EachGrew, Opens, Filled}
 use Rattle.pr_place.proofs.Rule.{Sound}
 use Rattle.pr_place.proofs.Stages.{so_far}
-use Rattle.pr_place.proofs.Stripes.{placed_sound}
 use Rattle.pr_place.proofs.Waking.{opened_tracks}
 use Rattle.pr_place.proofs.Opened.{staged_on, readings_are, no_readings, waited_for_none, ready_again, stripe_grows}
 

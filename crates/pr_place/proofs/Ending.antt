@@ -1,29 +1,29 @@
 -- How placing begins and ends.
-use Rattle.std.proofs.Common.{◌≡◌, ◌≢◌, ℕ, zero, suc, ◌+◌, ◌-◌, ◌^◌, ◌<◌, ◌≤◌, ◌==◌, ◌&&◌, Bool, true, false, not, nat_lt, List, [], ◌∷◌, ◌++◌, length, get_or, map, replicate, Option, None, Some, if◌then◌else◌, refl, sym, ap, ap₂, ◌∙◌, subst, inl, inr, arith}
+use Rattle.std.proofs.Common.{◌≡◌, ℕ, zero, suc, ◌+◌, ◌-◌, ◌<◌, ◌≤◌, ◌==◌, ◌&&◌, Bool, true, false, not, List, [], ◌∷◌, ◌++◌, length, get_or, map, replicate, Option, None, Some, refl, sym, ap, ap₂, ◌∙◌, subst, inl, inr, arith}
 use Rattle.std.specs.List.{Contains, find, range_with_len}
 use Rattle.std.specs.Option.{is_some, unwrap_or}
-use Rattle.std.proofs.lemmas.Bool.{cases_Bool, false≢true, not-false, not-true}
+use Rattle.std.proofs.lemmas.Bool.{cases_Bool, false≢true, not-false}
 use Rattle.std.proofs.lemmas.List.{length-replicate, get_or-replicate, get_or_default}
 use Rattle.pr_net.specs.Shape.{NetShape, cells_of}
-use Rattle.pr_net.specs.Nets.{IsNet, group_of}
-use Rattle.pr_net.proofs.Lists.{sought, all_pass, all_from, in_range, range_below, at_head, in_tail}
+use Rattle.pr_net.specs.Nets.{group_of}
+use Rattle.pr_net.proofs.Lists.{sought, all_from, in_range, range_below, at_head, in_tail}
 use Rattle.pr_place.specs.declared.course.Course.{Course}
 use Rattle.pr_place.specs.declared.lookups.Tables.{Tables}
 use Rattle.pr_place.specs.declared.starts.Start.{Start}
 use Rattle.pr_place.specs.Placements.{HomeShape, PlacementShape}
-use Rattle.pr_place.specs.Greedy.{Spot, Seat, groups_in, is_placed, is_ready, seat_of, home_in, homes_in, placed_after, all_placed, IsFilled, IsGreedy, IsNoFit, number_of_group}
+use Rattle.pr_place.specs.Greedy.{Seat, groups_in, is_placed, seat_of, home_in, homes_in, placed_after, all_placed, IsFilled, IsNoFit, number_of_group}
 use Rattle.pr_place.specs.Sound.{IsCell}
 use Rattle.pr_place.specs.Registers.{Progress, spotted, count_of}
-use Rattle.pr_place.specs.Tracking.{Filling, ops_of}
+use Rattle.pr_place.specs.Tracking.{ops_of}
 use Rattle.pr_place.specs.Tables.{AreTables, IsStart}
 use Rattle.pr_place.specs.Opening.{Staged, left_of, Opening}
 use Rattle.pr_place.specs.Courses.{Opens, IsStuck, first_open, home_at}
-use Rattle.pr_place.proofs.Uses.{uses_of, none_left, all_read}
+use Rattle.pr_place.proofs.Uses.{none_left, all_read}
 use Rattle.pr_place.proofs.Tables.{find_same}
 use Rattle.pr_place.proofs.Filling.{first_is}
 use Rattle.pr_place.proofs.Stages.{left_at_first}
 use Rattle.pr_place.proofs.Stripes.{placed_sound}
-use Rattle.pr_place.proofs.Soundness.{Setting, At, at, first_cell, cell_of}
+use Rattle.pr_place.proofs.Soundness.{Setting, at, first_cell, cell_of}
 use Rattle.pr_place.proofs.Opened.{cell_at, spot_at}
 use Rattle.pr_place.proofs.Waking.{ready_is}
 

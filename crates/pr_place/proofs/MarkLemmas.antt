@@ -1,11 +1,10 @@
 -- Marks of the cells that outputs have.
-use Rattle.std.proofs.Common.{◌≡◌, ◌≢◌, ℕ, zero, suc, ◌+◌, ◌<◌, ◌==◌, ◌&&◌, ◌||◌, Bool, true, false, List, [], ◌∷◌, length, get_or, set, replicate, refl, sym, ap, ap₂, ◌∙◌, subst, arith, inl, inr, get_or-set_same, get_or-set_other, length-set}
-use Rattle.std.specs.List.{list_any, Contains}
-use Rattle.std.proofs.lemmas.Bool.{cases_eq, cases_Bool, and_parts, eqb-true, eq-eqb, ne_eqb, and_from, false_from_ne_true}
+use Rattle.std.proofs.Common.{◌≡◌, ℕ, suc, ◌+◌, ◌<◌, ◌==◌, ◌&&◌, ◌||◌, Bool, true, false, List, [], ◌∷◌, length, get_or, set, replicate, refl, sym, ap, ap₂, ◌∙◌, subst, arith, inl, inr, get_or-set_same, get_or-set_other, length-set}
+use Rattle.std.specs.List.{list_any}
+use Rattle.std.proofs.lemmas.Bool.{cases_eq, and_parts, eqb-true, eq-eqb, ne_eqb, and_from, false_from_ne_true}
 use Rattle.std.proofs.lemmas.List.{get_or-replicate, length-replicate}
-use Rattle.std.proofs.lemmas.List.Elements.{Contains-get_or}
 use Rattle.pr_net.specs.declared.cells.Slice.{Slice}
-use Rattle.pr_net.specs.Shape.{OutputShape, NetShape, cells_of}
+use Rattle.pr_net.specs.Shape.{OutputShape, NetShape}
 use Rattle.pr_net.specs.Nets.{is_slice_of, is_output, IsLawfulSlice, IsLawfulOutput, IsNet}
 use Rattle.pr_place.specs.Numbering.{IsNumbered, IsSliceBelow, marked, marked_all, marked_outputs}
 use Rattle.pr_place.specs.Tracking.{IsCellOf}

@@ -1,30 +1,29 @@
 -- From one stripe to the next.
-use Rattle.std.proofs.Common.{◌≡◌, ◌≢◌, ℕ, zero, suc, ◌+◌, ◌*◌, ◌-◌, ◌^◌, ◌<◌, ◌≤◌, ◌⊎◌, ◌==◌, ◌&&◌, ◌||◌, Bool, true, false, not, nat_lt, List, [], ◌∷◌, ◌++◌, length, get_or, set, map, replicate, Option, None, Some, if◌then◌else◌, refl, sym, ap, ap₂, ◌∙◌, subst, inl, inr, arith, get_or-set_same, get_or-set_other, length-set, length-append}
+use Rattle.std.proofs.Common.{◌≡◌, ◌≢◌, ℕ, suc, ◌-◌, ◌^◌, ◌<◌, ◌≤◌, ◌⊎◌, ◌==◌, ◌&&◌, Bool, true, false, not, nat_lt, List, [], ◌∷◌, ◌++◌, length, get_or, set, Option, None, Some, if◌then◌else◌, refl, sym, ap, ap₂, ◌∙◌, subst, inl, inr, arith, get_or-set_same, get_or-set_other, length-set, length-append}
 use Rattle.std.specs.Int.{bit_at}
 use Rattle.std.specs.List.{Contains, fold, sum_by, All}
 use Rattle.std.specs.Option.{is_some}
-use Rattle.std.proofs.lemmas.Bool.{cases_eq, cases_Bool, cases_lt, and_from, and_parts, eq-eqb, eqb-true, ne_eqb, lt-ltb, ltb-true, false≢true, false_from_ne_true}
+use Rattle.std.proofs.lemmas.Bool.{cases_eq, cases_Bool, and_from, and_parts, eq-eqb, eqb-true, ne_eqb, lt-ltb, ltb-true, false≢true, false_from_ne_true}
 use Rattle.std.proofs.lemmas.List.{get_or_default, append-nil}
 use Rattle.std.proofs.lemmas.List.Elements.{Contains-get_or}
 use Rattle.std.proofs.lemmas.List.Sums.{sum_by-cons}
 use Rattle.std.proofs.lemmas.Nat.Bits.{bit_at_ones}
-use Rattle.pr_net.specs.Shape.{NetShape, cells_of, units_of}
+use Rattle.pr_net.specs.Shape.{NetShape, units_of}
 use Rattle.pr_net.specs.Nets.{IsNet, group_of, group_reads}
 use Rattle.pr_net.proofs.Lists.{any_here, any_found, at_head, in_tail, head_or_tail, range_below}
-use Rattle.pr_place.specs.declared.candidates.Candidates.{Candidates}
 use Rattle.pr_place.specs.declared.lookups.Tables.{Tables}
-use Rattle.pr_place.specs.Greedy.{Spot, Seat, spots_of, groups_in, is_placed, seats_from, is_ready, reads_group, stands_before, turn, stripe, placed_after}
-use Rattle.pr_place.specs.Registers.{Progress, count_of, opened}
-use Rattle.pr_place.specs.Tracking.{IsCellOf, Tracks, Numbered, Filling, Sound, ops_of}
+use Rattle.pr_place.specs.Greedy.{Spot, Seat, spots_of, groups_in, is_placed, seats_from, reads_group, turn, stripe, placed_after}
+use Rattle.pr_place.specs.Registers.{Progress, count_of}
+use Rattle.pr_place.specs.Tracking.{IsCellOf, Filling, Sound, ops_of}
 use Rattle.pr_place.specs.Tables.{AreTables, reads_in, readers_in}
-use Rattle.pr_place.specs.Waits.{waits_of, Owned}
-use Rattle.pr_place.specs.Opening.{reads_of, Waits, AreReady, Staged, left_of, Received, Opening, noted, readings, AreLists, Woken}
+use Rattle.pr_place.specs.Waits.{waits_of}
+use Rattle.pr_place.specs.Opening.{reads_of, AreReady, Staged, left_of, Received, Opening, noted, readings, Woken}
 use Rattle.pr_place.proofs.Spots.{no_spot, spot, position}
 use Rattle.pr_place.proofs.Soundness.{spot_in}
 use Rattle.pr_place.proofs.Stripes.{turn_cases, placed_sound, placed_below}
 use Rattle.pr_place.proofs.Stages.{turns_less}
 use Rattle.pr_place.proofs.Seats.{length-seats_from}
-use Rattle.pr_place.proofs.Waking.{opened_tracks, ready_is, no_waits}
+use Rattle.pr_place.proofs.Waking.{ready_is, no_waits}
 
 -- a spot of a group is a cell of it
 pub cell_at : (N : ℕ) (net : NetShape) → IsNet N net → (h : ℕ) (x : Spot) → h < length net.groups → Contains (spots_of net h) x → IsCellOf net h x.unit x.place

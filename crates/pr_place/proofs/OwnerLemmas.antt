@@ -1,12 +1,12 @@
 -- The group of each cell, noted group by group; who reads whom by it.
-use Rattle.std.proofs.Common.{◌≡◌, ◌≢◌, ℕ, zero, suc, ◌+◌, ◌<◌, List, [], ◌∷◌, length, get_or, set, map, refl, sym, ap, ◌∙◌, subst, arith, inl, inr, get_or-set_same, get_or-set_other, length-set}
+use Rattle.std.proofs.Common.{◌≡◌, ℕ, suc, ◌+◌, ◌<◌, List, [], ◌∷◌, length, get_or, set, map, refl, sym, ap, ◌∙◌, subst, arith, inl, inr, get_or-set_same, get_or-set_other, length-set}
 use Rattle.std.specs.List.{Contains, All}
 use Rattle.std.proofs.lemmas.Bool.{cases_eq}
 use Rattle.std.proofs.lemmas.List.{get_or-map, length-map, get_or_default}
-use Rattle.pr_net.specs.Shape.{NetShape, cells_of, units_of}
+use Rattle.pr_net.specs.Shape.{NetShape, units_of}
 use Rattle.pr_net.specs.Nets.{group_of, IsNet}
 use Rattle.pr_net.proofs.Lists.{at_head, in_tail, head_or_tail, in_none}
-use Rattle.pr_place.specs.Greedy.{Spot, spots_of}
+use Rattle.pr_place.specs.Greedy.{spots_of}
 use Rattle.pr_place.specs.Numbering.{group_numbers, owned_by, IsNumbered}
 use Rattle.pr_place.specs.Tracking.{IsCellOf, spot_number}
 use Rattle.pr_place.proofs.Spots.{spot, no_spot}

@@ -1,5 +1,5 @@
 -- Who reads each group, noted group by group; the classes of groups.
-use Rattle.std.proofs.Common.{◌≡◌, ◌≢◌, ℕ, suc, ◌+◌, ◌<◌, ◌++◌, Bool, true, false, List, [], ◌∷◌, Vec, Global, length, get_or, set, map, drop, replicate, drop-cons, append_assoc, add-one, refl, sym, ap, ap₂, ◌∙◌, subst, arith, inl, inr, get_or-set_same, get_or-set_other, length-set}
+use Rattle.std.proofs.Common.{◌≡◌, ◌≢◌, ℕ, suc, ◌+◌, ◌<◌, ◌++◌, Bool, true, false, List, [], ◌∷◌, Vec, Global, length, get_or, set, map, drop, replicate, drop-cons, append_assoc, refl, sym, ap, ap₂, ◌∙◌, subst, arith, inl, inr, get_or-set_same, get_or-set_other, length-set}
 use Rattle.std.specs.Cmp.Lexicographic.{pointwise}
 use Rattle.std.specs.List.{All}
 use Rattle.std.proofs.Math.Bool.{beq}
@@ -8,7 +8,7 @@ use Rattle.std.proofs.lemmas.List.{get_or-map, length-map, get_or_append_left, g
 use Rattle.pr_place.specs.declared.plans.Plan.{Plan}
 use Rattle.pr_place.specs.Numbering.{readers_from}
 use Rattle.pr_place.specs.Registers.{count_of}
-use Rattle.pr_place.specs.Tables.{kinds_of, numbers_of}
+use Rattle.pr_place.specs.Tables.{numbers_of}
 use Rattle.pr_place.specs.Tracking.{ops_of}
 use Rattle.pr_place.proofs.Settling.{count_here, count_other}
 

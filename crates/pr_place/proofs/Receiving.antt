@@ -1,19 +1,16 @@
 -- The groups that a stripe has received.
-use Rattle.std.proofs.Common.{◌≡◌, ◌≢◌, ℕ, ◌+◌, ◌<◌, ◌≤◌, ◌⊎◌, ◌==◌, ◌&&◌, ◌||◌, Bool, true, false, not, nat_lt, List, [], ◌∷◌, ◌++◌, length, get_or, set, map, Some, if◌then◌else◌, refl, sym, ap, ap₂, ◌∙◌, subst, inl, inr, arith, get_or-set_same, get_or-set_other, length-append}
-use Rattle.std.specs.List.{Contains, list_any, sum_by}
-use Rattle.std.proofs.lemmas.Bool.{cases_eq, cases_Bool, eq-eqb, eqb-true, ne_eqb, or_right, false≢true, false_from_ne_true}
+use Rattle.std.proofs.Common.{◌≡◌, ◌≢◌, ℕ, ◌+◌, ◌<◌, ◌==◌, ◌&&◌, ◌||◌, Bool, true, false, not, nat_lt, List, [], ◌∷◌, ◌++◌, length, get_or, set, Some, if◌then◌else◌, refl, sym, ap, ◌∙◌, subst, inl, inr, arith, get_or-set_same, get_or-set_other, length-append}
+use Rattle.std.specs.List.{Contains, list_any}
+use Rattle.std.proofs.lemmas.Bool.{cases_eq, eq-eqb, eqb-true, ne_eqb, false≢true, false_from_ne_true}
 use Rattle.std.proofs.lemmas.List.Elements.{Contains-append_cases, Contains-append_left, Contains-append_right, Contains-push, Contains-push_cases, Contains-get_or}
 use Rattle.std.proofs.lemmas.List.Folds.{list_any-append}
 use Rattle.std.proofs.lemmas.List.Sums.{sum_by_push}
 use Rattle.pr_net.specs.Shape.{NetShape, units_of}
 use Rattle.pr_net.specs.Nets.{IsNet}
-use Rattle.pr_net.proofs.Lists.{any_here, any_found, only_head}
-use Rattle.pr_place.specs.Greedy.{Spot, Seat, spots_of, is_placed, fits, seat, seats_from, is_ready, turn, least_column}
-use Rattle.pr_place.specs.Sound.{IsCell}
-use Rattle.pr_place.specs.Registers.{count_of}
+use Rattle.pr_net.proofs.Lists.{any_here, any_found}
+use Rattle.pr_place.specs.Greedy.{Seat, spots_of, is_placed, seats_from, is_ready, turn, least_column}
 use Rattle.pr_place.proofs.Spots.{spot}
 use Rattle.pr_place.proofs.Seats.{seat_at, seat_of_spot}
-use Rattle.pr_place.proofs.Rule.{Sound}
 use Rattle.pr_place.proofs.Soundness.{spot_in}
 use Rattle.pr_place.proofs.Tables.{turn_puts}
 use Rattle.pr_place.proofs.Stages.{turn_less}

@@ -1,23 +1,20 @@
 -- Nothing is placed: what the tables say then.
-use Rattle.std.proofs.Common.{◌≡◌, ◌≢◌, ℕ, zero, suc, ◌+◌, ◌-◌, ◌*◌, ◌^◌, ◌<◌, ◌≤◌, ◌==◌, ◌&&◌, Bool, true, false, not, nat_lt, List, [], ◌∷◌, length, get_or, map, replicate, if◌then◌else◌, refl, sym, ap, ap₂, ◌∙◌, subst, arith, inl, inr}
+use Rattle.std.proofs.Common.{◌≡◌, ℕ, ◌+◌, ◌-◌, ◌*◌, ◌^◌, ◌<◌, ◌≤◌, ◌==◌, Bool, true, false, nat_lt, List, [], ◌∷◌, length, get_or, map, replicate, if◌then◌else◌, refl, sym, ap, ◌∙◌, subst, arith, inl, inr}
 use Rattle.std.proofs.Math.Nat.{mul-le-mul_right}
-use Rattle.std.specs.List.{Contains, list_any}
+use Rattle.std.specs.List.{Contains}
 use Rattle.std.specs.Int.{bit_at}
-use Rattle.std.specs.Option.{is_some}
-use Rattle.std.proofs.lemmas.Bool.{cases_Bool, cases_eq, false≢true, and_from, eq-eqb, ne_eqb, lt-ltb, le-ltb, eqb-true}
+use Rattle.std.proofs.lemmas.Bool.{cases_Bool, false≢true, and_from, eq-eqb, lt-ltb}
 use Rattle.std.proofs.lemmas.List.{get_or-map, length-map, length-replicate, get_or-replicate}
-use Rattle.pr_net.specs.Shape.{NetShape, units_of}
-use Rattle.pr_net.specs.Nets.{IsNet}
+use Rattle.pr_net.specs.Shape.{NetShape}
 use Rattle.pr_net.proofs.Lists.{in_none}
 use Rattle.pr_place.specs.declared.lookups.Tables.{Tables}
 use Rattle.pr_place.specs.declared.plans.Plan.{Plan}
 use Rattle.pr_place.specs.Beginning.{nothing_put}
-use Rattle.pr_place.specs.Candidates.{is_in, IsCovered}
-use Rattle.pr_place.specs.Columns.{free_in}
-use Rattle.pr_place.specs.Greedy.{Seat, Spot, spots_of, is_ready}
-use Rattle.pr_place.specs.Registers.{Registers, Progress, row_of}
+use Rattle.pr_place.specs.Candidates.{IsCovered}
+use Rattle.pr_place.specs.Greedy.{spots_of}
+use Rattle.pr_place.specs.Registers.{row_of}
 use Rattle.pr_place.specs.Tables.{AreTables, reads_in}
-use Rattle.pr_place.specs.Tracking.{IsCellOf, HeldBy, Tracks, Offers, Filling, ops_of}
+use Rattle.pr_place.specs.Tracking.{Tracks, Offers, Filling, ops_of}
 use Rattle.pr_place.specs.Waits.{waits_of}
 use Rattle.pr_place.proofs.NumberLemmas.{cell_at_spot}
 use Rattle.pr_place.proofs.Putting.{row_at, row_long}

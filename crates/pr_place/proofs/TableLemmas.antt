@@ -1,22 +1,22 @@
 -- The tables of a net say what the rule asks for.
-use Rattle.std.proofs.Common.{◌≡◌, ◌≢◌, ℕ, zero, suc, ◌+◌, ◌<◌, ◌≤◌, ◌==◌, ◌||◌, Vec, Global, Bool, true, false, nat_lt, List, [], ◌∷◌, ◌++◌, length, get_or, map, replicate, if◌then◌else◌, refl, sym, ap, ap₂, ◌∙◌, subst, arith, inl, inr}
+use Rattle.std.proofs.Common.{◌≡◌, ◌≢◌, ℕ, zero, suc, ◌+◌, ◌<◌, ◌≤◌, ◌==◌, Vec, Global, Bool, false, nat_lt, List, [], ◌∷◌, ◌++◌, length, get_or, map, replicate, if◌then◌else◌, refl, sym, ap, ap₂, ◌∙◌, subst, arith, inl, inr}
 use Rattle.std.specs.List.{Contains, All}
-use Rattle.std.proofs.lemmas.Bool.{cases_eq, cases_lt, cases_Bool, lt-ltb}
+use Rattle.std.proofs.lemmas.Bool.{cases_lt}
 use Rattle.std.proofs.lemmas.List.{get_or-map, length-map, length-replicate, get_or_default, get_or_past}
 use Rattle.std.proofs.lemmas.List.Elements.{Contains-get_or, All-append}
 use Rattle.std.proofs.lemmas.Simd.{map-map}
 use Rattle.pr_net.specs.declared.cells.Cell.{Cell}
-use Rattle.pr_net.specs.Shape.{NetShape, cells_of, units_of}
-use Rattle.pr_net.specs.Nets.{group_of, group_reads, is_output, IsNet}
+use Rattle.pr_net.specs.Shape.{NetShape, units_of}
+use Rattle.pr_net.specs.Nets.{IsNet}
 use Rattle.pr_net.proofs.Lists.{at_head, in_tail}
 use Rattle.pr_place.specs.declared.celltables.CellTables.{CellTables}
 use Rattle.pr_place.specs.declared.plans.Plan.{Plan}
-use Rattle.pr_place.specs.Greedy.{Spot, Seat, spots_of, needs_register}
-use Rattle.pr_place.specs.Numbering.{group_numbers, group_reads_of, reads_from, is_needed, needs_in, readers_from, marked_outputs, IsNumbered}
+use Rattle.pr_place.specs.Greedy.{Spot, spots_of, needs_register}
+use Rattle.pr_place.specs.Numbering.{group_numbers, group_reads_of, reads_from, is_needed, needs_in, readers_from}
 use Rattle.pr_place.specs.Registers.{count_of}
 use Rattle.pr_place.specs.declared.lookups.Tables.{Tables}
 use Rattle.pr_place.specs.Tables.{AreCells, AreTables, numbers_of}
-use Rattle.pr_place.specs.Tracking.{IsCellOf, Known, Numbered, Planned, Fixed, spot_number, needs_of, ops_of, uses_of}
+use Rattle.pr_place.specs.Tracking.{Known, Numbered, Planned, Fixed, spot_number, needs_of, ops_of, uses_of}
 use Rattle.pr_place.specs.Waits.{Owned}
 use Rattle.pr_place.proofs.Rule.{nothing}
 use Rattle.pr_place.proofs.Tracking.{new_lives}

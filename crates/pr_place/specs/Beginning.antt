@@ -1,5 +1,5 @@
 -- The tables before anything is placed.
-use Rattle.std.specs.Prelude.{ℕ, ◌*◌, Bool, true, false, List, length, replicate}
+use Rattle.std.specs.Prelude.{ℕ, ◌*◌, true, false, List, length, replicate}
 use Rattle.pr_place.specs.Registers.{Registers, Progress}
 
 -- no register is held, and each cell is read so often

@@ -1,5 +1,5 @@
 -- Numbers of cells, unit by unit, and what groups have and read by these numbers.
-use Rattle.std.specs.Prelude.{◌≡◌, ℕ, suc, ◌+◌, ◌==◌, ◌<◌, ◌≤◌, ◌^◌, ◌||◌, List, [], ◌∷◌, ◌++◌, length, map, nat_lt, replicate, slice_index, slice_index_or, slice_set, true, false, if◌then◌else◌, Bool}
+use Rattle.std.specs.Prelude.{◌≡◌, ℕ, suc, ◌+◌, ◌==◌, ◌<◌, ◌^◌, ◌||◌, List, [], ◌∷◌, ◌++◌, length, map, nat_lt, replicate, slice_index, slice_index_or, slice_set, true, false, if◌then◌else◌, Bool}
 use Rattle.std.specs.List.{flat_map, fold, sum_by, range_with_len}
 use Rattle.pr_net.specs.declared.cells.Cell.{Cell}
 use Rattle.pr_net.specs.declared.cells.Slice.{Slice}

@@ -1,9 +1,8 @@
 -- What the tables hold as a stripe opens: which groups wait for others, which may be placed, and in which stage each one stands.
-use Rattle.std.specs.Prelude.{◌≡◌, ◌≢◌, ℕ, ◌+◌, ◌*◌, ◌<◌, ◌≤◌, ◌⊎◌, ◌==◌, ◌&&◌, Bool, true, false, not, nat_lt, List, [], ◌∷◌, length, map, Option, None, Some, slice_index, slice_index_or, slice_set, replicate}
+use Rattle.std.specs.Prelude.{◌≡◌, ◌≢◌, ℕ, ◌+◌, ◌*◌, ◌<◌, ◌≤◌, ◌⊎◌, ◌==◌, ◌&&◌, true, false, not, nat_lt, List, [], ◌∷◌, length, map, Option, None, Some, slice_index, slice_index_or, slice_set, replicate}
 use Rattle.std.specs.List.{Contains, fold, sum_by}
 use Rattle.std.specs.Option.{is_some}
 use Rattle.pr_net.specs.Shape.{NetShape}
-use Rattle.pr_net.specs.Nets.{group_reads}
 use Rattle.pr_place.specs.declared.candidates.Candidates.{Candidates}
 use Rattle.pr_place.specs.declared.lookups.Tables.{Tables}
 use Rattle.pr_place.specs.Tables.{readers_in}
@@ -11,7 +10,7 @@ use Rattle.pr_place.specs.Waits.{waits_of}
 use Rattle.pr_place.specs.Greedy.{Seat, is_placed}
 use Rattle.pr_place.specs.Registers.{Progress, count_of}
 use Rattle.pr_place.specs.Candidates.{IsCovered}
-use Rattle.pr_place.specs.Tracking.{IsCellOf, Tracks, Fixed, needs_of, ops_of, uses_of}
+use Rattle.pr_place.specs.Tracking.{Tracks, ops_of, uses_of}
 
 -- how often a group reads another: for each reading of a cell the group of that cell is counted
 abbrev pub reads_of : List ℕ → ℕ → List ℕ → ℕ

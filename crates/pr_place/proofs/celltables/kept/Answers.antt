@@ -1,4 +1,4 @@
-use Rattle.std.proofs.Common.{◌≡◌, ◌<◌, ℕ, List, length, get_or, arith, ap, sym, ◌∙◌, subst}
+use Rattle.std.proofs.Common.{◌≡◌, ◌<◌, ℕ, List, length, get_or, arith, ap}
 use Rattle.pr_net.specs.Whole.{shape_of}
 use Rattle.pr_net.specs.Shape.{OutputShape}
 use Rattle.pr_place.proofs.MarkLemmas.{AllBelow, slices_below}

@@ -1,7 +1,5 @@
-use Rattle.std.proofs.Common.{◌≡◌, ◌<◌, ℕ, List, length, arith, ap, sym, ◌∙◌, subst}
-use Rattle.std.specs.List.{All}
+use Rattle.std.proofs.Common.{◌≡◌, ◌<◌, length, arith, ap, ◌∙◌}
 use Rattle.pr_net.specs.Whole.{shape_of}
-use Rattle.pr_net.specs.Shape.{units_of}
 use Rattle.pr_place.specs.Numbering.{CanRead, group_reads_of}
 use Rattle.pr_place.proofs.Moves.{moved2, below_moved, list_at}
 use Rattle.pr_place.proofs.ReadLemmas.{can_read, reads_below}

@@ -1,7 +1,6 @@
-use Rattle.std.proofs.Common.{◌≡◌, ◌<◌, ◌∙◌, ℕ, suc, List, length, vec_len, eqb-true, ap, sym, refl, subst, arith}
+use Rattle.std.proofs.Common.{◌≡◌, ◌∙◌, ℕ, List, length, vec_len, eqb-true, sym, subst, arith}
 use Rattle.pr_net.specs.Whole.{shape_of}
 use Rattle.pr_place.specs.Greedy.{Seat, placed_after, stripe}
-use Rattle.pr_place.specs.Tracking.{Filling}
 use Rattle.pr_place.specs.Opening.{Received}
 use Rattle.pr_place.specs.Courses.{Fills}
 use Rattle.pr_place.proofs.Advancing.{after_next}

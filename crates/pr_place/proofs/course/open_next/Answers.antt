@@ -1,6 +1,5 @@
-use Rattle.std.proofs.Common.{◌≡◌, ◌<◌, ◌∙◌, ℕ, List, length, ap, sym, refl, subst, arith}
+use Rattle.std.proofs.Common.{length, refl, arith}
 use Rattle.std.proofs.Math.Facts.{Fits-of_lt}
-use Rattle.std.specs.List.{All}
 use Rattle.pr_net.specs.Whole.{shape_of}
 use Rattle.pr_place.proofs.Advancing.{all_inside, groups_inside, can_wake, few_stages, opens_next}
 use Rattle.pr_place.proofs.course.open_next.Goals as goal

@@ -1,4 +1,4 @@
-use Rattle.std.proofs.Common.{◌≡◌, ◌<◌, ℕ, List, length, length-set, get_or, arith, ap, sym, ◌∙◌, subst}
+use Rattle.std.proofs.Common.{length-set, arith, ◌∙◌}
 use Rattle.pr_place.proofs.ReaderLemmas.{reader_next}
 use Rattle.pr_place.proofs.grouping.add_reader.Goals as goal
 

@@ -1,4 +1,4 @@
-use Rattle.std.proofs.Common.{◌≡◌, ◌∷◌, ℕ, List, [], length, get_or, Vec, Global, Bool, arith, ap, sym, ◌∙◌, subst}
+use Rattle.std.proofs.Common.{[], Vec, Global, Bool, ap, sym, ◌∙◌}
 use Rattle.std.proofs.lemmas.List.{get_or-map}
 use Rattle.pr_place.proofs.ReaderLemmas.{same_bits}
 use Rattle.pr_place.proofs.grouping.known_class.Goals as goal

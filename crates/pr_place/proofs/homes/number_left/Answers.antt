@@ -1,7 +1,6 @@
-use Rattle.std.proofs.Common.{◌≡◌, ◌<◌, ◌≤◌, ◌-◌, ◌∙◌, ℕ, List, [], Some, Option, length, get_or, sym, ap, ap₂, arith}
+use Rattle.std.proofs.Common.{◌≡◌, ◌<◌, ◌-◌, ◌∙◌, ℕ, List, [], Some, length, get_or, sym, ap, ap₂, arith}
 use Rattle.pr_net.specs.Shape.{units_of}
 use Rattle.pr_net.specs.Whole.{shape_of}
-use Rattle.pr_place.specs.Courses.{first_open}
 use Rattle.pr_place.specs.Greedy.{number_of_group}
 use Rattle.pr_place.proofs.Ending.{open_below, at_now}
 use Rattle.pr_place.proofs.homes.number_left.Goals as goal

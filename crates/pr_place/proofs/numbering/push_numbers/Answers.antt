@@ -1,4 +1,3 @@
-use Rattle.std.proofs.Common.{arith}
 use Rattle.pr_place.proofs.Moves.{range_on}
 use Rattle.pr_place.proofs.numbering.push_numbers.Goals as goal
 

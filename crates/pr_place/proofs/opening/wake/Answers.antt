@@ -1,7 +1,6 @@
-use Rattle.std.proofs.Common.{◌≡◌, ◌≤◌, ◌<◌, ◌+◌, ◌∙◌, ℕ, List, drop, get_or, length, ap, subst, sym, arith}
+use Rattle.std.proofs.Common.{◌≡◌, ◌<◌, ◌+◌, ◌∙◌, ℕ, List, get_or, length, subst, sym, arith}
 use Rattle.std.specs.List.{All}
 use Rattle.pr_place.specs.Registers.{count_of}
-use Rattle.pr_place.specs.Tables.{readers_in}
 use Rattle.pr_place.proofs.Awake.{AreLists, Woken, woken_on, readings_drop, readers_now}
 use Rattle.pr_place.proofs.opening.wake.Goals as goal
 

@@ -1,5 +1,4 @@
 use Rattle.std.proofs.Common.{◌≡◌, ◌≤◌, ◌<◌, ◌+◌, ◌-◌, ◌∙◌, ℕ, List, drop, get_or, length, length-set, ap, arith}
-use Rattle.pr_place.specs.Registers.{count_of}
 use Rattle.pr_place.proofs.Settling.{count_here}
 use Rattle.pr_place.proofs.Awake.{woken_on, one_less, count_drop}
 use Rattle.pr_place.proofs.opening.wake_readers.Goals as goal
