@@ -1,0 +1,140 @@
+//! Operators at their widths.
+
+ghost use Rattle.std.specs.Prelude.{ℕ, ◌≡◌, ◌≤◌, ◌<◌, ◌+◌, ◌^◌, ◌++◌, min, [], ◌∷◌, true, List, length, OnOk, IfOk};
+ghost use Rattle.pr_flat.specs.Facts.{arity, has_lawful_ends};
+ghost use Rattle.pr_flat.specs.Rows.{takes};
+ghost use Rattle.pr_flat.specs.declared.equations.Op.{Op};
+ghost use Rattle.pr_cut_units.specs.Table.{argument_forms, units_at};
+ghost use Rattle.pr_cut_cells.specs.Arguments.{argument_of};
+ghost use Rattle.pr_cut.specs.Operators.{arguments_of, is_operator};
+
+use pr_cut_cells::Argument;
+use pr_cut_ops::{finished, operator_choice, operator_one, operator_two};
+use pr_flat::{Form, Op};
+use pr_flat_ops::{natural_choice, natural_one, natural_two};
+use pr_net::{Slice, Unit};
+use std::alloc::{AllocError, Global};
+
+/// The kind and the width of an operand.
+fn form_of(a: &Argument) -> Form
+    ensures { result ≡ (argument_of a.now).form }
+{
+    Form {
+        signed: a.signed,
+        width: u16::from(a.width),
+    }
+}
+
+/// How many of so many bits are computed at a width.
+fn computed(natural: Form, w: u8) -> u8
+    ensures { result ≡ min w natural.width }
+{
+    u16::from(w).min(natural.width) as u8
+}
+
+/// An operator on one operand, at `w` bits.
+fn units_one(
+    alloc: Global,
+    units: &mut Vec<Unit>,
+    w: u8,
+    op: Op,
+    a: &Argument,
+) -> Result<Vec<Slice>, AllocError>
+    requires some { 1 ≤ w }
+    requires few { w ≤ 128 }
+    requires operator { is_operator op ≡ true }
+    requires arity { arity op ≡ 1 }
+    requires takes { takes op ((argument_of a.now).form ∷ []) ≡ true }
+    requires ends { has_lawful_ends op ≡ true }
+    requires fits { length units.old.items + 2 < 2 ^ 32 }
+    ensures units { IfOk result (λ s. units.new.items ≡ units.old.items ++ (units_at w op (argument_of a.now ∷ []) (length units.old.items)).units) }
+    ensures slices { IfOk result (λ s. s.items ≡ (units_at w op (argument_of a.now ∷ []) (length units.old.items)).slices) }
+{
+    let natural = natural_one(op, form_of(a)).unwrap();
+    let e = computed(natural, w);
+    let x = operator_one(alloc, units, e, op, a)?;
+    let all = finished(alloc, units, w, e, natural.signed, &x)?;
+    Ok(all)
+}
+
+/// An operator on two operands, at `w` bits.
+fn units_two(
+    alloc: Global,
+    units: &mut Vec<Unit>,
+    w: u8,
+    op: Op,
+    a: &Argument,
+    b: &Argument,
+) -> Result<Vec<Slice>, AllocError>
+    requires some { 1 ≤ w }
+    requires few { w ≤ 128 }
+    requires arity { arity op ≡ 2 }
+    requires fits { length units.old.items + 20001 < 2 ^ 32 }
+    ensures units { IfOk result (λ s. units.new.items ≡ units.old.items ++ (units_at w op (argument_of a.now ∷ argument_of b.now ∷ []) (length units.old.items)).units) }
+    ensures slices { IfOk result (λ s. s.items ≡ (units_at w op (argument_of a.now ∷ argument_of b.now ∷ []) (length units.old.items)).slices) }
+{
+    let natural = natural_two(op, form_of(a), form_of(b));
+    let e = computed(natural, w);
+    let x = operator_two(alloc, units, e, op, a, b)?;
+    let all = finished(alloc, units, w, e, natural.signed, &x)?;
+    Ok(all)
+}
+
+/// A choice, at `w` bits.
+fn units_choice(
+    alloc: Global,
+    units: &mut Vec<Unit>,
+    w: u8,
+    c: &Argument,
+    a: &Argument,
+    b: &Argument,
+) -> Result<Vec<Slice>, AllocError>
+    requires some { 1 ≤ w }
+    requires few { w ≤ 128 }
+    requires takes { takes Op.Choose ((argument_of c.now).form ∷ (argument_of a.now).form ∷ (argument_of b.now).form ∷ []) ≡ true }
+    requires fits { length units.old.items + 4 < 2 ^ 32 }
+    ensures units { IfOk result (λ s. units.new.items ≡ units.old.items ++ (units_at w Op.Choose (argument_of c.now ∷ argument_of a.now ∷ argument_of b.now ∷ []) (length units.old.items)).units) }
+    ensures slices { IfOk result (λ s. s.items ≡ (units_at w Op.Choose (argument_of c.now ∷ argument_of a.now ∷ argument_of b.now ∷ []) (length units.old.items)).slices) }
+{
+    let natural = natural_choice(form_of(c), form_of(a), form_of(b)).unwrap();
+    let e = computed(natural, w);
+    let x = operator_choice(alloc, units, e, c, a, b)?;
+    let all = finished(alloc, units, w, e, natural.signed, &x)?;
+    Ok(all)
+}
+
+/// An operator, at `w` bits.
+#[tactic(auto, using(crate::proofs::ItemLemmas::one_argument, crate::proofs::ItemLemmas::two_arguments, crate::proofs::ItemLemmas::three_arguments))]
+pub fn units_at(
+    alloc: Global,
+    units: &mut Vec<Unit>,
+    w: u8,
+    op: Op,
+    args: &[Argument],
+) -> Result<Vec<Slice>, AllocError>
+    requires some { 1 ≤ w }
+    requires few { w ≤ 128 }
+    requires operator { is_operator op ≡ true }
+    requires count { length args.now ≡ arity op }
+    requires takes { takes op (argument_forms (arguments_of args.now)) ≡ true }
+    requires ends { has_lawful_ends op ≡ true }
+    requires fits { length units.old.items + 20001 < 2 ^ 32 }
+    ensures units { IfOk result (λ s. units.new.items ≡ units.old.items ++ (units_at w op (arguments_of args.now) (length units.old.items)).units) }
+    ensures slices { IfOk result (λ s. s.items ≡ (units_at w op (arguments_of args.now) (length units.old.items)).slices) }
+{
+    match args {
+        [a] => {
+            let all = units_one(alloc, units, w, op, a)?;
+            Ok(all)
+        }
+        [a, b] => {
+            let all = units_two(alloc, units, w, op, a, b)?;
+            Ok(all)
+        }
+        [c, a, b] => {
+            let all = units_choice(alloc, units, w, c, a, b)?;
+            Ok(all)
+        }
+        _ => Ok(Vec::new(alloc)),
+    }
+}
