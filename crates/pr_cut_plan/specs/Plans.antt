@@ -2,11 +2,19 @@
 use Rattle.std.specs.Prelude.{◌≡◌, ◌<◌, ◌≤◌, ℕ, true, Some, List, length, vec_len, slice_index}
 use Rattle.std.specs.List.{slice_get}
 use Rattle.pr_flat.specs.declared.equations.Operand.{Operand}
+use Rattle.pr_flat.specs.declared.equations.Op.{Op}
 use Rattle.pr_flat.specs.Shape.{EquationShape, EachEquation}
 use Rattle.pr_flat.specs.Facts.{is_rec}
 use Rattle.pr_cut_units.specs.Reached.{reached, hold_count}
 use Rattle.pr_cut_units.specs.Equations.{plan_of, hold_unit}
 use Rattle.pr_cut_plan.specs.declared.plans.Plan.{Plan}
+
+-- equation rec is a recurrence, whose body begins with this equation
+pub record IsRecurrence (equations : List EquationShape) (rec first : ℕ) : Type 0 where
+  pub equation : EquationShape
+  pub there : slice_get equations rec ≡ Some equation
+  pub init : ℕ
+  pub op : equation.op ≡ Op.Rec init first
 
 -- it has an entry for each equation: whether an output can be reached from it, where the hold units of a recurrence begin, and how many they are
 pub record IsPlanOf (plan : Plan) (equations : List EquationShape) (widths : List ℕ) (outputs : List Operand) : Type 0 where

