@@ -144,6 +144,7 @@ fn row_count(e: u16, wa: u16, j: u16) -> u32
 }
 
 /// The units of a product's rows.
+#[tactic(auto, using(crate::proofs::CountLemmas::sum_each_more))]
 fn product_count(e: u16, wa: u16, wb: u16) -> u32
     requires wa { wa ≤ 128 }
     requires wb { wb ≤ 128 }

@@ -19,14 +19,21 @@ use pr_base::slices;
 use pr_flat::{Equation, Flat, Form, Op};
 use pr_width::operand_width;
 
+fn is_input(op: Op) -> bool
+    ensures { result ≡ is_input op }
+{
+    matches!(op, Op::Input)
+}
+
 /// How many of the equations are inputs.
+#[tactic(auto, using(crate::proofs::EquationLemmas::inputs_rest))]
 pub fn input_count(equations: &[Equation]) -> usize
     ensures is { result ≡ count_by (λ (e : EquationShape). is_input e.op) (shapes_of equations.now) }
     ensures few { result ≤ length equations.now }
 {
     let mut count = 0;
     for equation in equations {
-        if equation.op == Op::Input {
+        if is_input(equation.op) {
             count += 1;
         }
     }
@@ -34,13 +41,14 @@ pub fn input_count(equations: &[Equation]) -> usize
 }
 
 /// The bytes of all inputs together.
+#[tactic(auto, using(crate::proofs::EquationLemmas::bytes_rest))]
 pub fn input_bytes(equations: &[Equation]) -> usize
     requires { length equations.now ≤ 16384 }
     ensures { result ≡ sum_by slices_of (input_widths (shapes_of equations.now)) }
 {
     let mut bytes = 0;
     for equation in equations {
-        if equation.op == Op::Input {
+        if is_input(equation.op) {
             bytes += slices(equation.declared.unwrap_or(0));
         }
     }

@@ -113,10 +113,10 @@ fn cell_ties(cell: Cell, holds: &Holds, from: u32, marks: &[bool]) -> bool
 }
 
 /// Whether a unit has such a cell.
-fn is_tied(cells: &[Cell], holds: &Holds, from: u32, marks: &[bool]) -> bool
-    ensures { (group : List ℕ) → AreMarked from marks.now group → result ≡ is_tied holds.now group cells.now }
+fn is_tied(unit: &Unit, holds: &Holds, from: u32, marks: &[bool]) -> bool
+    ensures { (group : List ℕ) → AreMarked from marks.now group → result ≡ is_tied holds.now group unit.now }
 {
-    for cell in cells {
+    for cell in &unit.cells {
         if cell_ties(*cell, holds, from, marks) {
             return true;
         }
@@ -150,7 +150,7 @@ fn push_untied(
     let mut tied = Vec::new(alloc);
     let mut marks = Vec::new(alloc);
     for unit in from..holds.first() {
-        let is = is_tied(&units[unit as usize].cells, holds, from, &marks);
+        let is = is_tied(&units[unit as usize], holds, from, &marks);
         marks.push(is)?;
         if is {
             tied.push(unit)?;

@@ -1,6 +1,7 @@
 //! The equations from which others can be reached, and the hold units of recurrences.
 
-ghost use Rattle.std.specs.Prelude.{◌≡◌, ◌<◌, ◌≤◌, ◌+◌, ◌-◌, ◌||◌, ℕ, Bool, true, false, max, Some, List, [], ◌∷◌, length, map, vec_len, slice_index, slice_index_or, IfOk};
+ghost use Rattle.std.specs.Prelude.{◌≡◌, ◌<◌, ◌≤◌, ◌+◌, ◌-◌, ◌&&◌, ◌||◌, ℕ, Bool, true, false, max, Some, List, [], ◌∷◌, length, map, vec_len, slice_index, slice_index_or, IfOk};
+ghost use Rattle.std.specs.Bool.{if◌then◌else◌};
 ghost use Rattle.std.specs.List.{slice_get, list_any};
 ghost use Rattle.pr_flat.specs.declared.equations.Operand.{Operand};
 ghost use Rattle.pr_flat.specs.Shape.{EquationShape, shapes_of, EachEquation};
@@ -24,11 +25,21 @@ fn mark_one(flags: &mut [bool], first: usize, operand: Operand)
 }
 
 /// Marks the equations that operands name, of those from `first` on.
+#[tactic(auto, using(crate::proofs::ReachedLemmas::any_rest))]
 fn mark(flags: &mut [bool], first: usize, operands: &[Operand])
     ensures { (j : ℕ) → j < length flags.old → slice_index_or flags.new j false ≡ (list_any (reads_equation (first + j)) operands.now || slice_index_or flags.old j false) }
 {
     for operand in operands {
         mark_one(flags, first, *operand);
+    }
+}
+
+/// Marks them where the equation that has these operands counts.
+fn mark_where(flags: &mut [bool], counts: bool, first: usize, operands: &[Operand])
+    ensures { (j : ℕ) → j < length flags.old → slice_index_or flags.new j false ≡ (counts && list_any (reads_equation (first + j)) operands.now || slice_index_or flags.old j false) }
+{
+    if counts {
+        mark(flags, first, operands);
     }
 }
 
@@ -50,9 +61,8 @@ fn reached_within(
     mark(&mut flags, first, operands);
     for done in 0..end - first {
         let last = end - first - 1 - done;
-        if flags[last] {
-            mark(&mut flags, first, &flat.equations[first + last].args);
-        }
+        let counts = flags[last];
+        mark_where(&mut flags, counts, first, &flat.equations[first + last].args);
     }
     Ok(flags)
 }
@@ -76,14 +86,22 @@ fn past_read(rec: u32, operand: Operand) -> u32
 }
 
 /// How far into the past of a recurrence one of these operands reads.
+#[tactic(auto, using(crate::proofs::ReachedLemmas::most_rest))]
 fn most_read(rec: u32, operands: &[Operand]) -> u32
     ensures { result ≡ greatest (map (past_read rec) operands.now) }
 {
     let mut most = 0;
     for operand in operands {
-        most = past_read(rec, *operand).max(most);
+        most = most.max(past_read(rec, *operand));
     }
     most
+}
+
+/// The same where the equation that has these operands counts, and else 0.
+fn most_where(counts: bool, rec: u32, operands: &[Operand]) -> u32
+    ensures { result ≡ (if counts then greatest (map (past_read rec) operands.now) else 0) }
+{
+    if counts { most_read(rec, operands) } else { 0 }
 }
 
 /// The number of hold units of a recurrence, whose body begins with equation `first`.
@@ -96,9 +114,7 @@ fn hold_count(alloc: Global, flat: &Flat, rec: u32, first: u32) -> Result<u32, A
     let flags = reached_within(alloc, flat, &own, from, rec as usize + 1)?;
     let mut most = 1;
     for i in 0..flags.len() {
-        if flags[i] {
-            most = most_read(rec, &flat.equations[from + i].args).max(most);
-        }
+        most = most.max(most_where(flags[i], rec, &flat.equations[from + i].args));
     }
     Ok(most)
 }
