@@ -1,3 +1,4 @@
 pub mod CountLemmas
 pub mod EquationLemmas
 pub mod ReachedLemmas
+pub mod PlanLemmas

@@ -1,8 +1,9 @@
 //! The plan of a net.
 
 ghost use Rattle.std.specs.Prelude.{◌≡◌, ◌<◌, ◌≤◌, ◌^◌, ℕ, true, false, Some, None, Err, length, vec_len, slice_index, slice_index_or, OnOk, IfOk};
+ghost use Rattle.std.specs.List.{slice_get};
 ghost use Rattle.pr_base.specs.declared.caps.Cap.{Cap};
-ghost use Rattle.pr_flat.specs.Shape.{shapes_of, EachEquation};
+ghost use Rattle.pr_flat.specs.Shape.{EquationShape, shapes_of, EachEquation};
 ghost use Rattle.pr_flat.specs.Facts.{is_rec};
 ghost use Rattle.pr_flat.specs.Widths.{AreWidths};
 ghost use Rattle.pr_cut_units.specs.Reached.{reached, hold_count};
@@ -40,7 +41,7 @@ fn unit_count(flat: &Flat, widths: &[u8], i: usize, has_units: bool, holds: u32)
     requires there { i < vec_len flat.now.equations }
     requires widths { AreWidths (shapes_of flat.now.equations.items) widths.now }
     requires reached { has_units ≡ slice_index_or (reached (shapes_of flat.now.equations.items) flat.now.outputs.items) i false }
-    requires holds { EachEquation (shapes_of flat.now.equations.items) (λ k e. k ≡ i → is_rec e.op ≡ true → holds ≡ hold_count (shapes_of flat.now.equations.items) k) }
+    requires holds { (e : EquationShape) → slice_get (shapes_of flat.now.equations.items) i ≡ Some e → is_rec e.op ≡ true → holds ≡ hold_count (shapes_of flat.now.equations.items) i }
     ensures is { result ≡ slice_index (plan_of (shapes_of flat.now.equations.items) widths.now flat.now.outputs.items).counts i }
     ensures few { result ≤ 2 ^ 33 }
 {

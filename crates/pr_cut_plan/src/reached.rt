@@ -43,6 +43,21 @@ fn mark_where(flags: &mut [bool], counts: bool, first: usize, operands: &[Operan
     }
 }
 
+/// Marks the equations from `first` on, as many as there are marks, from which one of these operands can be reached.
+fn mark_reached(flags: &mut [bool], flat: &Flat, operands: &[Operand], first: usize)
+    requires within { first + length flags.old ≤ vec_len flat.now.equations }
+    requires blank { (j : ℕ) → j < length flags.old → slice_index_or flags.old j false ≡ false }
+    requires later { (j : ℕ) → first + length flags.old ≤ j → slice_index_or (reached (shapes_of flat.now.equations.items) operands.now) j false ≡ false }
+    ensures { (j : ℕ) → j < length flags.old → slice_index_or flags.new j false ≡ slice_index_or (reached (shapes_of flat.now.equations.items) operands.now) (first + j) false }
+{
+    mark(flags, first, operands);
+    for done in 0..flags.len() {
+        let last = flags.len() - 1 - done;
+        let counts = flags[last];
+        mark_where(flags, counts, first, &flat.equations[first + last].args);
+    }
+}
+
 /// Whether one of these operands can be reached from each of the equations from `first` on and before `end`.
 fn reached_within(
     alloc: Global,
@@ -58,12 +73,7 @@ fn reached_within(
     ensures flags { IfOk result (λ flags. (j : ℕ) → j < end - first → slice_index_or flags.items j false ≡ slice_index_or (reached (shapes_of flat.now.equations.items) operands.now) (first + j) false) }
 {
     let mut flags = vec![in alloc; false; end - first]?;
-    mark(&mut flags, first, operands);
-    for done in 0..end - first {
-        let last = end - first - 1 - done;
-        let counts = flags[last];
-        mark_where(&mut flags, counts, first, &flat.equations[first + last].args);
-    }
+    mark_reached(&mut flags, flat, operands, first);
     Ok(flags)
 }
 
