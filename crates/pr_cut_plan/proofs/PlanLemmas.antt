@@ -1,5 +1,5 @@
 -- Where the units of equations begin, and the limits of their net.
-use Rattle.std.proofs.Common.{◌≡◌, ◌<◌, ◌≤◌, ℕ, zero, suc, ◌+◌, Bool, true, false, Some, None, List, [], ◌∷◌, length, map, take, get_or, refl, subst, sym, ap, ◌∙◌, arith, nat_lt}
+use Rattle.std.proofs.Common.{◌≡◌, ◌<◌, ◌≤◌, ℕ, zero, suc, ◌+◌, ◌++◌, Bool, true, false, Some, None, List, [], ◌∷◌, length, map, take, get_or, refl, subst, sym, ap, ◌∙◌, arith, nat_lt}
 use Rattle.std.specs.Prelude.{slice_index, count_by}
 use Rattle.std.specs.Bool.{if◌then◌else◌}
 use Rattle.std.specs.List.{slice_get, sum, sum_by}
@@ -121,3 +121,11 @@ none_passed columns equations widths outputs flat wide l m u =
     let n : length (map (output_of (plan_of equations widths outputs) (cut_whole (plan_of equations widths outputs)).values) outputs) ≡ length outputs = length-map outputs (output_of (plan_of equations widths outputs) (cut_whole (plan_of equations widths outputs)).values) in
     let c = units_counted equations widths outputs flat wide in
     rw (not_below columns (sum_by slices_of (input_widths equations)) l, not_below 64 (length (map (output_of (plan_of equations widths outputs) (cut_whole (plan_of equations widths outputs)).values) outputs)) (omega (arith, n, m)), not_below 32768 (length (cut_whole (plan_of equations widths outputs)).units) (omega (arith, c, u))) refl
+
+-- ---- numbers one after the other
+pub push_each : (xs : List ℕ) (x i : ℕ) (f : ℕ → ℕ) → length xs ≡ i → ((k : ℕ) → k < i → get_or xs k 0 ≡ f k) → x ≡ f i → (k : ℕ) → k < i + 1 → get_or (xs ++ x ∷ []) k 0 ≡ f k
+push_each [] x i f long h e zero l = let z : i ≡ 0 = omega (arith, long) in e ∙ ap f z
+push_each [] x i f long h e (suc k) l = absurd (omega (arith, l, long))
+push_each (y ∷ xs) x zero f long h e k l = absurd (omega (arith, long))
+push_each (y ∷ xs) x (suc i) f long h e zero l = h 0 (omega arith)
+push_each (y ∷ xs) x (suc i) f long h e (suc k) l = push_each xs x i (λ j. f (suc j)) (omega (arith, long)) (λ j m. h (suc j) (omega (arith, m))) e k (omega (arith, l))

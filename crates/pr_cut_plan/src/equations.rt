@@ -27,12 +27,12 @@ fn is_input(op: Op) -> bool
 
 /// How many of the equations are inputs.
 #[tactic(auto, using(crate::proofs::EquationLemmas::inputs_rest))]
-pub fn input_count(equations: &[Equation]) -> usize
-    ensures is { result ≡ count_by (λ (e : EquationShape). is_input e.op) (shapes_of equations.now) }
-    ensures few { result ≤ length equations.now }
+pub fn input_count(flat: &Flat) -> usize
+    ensures is { result ≡ count_by (λ (e : EquationShape). is_input e.op) (shapes_of flat.now.equations.items) }
+    ensures few { result ≤ vec_len flat.now.equations }
 {
     let mut count = 0;
-    for equation in equations {
+    for equation in &flat.equations {
         if is_input(equation.op) {
             count += 1;
         }
@@ -42,12 +42,11 @@ pub fn input_count(equations: &[Equation]) -> usize
 
 /// The bytes of all inputs together.
 #[tactic(auto, using(crate::proofs::EquationLemmas::bytes_rest))]
-pub fn input_bytes(equations: &[Equation]) -> usize
-    requires { length equations.now ≤ 16384 }
-    ensures { result ≡ sum_by slices_of (input_widths (shapes_of equations.now)) }
+pub fn input_bytes(flat: &Flat) -> usize
+    ensures { result ≡ sum_by slices_of (input_widths (shapes_of flat.now.equations.items)) }
 {
     let mut bytes = 0;
-    for equation in equations {
+    for equation in &flat.equations {
         if is_input(equation.op) {
             bytes += slices(equation.declared.unwrap_or(0));
         }

@@ -1,6 +1,6 @@
 //! The plan of a net.
 
-ghost use Rattle.std.specs.Prelude.{◌≡◌, ◌<◌, ◌≤◌, ◌^◌, ℕ, true, false, Some, None, Err, length, vec_len, slice_index, slice_index_or, OnOk, IfOk};
+ghost use Rattle.std.specs.Prelude.{◌≡◌, ◌<◌, ◌≤◌, ◌^◌, ◌++◌, [], ◌∷◌, ℕ, true, false, Some, None, Err, length, vec_len, slice_index, slice_index_or, OnOk, IfOk};
 ghost use Rattle.std.specs.List.{slice_get};
 ghost use Rattle.pr_base.specs.declared.caps.Cap.{Cap};
 ghost use Rattle.pr_flat.specs.Shape.{EquationShape, shapes_of, EachEquation};
@@ -51,6 +51,14 @@ fn unit_count(flat: &Flat, widths: &[u8], i: usize, has_units: bool, holds: u32)
     own_count(flat, widths, i, holds)
 }
 
+/// One more number.
+fn push(all: &mut Vec<u32>, number: u32) -> Result<(), AllocError>
+    ensures { OnOk result (all.new.items ≡ all.old.items ++ number ∷ []) }
+{
+    all.push(number)?;
+    Ok(())
+}
+
 /// The number of each equation's first hold unit, if it is a recurrence.
 fn hold_units(
     alloc: Global,
@@ -70,10 +78,10 @@ fn hold_units(
     ensures limit { (cap : Cap) → result ≡ Err (CutFault.Limit cap) → (cap ≡ Cap.Units) × (32768 < all_units (plan_of (shapes_of flat.now.equations.items) widths.now flat.now.outputs.items)) }
 {
     let mut units = Vec::new(alloc);
-    let mut first = input_count(&flat.equations) as u64;
+    let mut first = input_count(flat) as u64;
     for i in 0..flat.equations.len() {
         let holds = first as u32 + body_count(&flat.equations[i], widths[i], widths);
-        units.push(holds).map_err(AllocError::from)?;
+        push(&mut units, holds)?;
         first += unit_count(flat, widths, i, flags[i], hold_counts[i]);
         if first > MOST_UNITS {
             return Err(CutFault::Limit(Cap::Units));
@@ -99,7 +107,7 @@ pub fn plan_of(
     ensures units { OnOk result (length (cut_whole (plan_of (shapes_of flat.now.equations.items) widths.now flat.now.outputs.items)).units ≤ 32768) }
     ensures limit { (cap : Cap) → result ≡ Err (CutFault.Limit cap) → limit_passed columns (net_of (shapes_of flat.now.equations.items) widths.now flat.now.outputs.items) ≡ Some cap }
 {
-    if input_bytes(&flat.equations) > columns {
+    if input_bytes(flat) > columns {
         return Err(CutFault::Limit(Cap::InputBytes));
     }
     if flat.outputs.len() > MOST_OUTPUTS {

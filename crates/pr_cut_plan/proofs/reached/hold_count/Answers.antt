@@ -1,4 +1,4 @@
-use Rattle.std.proofs.Common.{◌≡◌, ◌<◌, ◌≤◌, ℕ, ◌+◌, ◌-◌, false, List, [], ◌∷◌, length, map, max, get_or, arith, refl, ap, ◌∙◌, sym}
+use Rattle.std.proofs.Common.{rules, ◌≡◌, ◌<◌, ◌≤◌, ℕ, ◌+◌, ◌-◌, false, List, [], ◌∷◌, length, map, max, get_or, arith, refl, ap, ◌∙◌, sym}
 use Rattle.std.specs.Bool.{if◌then◌else◌}
 use Rattle.std.proofs.lemmas.List.{get_or_default}
 use Rattle.pr_flat.specs.declared.equations.Operand.{Operand}
@@ -35,7 +35,7 @@ loop-i-preserved c =
     let end = c.len-i-end.ensures in
     let here : c.args.first + c.loop-i.i < length c.args.flat.now.equations.items = omega (arith, within, low, few, count, end) in
     let there = shape_at c.args.flat.now.equations.items (c.args.first + c.loop-i.i) x here c.index-in-loop-i.ensures in
-    let most : c.max-most.result ≡ max c.loop-i.most c.most_where.result = omega (arith, c.max-most.ensures) in
+    let most : c.max-most.result ≡ max c.loop-i.most c.most_where.result = search rules in
     past_next es c.args.rec c.args.first c.loop-i.i (equation_shape x) c.index.result.now c.loop-i.most c.max-most.result c.most_where.result (hold_count es c.args.rec) there
     (c.index.ensures ∙ get_or_default c.in_ok-flags.flags.items c.loop-i.i c.index.result.now false (omega (arith, end, c.in_ok-flags.flags.ok.0)) ∙ c.in_ok-flags.ensures.flags c.loop-i.i (omega (arith, end, count)))
     (c.most_where.ensures ∙ ap (λ (xs : List Operand). if c.index.result.now then greatest (map (past_read c.args.rec) xs) else 0) c.deref.ensures.value)
