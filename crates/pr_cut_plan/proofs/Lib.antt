@@ -2,3 +2,4 @@ pub mod CountLemmas
 pub mod EquationLemmas
 pub mod ReachedLemmas
 pub mod PlanLemmas
+pub mod GroupLemmas

@@ -1,6 +1,7 @@
 //! Groups of units.
 
 ghost use Rattle.std.specs.Prelude.{◌≡◌, ◌<◌, ◌≤◌, ◌+◌, ◌-◌, ◌&&◌, ◌++◌, ℕ, nat_le, nat_lt, List, [], ◌∷◌, length, take, vec_len, OnOk, IfOk};
+ghost use Rattle.std.specs.Bool.{if◌then◌else◌};
 ghost use Rattle.std.specs.List.{list_any, flat_map, range_with_len};
 ghost use Rattle.pr_flat.specs.Facts.{is_rec};
 ghost use Rattle.pr_flat.specs.Shape.{shapes_of};
@@ -134,6 +135,25 @@ fn push_single(alloc: Global, groups: &mut Vec<Group>, unit: u32) -> Result<(), 
     Ok(())
 }
 
+/// One more unit: among those that are tied, or as a group by itself.
+fn push_unit(
+    alloc: Global,
+    groups: &mut Vec<Group>,
+    tied: &mut Vec<u32>,
+    unit: u32,
+    is_tied: bool,
+) -> Result<(), AllocError>
+    ensures tied { OnOk result (tied.new.items ≡ (if is_tied then tied.old.items ++ unit ∷ [] else tied.old.items)) }
+    ensures groups { OnOk result (groups.new.items ≡ groups.old.items ++ (if is_tied then [] else (unit ∷ []) ∷ [])) }
+{
+    if is_tied {
+        tied.push(unit)?;
+    } else {
+        push_single(alloc, groups, unit)?;
+    }
+    Ok(())
+}
+
 /// The units before these hold units that they tie, from unit `from` on; every other one is pushed as a group by itself.
 fn push_untied(
     alloc: Global,
@@ -152,16 +172,13 @@ fn push_untied(
     for unit in from..holds.first() {
         let is = is_tied(&units[unit as usize], holds, from, &marks);
         marks.push(is)?;
-        if is {
-            tied.push(unit)?;
-        } else {
-            push_single(alloc, groups, unit)?;
-        }
+        push_unit(alloc, groups, &mut tied, unit, is)?;
     }
     Ok(tied)
 }
 
 /// These units, and after them the hold units.
+#[tactic(auto, using(pr_cut_units::proofs::EachLemmas::each_more))]
 fn with_holds(tied: Vec<u32>, holds: &Holds) -> Result<Group, AllocError>
     requires { holds.now.first + holds.now.count ≤ 32768 }
     ensures { IfOk result (λ group. group ≡ tied.items ++ each holds.now.count (λ j. holds.now.first + j)) }

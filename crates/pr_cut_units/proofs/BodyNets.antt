@@ -64,7 +64,7 @@ pub record StartsIn (equations : List EquationShape) (widths : List ℕ) (output
       → Contains (cells_of net u) k → Contains (cell_wires k) (Wire.State v j) → hold_unit plan rec ≤ v → v < hold_unit plan rec + hold_count equations rec → first_unit plan first ≤ u)
 
 -- the group of a recurrence ends before the body of a later one
-body_after : (equations : List EquationShape) (widths : List ℕ) (outputs : List Operand) (a b u : ℕ) → IsFlat equations outputs
+pub body_after : (equations : List EquationShape) (widths : List ℕ) (outputs : List Operand) (a b u : ℕ) → IsFlat equations outputs
     → (let plan = plan_of equations widths outputs in a < b → IsRec equations plan.reached a → IsRec equations plan.reached b → InBody equations widths outputs b u → hold_unit plan a + hold_count equations a ≤ u)
 body_after equations widths outputs a b u flat l ra rb q =
     let plan = plan_of equations widths outputs in
