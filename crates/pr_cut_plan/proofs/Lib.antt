@@ -3,3 +3,4 @@ pub mod EquationLemmas
 pub mod ReachedLemmas
 pub mod PlanLemmas
 pub mod GroupLemmas
+pub mod Parted
