@@ -1,0 +1,6 @@
+pub mod CountLemmas
+pub mod EquationLemmas
+pub mod ReachedLemmas
+pub mod PlanLemmas
+pub mod GroupLemmas
+pub mod Parted
