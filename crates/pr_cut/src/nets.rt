@@ -116,7 +116,8 @@ fn net_with(alloc: Global, source: &Source) -> Result<Net, AllocError>
     ensures { IfOk result (λ net. shape_of net ≡ net_of (equations_in source.now) source.now.widths.now source.now.flat.now.outputs.items) }
 {
     let inputs = input_widths(alloc, source.flat)?;
-    let Made { units, values } = all_units(alloc, source, &inputs)?;
+    let made = all_units(alloc, source, &inputs)?;
+    let Made { units, values } = made;
     let outputs = outputs(alloc, source, &values)?;
     let holds = holds_of(alloc, source.flat, source.plan)?;
     let groups = groups_of(alloc, &units, &holds)?;
