@@ -4,3 +4,4 @@ pub mod ReachedLemmas
 pub mod PlanLemmas
 pub mod GroupLemmas
 pub mod Parted
+pub mod HoldLemmas

@@ -1,10 +1,10 @@
 //! Groups of units.
 
-ghost use Rattle.std.specs.Prelude.{◌≡◌, ◌<◌, ◌≤◌, ◌+◌, ◌-◌, ◌&&◌, ◌++◌, ℕ, nat_le, nat_lt, List, [], ◌∷◌, length, take, vec_len, OnOk, IfOk};
+ghost use Rattle.std.specs.Prelude.{◌≡◌, ◌<◌, ◌≤◌, ◌+◌, ◌-◌, ◌&&◌, ◌++◌, ℕ, nat_le, nat_lt, List, [], ◌∷◌, length, take, vec_len, slice_index_or, false, OnOk, IfOk};
 ghost use Rattle.std.specs.Bool.{if◌then◌else◌};
 ghost use Rattle.std.specs.List.{list_any, flat_map, range_with_len};
 ghost use Rattle.pr_flat.specs.Facts.{is_rec};
-ghost use Rattle.pr_flat.specs.Shape.{shapes_of};
+ghost use Rattle.pr_flat.specs.Shape.{EachEquation, shapes_of};
 ghost use Rattle.pr_cut_units.specs.Parts.{each};
 ghost use Rattle.pr_cut_units.specs.Equations.{plan_of};
 ghost use Rattle.pr_cut_units.specs.Groups.{bit_wires, cell_wires, ties, is_tied, tied_from, group_of, groups_at, groups_of};
@@ -53,29 +53,44 @@ impl Holds {
     }
 }
 
+fn is_rec(op: Op) -> bool
+    ensures { result ≡ is_rec op }
+{
+    matches!(op, Op::Rec { .. })
+}
+
+/// Whether equation `i` is a recurrence that has units.
+fn has_holds(flat: &Flat, plan: &Plan, i: usize) -> bool
+    requires there { i < vec_len flat.now.equations }
+    requires flags { vec_len plan.now.reached ≡ vec_len flat.now.equations }
+    ensures { EachEquation (shapes_of flat.now.equations.items) (λ k e. k ≡ i → result ≡ (slice_index_or plan.now.reached.items i false && is_rec e.op)) }
+{
+    plan.reached[i] && is_rec(flat.equations[i].op)
+}
+
+/// These hold units more, where there are any.
+fn push_where(all: &mut Vec<Holds>, some: bool, first: u32, count: u32) -> Result<(), AllocError>
+    ensures { OnOk result (all.new.items ≡ all.old.items ++ (if some then record { first = first; count = count } ∷ [] else [])) }
+{
+    if some {
+        all.push(Holds { first, count })?;
+    }
+    Ok(())
+}
+
 /// The hold units of the recurrences that have units, in their order.
 pub fn holds_of(alloc: Global, flat: &Flat, plan: &Plan) -> Result<Vec<Holds>, AllocError>
     requires flags { vec_len plan.now.reached ≡ vec_len flat.now.equations }
     requires units { vec_len plan.now.hold_units ≡ vec_len flat.now.equations }
     requires counts { vec_len plan.now.hold_counts ≡ vec_len flat.now.equations }
-    ensures { (widths : List ℕ) → IsPlanOf plan.now (shapes_of flat.now.equations.items) widths flat.now.outputs.items → IfOk result (λ holds. holds.items ≡ holds_from (plan_of (shapes_of flat.now.equations.items) widths flat.now.outputs.items) 0 (shapes_of flat.now.equations.items) plan.now.reached.items) }
+    ensures { IfOk result (λ holds. (widths : List ℕ) → IsPlanOf plan.now (shapes_of flat.now.equations.items) widths flat.now.outputs.items → holds.items ≡ holds_from (plan_of (shapes_of flat.now.equations.items) widths flat.now.outputs.items) 0 (shapes_of flat.now.equations.items) plan.now.reached.items) }
 {
     let mut all = Vec::new(alloc);
     for i in 0..flat.equations.len() {
-        if plan.reached[i] && is_rec(flat.equations[i].op) {
-            all.push(Holds {
-                first: plan.hold_units[i],
-                count: plan.hold_counts[i],
-            })?;
-        }
+        let some = has_holds(flat, plan, i);
+        push_where(&mut all, some, plan.hold_units[i], plan.hold_counts[i])?;
     }
     Ok(all)
-}
-
-fn is_rec(op: Op) -> bool
-    ensures { result ≡ is_rec op }
-{
-    matches!(op, Op::Rec { .. })
 }
 
 /// Whether a wire reads a state of the hold units, or a cell of a unit that is marked; the marks begin with unit `from`.
