@@ -59,7 +59,7 @@ parts_from : (equations : List EquationShape) (widths : List ℕ) (outputs : Lis
     → AreParts (cut_whole (plan_of equations widths outputs)).units from (holds_from (plan_of equations widths outputs) i rest flags)
 parts_from equations widths outputs from i [] flags flat wide r f b = tt
 parts_from equations widths outputs from i (e ∷ rest) [] flat wide r f b = tt
-parts_from equations widths outputs from i (e ∷ rest) (counts ∷ flags) flat wide r f b = by (counts && is_rec e.op) refl
+parts_from equations widths outputs from i (e ∷ rest) (counts ∷ flags) flat wide r f b = by (counts && is_rec e.op) refl (λ after q. parts_from equations widths outputs after (suc i) rest flags flat wide (rest_more equations i e rest r) more q)
   where
     plan : Plan
     plan = plan_of equations widths outputs
@@ -72,12 +72,13 @@ parts_from equations widths outputs from i (e ∷ rest) (counts ∷ flags) flat 
         let z : i ≡ i + 0 = omega arith in
         record { equation = e; there = rest_first equations i e rest r; rec = p.1; reached = ap (λ (k : ℕ). slice_index_or (reached equations outputs) k false) z ∙ f 0 ∙ p.0 })
 
-    by : (t : Bool) → (counts && is_rec e.op) ≡ t → AreParts (cut_whole (plan_of equations widths outputs)).units from (if counts && is_rec e.op then holds_of plan i ∷ holds_from plan (suc i) rest flags else holds_from plan (suc i) rest flags)
-    by false q = subst (λ (t : Bool). AreParts (cut_whole plan).units from (if t then holds_of plan i ∷ holds_from plan (suc i) rest flags else holds_from plan (suc i) rest flags)) (sym q)
-        (parts_from equations widths outputs from (suc i) rest flags flat wide (rest_more equations i e rest r) more (record { at = λ c l rc u w. b.at c (omega (arith, l)) rc u w; low = λ c l rc. b.low c (omega (arith, l)) rc }))
-    by true q = subst (λ (t : Bool). AreParts (cut_whole plan).units from (if t then holds_of plan i ∷ holds_from plan (suc i) rest flags else holds_from plan (suc i) rest flags)) (sym q)
+    by : (t : Bool) → (counts && is_rec e.op) ≡ t → ((after : ℕ) → BeginsAfter equations widths outputs after (suc i) → AreParts (cut_whole (plan_of equations widths outputs)).units after (holds_from (plan_of equations widths outputs) (suc i) rest flags))
+        → AreParts (cut_whole (plan_of equations widths outputs)).units from (if counts && is_rec e.op then holds_of plan i ∷ holds_from plan (suc i) rest flags else holds_from plan (suc i) rest flags)
+    by false q ih = subst (λ (t : Bool). AreParts (cut_whole plan).units from (if t then holds_of plan i ∷ holds_from plan (suc i) rest flags else holds_from plan (suc i) rest flags)) (sym q)
+        (ih from (record { at = λ c l rc u w. b.at c (omega (arith, l)) rc u w; low = λ c l rc. b.low c (omega (arith, l)) rc }))
+    by true q ih = subst (λ (t : Bool). AreParts (cut_whole plan).units from (if t then holds_of plan i ∷ holds_from plan (suc i) rest flags else holds_from plan (suc i) rest flags)) (sym q)
         (part_of equations widths outputs from i flat wide (here q) (λ u w. b.at i (omega arith) (here q) u w) (b.low i (omega arith) (here q)),
-        parts_from equations widths outputs (end_of (holds_of plan i)) (suc i) rest flags flat wide (rest_more equations i e rest r) more (record {
+        ih (end_of (holds_of plan i)) (record {
           at = λ c l rc u w. body_after equations widths outputs i c u flat (omega (arith, l)) (here q) rc w;
           low = λ c l rc. group_before equations widths outputs i c (omega (arith, l)) (here q) rc;
         }))

@@ -5,9 +5,11 @@ mod counts;
 mod equations;
 mod faults;
 mod groups;
+mod laws;
 mod plans;
 mod reached;
 
 pub use faults::CutFault;
 pub use groups::{Holds, groups_of, holds_of};
+pub use laws::parts_law;
 pub use plans::{Plan, plan_of};
