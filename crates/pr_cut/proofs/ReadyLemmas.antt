@@ -26,39 +26,13 @@ use Rattle.pr_cut_units.specs.Reached.{reached, hold_count}
 use Rattle.pr_cut_units.specs.Equations.{Plan, plan_of, hold_unit, operand_slices, arguments, equation_units, has_units, Cut, next_units, cut_next, cut_after, cut_start, cut_whole}
 use Rattle.pr_cut_units.proofs.CountNets.{IsCounted, AreCounted, length-arguments, count_whole}
 use Rattle.pr_cut_units.proofs.WideNets.{widths_some, are_counted}
-use Rattle.pr_cut_units.proofs.EndNets.{widths_most, output_bounds, units_long, values_added, values_are}
+use Rattle.pr_cut_units.proofs.EndNets.{widths_most, output_bounds, value_long, values_added, values_are}
 use Rattle.pr_cut_units.proofs.FitNets.{added_after, added_is}
 use Rattle.pr_cut_units.proofs.ReachedLaws.{reached_by, past_held}
 use Rattle.pr_cut_units.proofs.TiedNets.{holds_end}
 use Rattle.pr_cut.specs.Sources.{IsCutTo, IsNamed, IsReady, AreReady}
 
--- ---- slices of values
-next_long : (plan : Plan) (cut : Cut) (e : EquationShape) → IsCounted plan (length cut.values) e → has_units plan (length cut.values) e ≡ true → length (next_units plan cut e (length cut.units)).slices ≡ slices_of (slice_index plan.widths (length cut.values))
-next_long plan cut e c h = go (has_units plan (length cut.values) e) h
-  where
-    go : (b : Bool) → b ≡ true → length ((if b then equation_units plan (length cut.values) e.op (arguments plan cut.values e.args e.kinds) else kept []) (length cut.units)).slices ≡ slices_of (slice_index plan.widths (length cut.values))
-    go true q = units_long plan (length cut.values) e.op (arguments plan cut.values e.args e.kinds) (length cut.units) (length-arguments plan cut.values e.args e.kinds (arity e.op) c.args c.kinds)
-    go false q = absurd (false≢true q)
-
-added_long : (plan : Plan) (cut : Cut) (i : ℕ) (rest : List EquationShape) → length cut.values ≡ i → AreCounted plan i rest → (j : ℕ) (e : EquationShape) → slice_get rest j ≡ Some e → has_units plan (i + j) e ≡ true → length (get_or (values_added plan cut rest) j []) ≡ slices_of (slice_index plan.widths (i + j))
-added_long plan cut i [] long c j e there h = cc
-added_long plan cut i (d ∷ rest) long c zero e there h =
-    let same : d ≡ e = cc in
-    let z : i + 0 ≡ length cut.values = omega (arith, long) in
-    next_long plan cut d (subst (λ (k : ℕ). IsCounted plan k d) (sym long) c.0) (subst (λ (q : EquationShape). has_units plan (length cut.values) q ≡ true) (sym same) (subst (λ (k : ℕ). has_units plan k e ≡ true) z h)) ∙ ap (λ (k : ℕ). slices_of (slice_index plan.widths k)) (sym z)
-added_long plan cut i (d ∷ rest) long c (suc j) e there h =
-    let z : i + suc j ≡ suc i + j = omega arith in
-    let next : length (cut.values ++ (next_units plan cut d (length cut.units)).slices ∷ []) ≡ suc i = length-append cut.values ((next_units plan cut d (length cut.units)).slices ∷ []) ∙ omega (arith, long) in
-    added_long plan (cut_next plan cut d) (suc i) rest next c.1 j e there (subst (λ (k : ℕ). has_units plan k e ≡ true) z h) ∙ ap (λ (k : ℕ). slices_of (slice_index plan.widths k)) (sym z)
-
-value_long : (equations : List EquationShape) (outputs : List Operand) (widths : List ℕ) → AreCounted (plan_of equations widths outputs) 0 equations → (j : ℕ) (e : EquationShape) → slice_get equations j ≡ Some e → has_units (plan_of equations widths outputs) j e ≡ true → length (get_or (cut_whole (plan_of equations widths outputs)).values j []) ≡ slices_of (slice_index widths j)
-value_long equations outputs widths c j e there h =
-    let plan = plan_of equations widths outputs in
-    let z : j ≡ 0 + j = omega arith in
-    ap (λ (vs : List (List Slice)). length (get_or vs j [])) (values_are plan (cut_start equations) equations)
-    ∙ added_long plan (cut_start equations) 0 equations refl c j e there (subst (λ (k : ℕ). has_units plan k e ≡ true) z h)
-    ∙ ap (λ (k : ℕ). slices_of (slice_index widths k)) (sym z)
-
+-- ---- what is made so far
 -- the slices so far are those of the whole
 pub value_kept : (plan : Plan) (i : ℕ) (units : List (List Cell)) (values : List (List Slice)) (j : ℕ) → IsCutTo plan i units values → j < i → get_or values j [] ≡ get_or (cut_whole plan).values j []
 value_kept plan i units values j cut l =
