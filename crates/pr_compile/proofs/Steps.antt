@@ -57,3 +57,7 @@ net_answer N P text program widths (Memory e) has is = is
 net_answer N P text program widths (Syntax token) has is = absurd is
 net_answer N P text program widths (Scope rule item) has is = absurd is
 net_answer N P text program widths (NoWidth equation) has is = absurd is
+
+-- the fault with which a step ends the whole
+pub at_exit : {T : Type 0} (N P : ℕ) (text : List ℕ) (r : Result T CompileFault) (e : CompileFault) → (y : CompileFault) × (r ≡ Err y) × (y ≡ e) → IsCompileAnswer N P text e → IfErr r (λ x. IsCompileAnswer N P text x)
+at_exit N P text r e p is = rw (p.1, p.2) is
