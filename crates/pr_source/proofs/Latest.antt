@@ -1,5 +1,5 @@
 -- Rows by the latest of the rows before them.
-use Rattle.std.proofs.Common.{◌≡◌, ℕ, zero, suc, ◌+◌, ◌-◌, ◌<◌, ◌≤◌, min, Bool, true, false, ◌&&◌, nat_le, nat_lt, Option, Some, List, [], ◌∷◌, ◌++◌, length, reverse, set, take, drop, get_or, refl, sym, ◌∙◌, ap, ap₂, subst, inl, inr, arith, append_assoc}
+use Rattle.std.proofs.Common.{◌≡◌, ℕ, zero, suc, ◌+◌, ◌-◌, ◌<◌, ◌≤◌, min, Bool, true, ◌&&◌, nat_le, nat_lt, Option, List, [], ◌∷◌, ◌++◌, length, reverse, set, take, drop, get_or, refl, sym, ◌∙◌, ap, ap₂, inl, inr, arith, append_assoc}
 use Rattle.std.specs.List.{slice_get, list_all}
 use Rattle.std.specs.Option.{option_map_or}
 use Rattle.std.proofs.lemmas.Bool.{and_parts, and_from, cases_lt, ltb-true, leb-true}
@@ -11,7 +11,7 @@ use Rattle.pr_flat.specs.declared.equations.Op.{Op}
 use Rattle.pr_flat.specs.declared.equations.Op.TheVariants.{Input, Delay, Rec}
 use Rattle.pr_flat.specs.declared.forms.Point.{Point}
 use Rattle.pr_flat.specs.Shape.{EquationShape, EachEquation}
-use Rattle.pr_flat.specs.Facts.{is_lawful_operand, op_at, IsFlat}
+use Rattle.pr_flat.specs.Facts.{is_lawful_operand, IsFlat}
 use Rattle.pr_flat.specs.Widths.{operand_width}
 use Rattle.pr_flat.specs.Values.{Sight, initial_of, operand_number, delayed_number, points_in, operator_number, recurrence_number, number_in, row_after, row_of, rows_after, rows_of}
 use Rattle.pr_source.specs.Keeping.{is_near, AreNear}

@@ -1,3 +1,4 @@
 pub mod Latest
+pub mod Plain
 pub mod Points
 pub mod Whole

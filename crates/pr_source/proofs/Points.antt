@@ -1,5 +1,5 @@
 -- The operands of an operator, one by one.
-use Rattle.std.proofs.Common.{◌≡◌, ℕ, ◌%◌, ◌^◌, ◌<◌, ◌≤◌, Bool, true, false, not, ◌&&◌, cond, is_some, Option, Some, None, List, [], ◌∷◌, length, get_or, refl, sym, ◌∙◌, ap, ap₂, subst, zero, suc, inl, inr, ◌⊎◌, arith}
+use Rattle.std.proofs.Common.{◌≡◌, ℕ, ◌%◌, ◌^◌, ◌<◌, ◌≤◌, Bool, true, false, not, ◌&&◌, cond, is_some, Option, Some, None, List, [], ◌∷◌, length, get_or, refl, sym, ◌∙◌, ap, ap₂, zero, suc, inl, inr, ◌⊎◌, arith}
 use Rattle.std.specs.List.{slice_get, list_all}
 use Rattle.std.specs.Option.{option_map, IsSome, IsNone}
 use Rattle.std.proofs.lemmas.Bool.{and_parts}
@@ -7,15 +7,14 @@ use Rattle.std.proofs.lemmas.Option.{slice_get_within, slice_get_read, slice_get
 use Rattle.pr_flat.specs.declared.equations.Operand.{Operand}
 use Rattle.pr_flat.specs.declared.equations.Op.{Op}
 use Rattle.pr_flat.specs.declared.equations.Op.TheVariants.{Input, Delay, Rec}
-use Rattle.pr_flat.specs.declared.forms.Form.{Form}
 use Rattle.pr_flat.specs.declared.forms.Point.{Point}
 use Rattle.pr_flat.specs.Forms.{IsPoint, residue, value, value_at}
 use Rattle.std.proofs.Math.Nat.{mod-eq_of_lt, pow-le-pow_right}
 use Rattle.pr_flat.specs.Rows.{forms_of, takes, natural_width}
 use Rattle.pr_flat.specs.Shape.{EquationShape}
 use Rattle.pr_flat.specs.Facts.{arity, is_lawful_operand, is_rec}
-use Rattle.pr_flat.specs.Widths.{is_open, width_in, settled_width, operand_width, forms_in, AreWidths}
-use Rattle.pr_flat.specs.Values.{Sight, operand_number, points_in, operator_number, recurrence_number, delayed_number, first_delayed, number_in}
+use Rattle.pr_flat.specs.Widths.{is_open, settled_width, operand_width, forms_in, AreWidths}
+use Rattle.pr_flat.specs.Values.{Sight, operand_number, points_in, operator_number, recurrence_number, delayed_number, number_in}
 use Rattle.pr_flat.proofs.ValueLemmas.{forms_of-points_in}
 use Rattle.pr_flat.specs.Shape.{equation_shape, shapes_of}
 use Rattle.pr_flat.specs.declared.equations.Equation.{Equation}

@@ -2,10 +2,10 @@
 use mir.Val.{bool_byte}
 use Rattle.std.specs.Ordering.{nat_cmp, ord_max}
 use Rattle.std.proofs.Common.{rules, max, ◌≡◌, ℕ, zero, suc, ◌+◌, ◌-◌, ◌^◌, ◌<◌, ◌≤◌, Bool, true, false, ◌&&◌, cond, count_by, unwrap_or, Option, Some, None, List, [], ◌∷◌, ◌++◌, length, take, drop, set, get_or, refl, sym, ◌∙◌, ap, subst, arith}
-use Rattle.std.specs.List.{slice_get, list_all, All}
+use Rattle.std.specs.List.{slice_get, list_all}
 use Rattle.std.specs.Option.{option_map_or}
 use Rattle.std.proofs.lemmas.Bool.{and_from, and_parts, ltb-true}
-use Rattle.std.proofs.lemmas.List.{drop_more, length-take-le, take_more_set}
+use Rattle.std.proofs.lemmas.List.{drop_more, take_more_set}
 use Rattle.std.proofs.lemmas.List.Sums.{count_by_more_no, count_by_more_yes, sum_by-cons}
 use Rattle.std.proofs.lemmas.Option.{slice_get_within, get_or_from_slice_get}
 use Rattle.pr_base.specs.Rows.{IsRow}
@@ -14,7 +14,7 @@ use Rattle.pr_flat.specs.declared.equations.Operand.TheVariants.{Const, Eq, Past
 use Rattle.pr_flat.specs.Shape.{EquationShape}
 use Rattle.pr_flat.specs.Facts.{is_input, is_lawful_operand, IsFlat}
 use Rattle.pr_flat.specs.Widths.{operand_width, AreWidths}
-use Rattle.pr_flat.specs.Values.{Sight, init_of, initial_of, input_widths, number_before, operand_number, number_in, row_after, row_of, HaveWidths}
+use Rattle.pr_flat.specs.Values.{init_of, initial_of, input_widths, number_before, operand_number, number_in, row_after, row_of}
 use Rattle.pr_flat.proofs.NumberLemmas.{number_width-holds, initial-holds, AllHaveWidths, row_of-holds, IsSampleFor-from_IsRow}
 use Rattle.pr_flat.proofs.ValueLemmas.{row_after-kept, length-row_of}
 use Rattle.pr_flat.proofs.WidthLemmas.{PastOf, past_of}

@@ -1,8 +1,8 @@
 -- What an equation is read in: rows of which each number has the bits of its equation's width.
-use Rattle.std.specs.Prelude.{◌≡◌, ◌<◌, ℕ, ◌^◌, Bool, true, false, List, length, slice_index}
+use Rattle.std.specs.Prelude.{◌≡◌, ◌<◌, ℕ, ◌+◌, ◌*◌, ◌%◌, ◌^◌, Bool, true, false, List, length, slice_index}
 use Rattle.std.specs.List.{All}
 use Rattle.pr_flat.specs.declared.equations.Op.{Op}
-use Rattle.pr_flat.specs.declared.equations.Op.TheVariants.{Input, Delay, Rec}
+use Rattle.pr_flat.specs.declared.equations.Op.TheVariants.{Input, Add, Mul, Delay, Rec}
 use Rattle.pr_flat.specs.declared.equations.Operand.{Operand}
 use Rattle.pr_flat.specs.Shape.{EquationShape, shapes_of}
 use Rattle.pr_flat.specs.Facts.{IsFlat}
@@ -41,3 +41,9 @@ operates Input = false
 operates (Delay c) = false
 operates (Rec init first) = false
 operates op = true
+
+-- the sum or the product of two numbers, modulo 2 to the power of 128
+abbrev pub IsPlain : Op → ℕ → ℕ → ℕ → Type 0
+IsPlain Add a b n = n ≡ (a + b) % 2 ^ 128
+IsPlain Mul a b n = n ≡ (a * b) % 2 ^ 128
+IsPlain op a b n = ⊥

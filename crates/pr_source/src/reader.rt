@@ -1,6 +1,6 @@
 //! What equations read.
 
-ghost use Rattle.std.specs.Prelude.{◌≡◌, ◌<◌, ◌≤◌, ℕ, ◌^◌, true, false, Some, List, length, take, count_by, slice_get, slice_index, map, vec_len};
+ghost use Rattle.std.specs.Prelude.{IfSome, ◌≡◌, ◌<◌, ◌≤◌, ℕ, ◌^◌, true, false, Some, List, length, take, count_by, slice_get, slice_index, map, vec_len};
 ghost use Rattle.pr_base.specs.Rows.{IsRow};
 ghost use Rattle.pr_flat.specs.Shape.{EquationShape, equation_shape, shapes_of};
 ghost use Rattle.pr_flat.specs.Facts.{arity, is_input, is_lawful_operand};
@@ -8,10 +8,10 @@ ghost use Rattle.pr_flat.specs.Forms.{IsPoint};
 ghost use Rattle.pr_flat.specs.Widths.{operand_width};
 ghost use Rattle.pr_flat.specs.Values.{delayed_number, initial_of, input_widths, number_in, operand_number, points_in};
 ghost use Rattle.pr_source.specs.Keeping.{kept};
-ghost use Rattle.pr_source.specs.Reading.{IsReady, operates, sight_of};
+ghost use Rattle.pr_source.specs.Reading.{IsPlain, IsReady, operates, sight_of};
 
 use crate::recent::Recent;
-use pr_base::{Num, Width};
+use pr_base::{Num, Width, cut};
 use pr_flat::{Equation, Flat, Form, Op, Operand, Point};
 use pr_flat_ops::{fit, number_width, operate};
 use pr_width::Widths;
@@ -21,6 +21,17 @@ pub fn is_input(op: Op) -> bool
     ensures { result ≡ is_input op }
 {
     matches!(op, Op::Input)
+}
+
+/// The sum or the product of two numbers, modulo 2 to the power of 128; none for another operation.
+fn plain_number(op: Op, a: Num, b: Num) -> Option<Num>
+    ensures { IfSome result (λ n. IsPlain op a b n) }
+{
+    match op {
+        Op::Add => Some(a.wrapping_add(b)),
+        Op::Mul => Some(a.wrapping_mul(b)),
+        _ => None,
+    }
 }
 
 /// The number that a recurrence begins with.
@@ -146,6 +157,25 @@ impl<'a> Reader<'a> {
         operate(equation.op, &[first, second, third], width)
     }
 
+    /// The number of the next equation where it is a sum or a product of unsigned operands: it takes no widths but its own.
+    fn plain(&self, equation: &Equation) -> Option<Num>
+        requires ready { IsReady self.now }
+        requires next { slice_get (shapes_of self.now.flat.now.equations.items) (length self.now.row.now) ≡ Some (equation_shape equation.now) }
+        requires args { vec_len equation.now.args ≡ arity equation.now.op }
+        requires kinds { vec_len equation.now.kinds ≡ arity equation.now.op }
+        ensures { IfSome result (λ n. (sample : List ℕ) → n ≡ number_in (sight_of self.now sample) (length self.now.row.now) equation.now.op equation.now.args.items equation.now.kinds.items) }
+    {
+        if equation.args.len() != 2 || equation.kinds[0] || equation.kinds[1] {
+            return None;
+        }
+        let a = self.number(equation.args[0]);
+        let b = self.number(equation.args[1]);
+        match plain_number(equation.op, a, b) {
+            None => None,
+            Some(number) => Some(cut(number, self.width_at(self.row.len()))),
+        }
+    }
+
     /// The number of the next equation; an input takes the sample's number at this place.
     pub fn next(&self, sample: &[Num], input: usize) -> Num
         requires ready { IsReady self.now }
@@ -160,7 +190,10 @@ impl<'a> Reader<'a> {
             Op::Input => sample[input],
             Op::Delay(constant) => self.earlier(equation.args[0], constant),
             Op::Rec { .. } => fit(self.point(equation, 0), self.width_at(at)),
-            _ => self.operated(equation),
+            _ => match self.plain(equation) {
+                Some(number) => number,
+                None => self.operated(equation),
+            },
         }
     }
 }

@@ -1,4 +1,4 @@
-use Rattle.std.proofs.Common.{◌≡◌, [], ℕ, List, map, take, length, ap, sym, ◌∙◌, arith}
+use Rattle.std.proofs.Common.{[], ℕ, List, map, ap, sym, ◌∙◌, arith}
 use Rattle.std.proofs.lemmas.List.{take_all}
 use Rattle.pr_flat.specs.Shape.{shapes_of}
 use Rattle.pr_flat.specs.Values.{operand_number}

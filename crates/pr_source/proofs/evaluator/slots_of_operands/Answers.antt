@@ -1,4 +1,4 @@
-use Rattle.std.proofs.Common.{◌≡◌, ◌≤◌, ℕ, take, length, get_or, ap, sym, ◌∙◌, arith}
+use Rattle.std.proofs.Common.{get_or, ap, sym, ◌∙◌, arith}
 use Rattle.std.specs.List.{list_all}
 use Rattle.std.proofs.lemmas.List.{get_or_default, take_all}
 use Rattle.pr_flat.specs.declared.equations.Operand.TheVariants.{Const}

@@ -2,7 +2,7 @@ use Rattle.std.proofs.Common.{◌≡◌, ◌≤◌, ℕ, List, [], ◌∷◌, �
 use Rattle.std.proofs.lemmas.List.{length-map, reverse-append}
 use Rattle.std.proofs.lemmas.List.Elements.{All-cons, All-push, All-same, All-take}
 use Rattle.pr_base.specs.Rows.{IsRow}
-use Rattle.pr_flat.specs.Shape.{EquationShape, equation_shape, shapes_of}
+use Rattle.pr_flat.specs.Shape.{equation_shape, shapes_of}
 use Rattle.pr_flat.specs.Values.{input_widths, row_of, rows_of}
 use Rattle.pr_flat.proofs.ValueLemmas.{length-row_of}
 use Rattle.pr_source.specs.Keeping.{kept, slots, AreNear}

@@ -1,6 +1,5 @@
-use Rattle.std.proofs.Common.{◌≡◌, ◌<◌, ℕ, Some, List, [], ◌∷◌, length, get_or, true, sym, ◌∙◌, ap, subst, arith}
+use Rattle.std.proofs.Common.{◌≡◌, ◌<◌, ℕ, Some, List, length, get_or, sym, ◌∙◌, ap, subst, arith}
 use Rattle.std.specs.List.{slice_get}
-use Rattle.std.proofs.lemmas.List.{length-map}
 use Rattle.pr_flat.specs.declared.equations.Op.{Op}
 use Rattle.pr_flat.specs.declared.equations.Equation.{Equation}
 use Rattle.pr_flat.specs.declared.flat.Flat.{Flat}
@@ -108,8 +107,23 @@ returns-in-Rec c e at =
     let points = one_at _ c.point.result count (c.point.ensures.point c.args.sample.now) in
     of_shape r c.args.sample.now x e _ there at (recurrence_of sight (length r.row.now) x.op x.args.items x.kinds.items c.in-Rec.init c.in-Rec.first c.width_at.result.bits _ c.point.result c.in-Rec.is points c.width_at.ensures (point_cut c.point.result c.width_at.result.bits _ c.point.ensures.lawful c.fit.ensures))
 
-pub returns-in_default : goal.returns-in_default
-returns-in_default c e at =
+pub plain-requires : goal.plain-requires
+plain-requires c =
+    let r = c.args.self.now in
+    let x = c.index-equation.result.now in
+    let there = next_there r.flat.now (length r.row.now) x c.requires.within c.index-equation.ensures in
+    let n = next_counts r x c.requires.ready there in
+    record { ready = c.requires.ready; next = there; args = omega (arith, n.args, x.args.ok.0); kinds = omega (arith, n.kinds, x.kinds.ok.0) }
+
+pub returns-in-Some : goal.returns-in-Some
+returns-in-Some c e at =
+    let r = c.args.self.now in
+    let x = c.index-equation.result.now in
+    let there = next_there r.flat.now (length r.row.now) x c.requires.within c.index-equation.ensures in
+    of_shape r c.args.sample.now x e _ there at (c.in-Some.ensures c.args.sample.now)
+
+pub returns-in-None : goal.returns-in-None
+returns-in-None c e at =
     let r = c.args.self.now in
     let x = c.index-equation.result.now in
     let there = next_there r.flat.now (length r.row.now) x c.requires.within c.index-equation.ensures in

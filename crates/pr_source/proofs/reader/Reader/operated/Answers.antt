@@ -1,5 +1,4 @@
-use Rattle.std.proofs.Common.{◌≡◌, ℕ, List, [], ◌∷◌, length, sym, ◌∙◌, arith}
-use Rattle.pr_flat.specs.declared.forms.Point.{Point}
+use Rattle.std.proofs.Common.{◌≡◌, [], ◌∷◌, length, arith}
 use Rattle.pr_flat.specs.Shape.{equation_shape, shapes_of}
 use Rattle.pr_flat.specs.Values.{points_in}
 use Rattle.pr_source.specs.Reading.{sight_of}

@@ -1,9 +1,8 @@
-use Rattle.std.proofs.Common.{◌≡◌, ◌<◌, ◌≤◌, ◌^◌, ℕ, Bool, Some, length, sym, ◌∙◌, ap₂, subst, refl, arith}
+use Rattle.std.proofs.Common.{◌≡◌, ◌<◌, ◌≤◌, ◌^◌, ℕ, Some, length, sym, ◌∙◌, ap₂, subst, refl, arith}
 use Rattle.std.proofs.lemmas.List.{length-map}
 use Rattle.std.proofs.lemmas.Option.{slice_get_read, slice_get_within}
 use Rattle.pr_flat.specs.Shape.{equation_shape, shapes_of}
 use Rattle.pr_flat.specs.Widths.{operand_width}
-use Rattle.pr_flat.specs.Values.{operand_number}
 use Rattle.pr_source.specs.Keeping.{kept}
 use Rattle.pr_source.specs.Reading.{sight_of}
 use Rattle.pr_source.proofs.Points.{operand_lawful, points_in-at}

@@ -1,4 +1,4 @@
-use Rattle.std.proofs.Common.{◌≡◌, ◌≤◌, ◌<◌, ℕ, List, length, get_or, ◌∙◌, ap, arith}
+use Rattle.std.proofs.Common.{◌≡◌, ◌<◌, ℕ, List, length, get_or, ◌∙◌, ap, arith}
 use Rattle.std.proofs.lemmas.List.{get_or_default, length-map}
 use Rattle.pr_cut_units.proofs.WideNets.{widths_some}
 use Rattle.pr_cut_units.proofs.EndNets.{widths_most}
