@@ -17,6 +17,13 @@ abbrev pub Fills : ℕ → ℕ → NetShape → Tables → Candidates → Progre
 Fills N P net tables candidates s stage from placed =
     Filling N P net tables.cells.first.items tables.cells.kept.items tables.plans.items tables.class.items candidates.summary.items candidates.ready.items s stage (2 ^ 64 - 1) from placed
 
+-- before the first turn, and after the last
+abbrev pub IsOpen : ℕ → ℕ → NetShape → Tables → Candidates → Progress → ℕ → Type 0
+IsOpen N P net tables candidates s stage = Fills N P net tables candidates s stage 0 (placed_after N P net stage)
+
+abbrev pub IsFull : ℕ → ℕ → NetShape → Tables → Candidates → Progress → ℕ → Type 0
+IsFull N P net tables candidates s stage = Fills N P net tables candidates s stage (length candidates.ready.items) (stripe N P net stage (placed_after N P net stage))
+
 -- these are the groups that a stripe has received
 abbrev pub HasReceived : ℕ → ℕ → NetShape → Tables → Candidates → Candidates → List ℕ → ℕ → Type 0
 HasReceived N P net tables before now groups stage =

@@ -88,7 +88,8 @@ fn open_next<const N: usize, const P: usize>(
     course.stage += 1;
 }
 
-/// Fills a stripe, with an empty list for the groups that it receives. It says whether it received one; then the next opens.
+/// Fills a stripe, and says whether it received a group; then the next one opens. The list holds the groups that it
+/// received.
 pub fn advance<const N: usize, const P: usize>(
     net: &Net,
     tables: &Tables,

@@ -15,8 +15,8 @@ use crate::placements::Placement;
 use pr_net::Net;
 use std::alloc::Global;
 
-/// The placement of a net by the greedy rule, on N columns and P registers; else the number of the least group that fits in
-/// no stripe.
+/// The placement of a net by the greedy rule, on N columns and P registers; else the number of the least group that
+/// fits in no stripe.
 pub fn place<const N: usize, const P: usize>(
     alloc: Global,
     net: &Net,

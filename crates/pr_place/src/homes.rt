@@ -26,7 +26,8 @@ fn registers(
 ) -> Result<Vec<u8>, AllocError>
     requires inside { from + count ≤ length progress.now.spots }
     requires small { from + count < 2 ^ 64 }
-    ensures { IfOk result (λ regs. regs.items ≡ map (λ i. (spotted progress.now.spots (from + i)).1) (range_with_len 0 count)) }
+    ensures { IfOk result (λ regs.
+        regs.items ≡ map (λ i. (spotted progress.now.spots (from + i)).1) (range_with_len 0 count)) }
 {
     let mut regs = Vec::with_capacity(alloc, count)?;
     for i in 0..count {
@@ -68,7 +69,9 @@ pub fn homes<const N: usize, const P: usize>(
     requires opens { Opens N P (shape_of net.now) tables.now course.now }
     requires registers { 2 ≤ P }
     requires none { course.now.left ≡ 0 }
-    ensures { IfOk result (λ homes. map home_shape homes.items ≡ homes_in (shape_of net.now) (placed_after N P (shape_of net.now) course.now.stage)) }
+    ensures { IfOk result (λ homes.
+        map home_shape homes.items
+        ≡ homes_in (shape_of net.now) (placed_after N P (shape_of net.now) course.now.stage)) }
 {
     let mut homes = Vec::with_capacity(alloc, net.units.len())?;
     for unit in 0..net.units.len() {

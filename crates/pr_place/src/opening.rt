@@ -25,7 +25,8 @@ fn wake_one(class: &[u8], waits: &mut Vec<usize>, candidates: &mut Candidates, g
     requires waits { 1 ≤ slice_index waits.old.items group }
     ensures lists { AreLists class.now waits.new.items candidates.new }
     ensures waits { waits.new.items ≡ slice_set waits.old.items group (slice_index waits.old.items group - 1) }
-    ensures woken { Woken class.now waits.old.items candidates.old.ready.items waits.new.items candidates.new.ready.items }
+    ensures woken { Woken class.now waits.old.items candidates.old.ready.items
+        waits.new.items candidates.new.ready.items }
 {
     waits[group] -= 1;
     if waits[group] == 0 {
@@ -41,7 +42,8 @@ fn wake_readers(class: &[u8], waits: &mut Vec<usize>, candidates: &mut Candidate
     ensures lists { AreLists class.now waits.new.items candidates.new }
     ensures long { length waits.new.items ≡ length waits.old.items }
     ensures waits { (g : ℕ) → slice_index waits.new.items g + count_of g readers.now ≡ slice_index waits.old.items g }
-    ensures woken { Woken class.now waits.old.items candidates.old.ready.items waits.new.items candidates.new.ready.items }
+    ensures woken { Woken class.now waits.old.items candidates.old.ready.items
+        waits.new.items candidates.new.ready.items }
 {
     for &reader in readers {
         wake_one(class, waits, candidates, reader as usize);
@@ -58,7 +60,8 @@ pub fn wake(tables: &Tables, waits: &mut Vec<usize>, candidates: &mut Candidates
     ensures lists { AreLists tables.now.class.items waits.new.items candidates.new }
     ensures long { length waits.new.items ≡ length waits.old.items }
     ensures waits { (g : ℕ) → slice_index waits.new.items g + readings tables.now g groups.now ≡ slice_index waits.old.items g }
-    ensures woken { Woken tables.now.class.items waits.old.items candidates.old.ready.items waits.new.items candidates.new.ready.items }
+    ensures woken { Woken tables.now.class.items waits.old.items candidates.old.ready.items
+        waits.new.items candidates.new.ready.items }
 {
     for &group in groups {
         wake_readers(
