@@ -1,6 +1,6 @@
 //! The net of flat equations.
 
-ghost use Rattle.std.specs.Prelude.{◌≡◌, ◌≤◌, None, Some, Err, map, vec_len, length, drop, take, IfOk, IfErr, OnOk};
+ghost use Rattle.std.specs.Prelude.{◌≡◌, ◌≤◌, None, Some, Err, cond, map, vec_len, length, drop, take, IfOk, IfErr, OnOk};
 ghost use Rattle.std.specs.List.{sum_by};
 ghost use Rattle.pr_base.specs.Numbers.{slices_of};
 ghost use Rattle.pr_base.specs.declared.caps.Cap.{Cap};
@@ -65,6 +65,13 @@ fn is_input(op: Op) -> bool
     op == Op::Input
 }
 
+/// How many inputs one equation of this operation is.
+fn input_count(op: Op) -> u32
+    ensures { result ≡ cond (is_input op) 1 0 }
+{
+    if is_input(op) { 1 } else { 0 }
+}
+
 /// The units of all equations, after those of inputs of these widths.
 #[tactic(auto, using(crate::proofs::StepLemmas::cut_more, crate::proofs::StepLemmas::cut_units, crate::proofs::StepLemmas::cut_values, crate::proofs::StepLemmas::inputs_few))]
 fn all_units(alloc: Global, source: &Source, inputs: &[u8]) -> Result<Made, AllocError>
@@ -86,7 +93,7 @@ fn all_units(alloc: Global, source: &Source, inputs: &[u8]) -> Result<Made, Allo
         };
         let slices = next_units(alloc, source, &mut units, &values, &turn)?;
         values.push(Value { slices })?;
-        before += u32::from(is_input(equation.op));
+        before += input_count(equation.op);
     }
     Ok(Made { units, values })
 }
