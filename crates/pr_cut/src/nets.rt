@@ -141,12 +141,7 @@ fn net_with(alloc: Global, source: &Source) -> Result<Net, AllocError>
 /// # Errors
 ///
 /// `Limit` with the first limit that the net passes: bytes of inputs, outputs, units. `Memory` where memory is wanting.
-pub fn cut(
-    alloc: Global,
-    flat: &Flat,
-    widths: &Widths,
-    columns: usize,
-) -> Result<Net, CutFault>
+pub fn cut(alloc: Global, flat: &Flat, widths: &Widths, columns: usize) -> Result<Net, CutFault>
     requires widths { AreWidths (shapes_of flat.now.equations.items) widths.now }
     requires columns { (1 ≤ columns) × (columns ≤ 64) }
     ensures net { IfOk result (λ net. shape_of net ≡ net_of (shapes_of flat.now.equations.items) widths.now flat.now.outputs.items) }
