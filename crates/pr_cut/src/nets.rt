@@ -1,6 +1,6 @@
 //! The net of flat equations.
 
-ghost use Rattle.std.specs.Prelude.{◌≡◌, ◌≤◌, None, Some, Err, map, vec_len, length, drop, take, IfOk, IfErr, OnOk};
+ghost use Rattle.std.specs.Prelude.{◌≡◌, ◌≤◌, None, Some, Err, cond, map, vec_len, length, drop, take, IfOk, IfErr, OnOk};
 ghost use Rattle.std.specs.List.{sum_by};
 ghost use Rattle.pr_base.specs.Numbers.{slices_of};
 ghost use Rattle.pr_base.specs.declared.caps.Cap.{Cap};
@@ -65,6 +65,13 @@ fn is_input(op: Op) -> bool
     op == Op::Input
 }
 
+/// How many inputs one equation of this operation is.
+fn input_count(op: Op) -> u32
+    ensures { result ≡ cond (is_input op) 1 0 }
+{
+    if is_input(op) { 1 } else { 0 }
+}
+
 /// The units of all equations, after those of inputs of these widths.
 #[tactic(auto, using(crate::proofs::StepLemmas::cut_more, crate::proofs::StepLemmas::cut_units, crate::proofs::StepLemmas::cut_values, crate::proofs::StepLemmas::inputs_few))]
 fn all_units(alloc: Global, source: &Source, inputs: &[u8]) -> Result<Made, AllocError>
@@ -86,7 +93,7 @@ fn all_units(alloc: Global, source: &Source, inputs: &[u8]) -> Result<Made, Allo
         };
         let slices = next_units(alloc, source, &mut units, &values, &turn)?;
         values.push(Value { slices })?;
-        before += u32::from(is_input(equation.op));
+        before += input_count(equation.op);
     }
     Ok(Made { units, values })
 }
@@ -134,12 +141,7 @@ fn net_with(alloc: Global, source: &Source) -> Result<Net, AllocError>
 /// # Errors
 ///
 /// `Limit` with the first limit that the net passes: bytes of inputs, outputs, units. `Memory` where memory is wanting.
-pub fn cut(
-    alloc: Global,
-    flat: &Flat,
-    widths: &Widths,
-    columns: usize,
-) -> Result<Net, CutFault>
+pub fn cut(alloc: Global, flat: &Flat, widths: &Widths, columns: usize) -> Result<Net, CutFault>
     requires widths { AreWidths (shapes_of flat.now.equations.items) widths.now }
     requires columns { (1 ≤ columns) × (columns ≤ 64) }
     ensures net { IfOk result (λ net. shape_of net ≡ net_of (shapes_of flat.now.equations.items) widths.now flat.now.outputs.items) }

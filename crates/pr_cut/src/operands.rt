@@ -89,13 +89,7 @@ pub fn arguments(
 {
     let mut all = Vec::new(alloc);
     for i in 0..equation.args.len() {
-        all.push(argument(
-            alloc,
-            source,
-            values,
-            equation.args[i],
-            equation.kinds[i],
-        )?)?;
+        all.push(argument(alloc, source, values, equation.args[i], equation.kinds[i])?)?;
     }
     Ok(all)
 }

@@ -35,9 +35,9 @@ equation_units-requires-clause-holds c =
     let there = c.requires.turn.there in
     let p = c.requires.planned in
     λ r. (let has : (is_input e.op || get_or (reached (equations_in s) s.flat.now.outputs.items) number false) ≡ true = sym c.has_units.ensures ∙ c.if-has_units.true in
-      let counts : get_or (reached (equations_in s) s.flat.now.outputs.items) number false ≡ true = subst (λ (b : Bool). (b || get_or (reached (equations_in s) s.flat.now.outputs.items) number false) ≡ true) (rec_not_input e.op r) has in
-      let few = holds_few (equations_in s) s.flat.now.outputs.items s.widths.now number e s.flat.now.lawful p.widths p.few there counts r in
-      omega (arith, few, p.plan.counts number e there r))
+    let counts : get_or (reached (equations_in s) s.flat.now.outputs.items) number false ≡ true = subst (λ (b : Bool). (b || get_or (reached (equations_in s) s.flat.now.outputs.items) number false) ≡ true) (rec_not_input e.op r) has in
+    let few = holds_few (equations_in s) s.flat.now.outputs.items s.widths.now number e s.flat.now.lawful p.widths p.few there counts r in
+    omega (arith, few, p.plan.counts number e there r))
 
 pub equation_units-requires-clause-few : goal.equation_units-requires-clause-few
 equation_units-requires-clause-few c =

@@ -11,7 +11,7 @@ pub net_with-requires-clause-planned : goal.net_with-requires-clause-planned
 net_with-requires-clause-planned c =
     let equations : List EquationShape = shapes_of c.args.flat.now.equations.items in
     let outputs = c.args.flat.now.outputs.items in
-    let same : c.deref.result.now ≡ c.args.widths.now = c.deref.ensures.value in
+    let same : c.deref.result.now ≡ c.args.widths.now = cc (c.deref.ensures.value, c.widths.view_is) in
     record {
       widths = subst (λ (ws : List ℕ). AreWidths equations ws) (sym same) c.requires.widths;
       plan = subst (λ (ws : List ℕ). IsPlanOf c.in_ok-plan.plan equations ws outputs) (sym same) c.in_ok-plan.ensures.plan;
@@ -23,5 +23,5 @@ net_with-requires-clause-room c = inputs_room c.args.columns (shapes_of c.args.f
 
 pub returns-clause-net : goal.returns-clause-net
 returns-clause-net c =
-    let same : c.deref.result.now ≡ c.args.widths.now = c.deref.ensures.value in
+    let same : c.deref.result.now ≡ c.args.widths.now = cc (c.deref.ensures.value, c.widths.view_is) in
     c.in_ok-net.ensures ∙ ap (λ (ws : List ℕ). net_of (shapes_of c.args.flat.now.equations.items) ws c.args.flat.now.outputs.items) same

@@ -1,6 +1,7 @@
 use Rattle.std.proofs.Common.{◌≡◌, ◌≤◌, ℕ, Bool, List, length, map, subst, sym, ap, ap₂, ◌∙◌, arith}
 use Rattle.pr_net.specs.declared.cells.Slice.{Slice}
 use Rattle.pr_net.specs.declared.cells.Cell.{Cell}
+use Rattle.pr_cut_units.specs.Equations.{cut_whole}
 use Rattle.pr_cut_units.specs.Groups.{Holds, groups_of}
 use Rattle.pr_cut_units.specs.Nets.{holds_from, output_of}
 use Rattle.pr_cut_plan.specs.Parts.{AreParts}
@@ -26,7 +27,7 @@ groups_of-requires-clause-parts c =
     let plan = plan_in s in
     let holds : c.deref-4.result.now ≡ holds_from plan 0 plan.equations plan.reached = c.deref-4.ensures.value ∙ c.in_ok-holds.ensures s.widths.now p ∙ ap (λ (flags : List Bool). holds_from plan 0 plan.equations flags) p.reached in
     subst (λ (us : List (List Cell)). AreParts us 0 c.deref-4.result.now) (sym (c.deref-3.ensures.value ∙ c.in_ok-made.ensures.units))
-    (subst (λ (hs : List Holds). AreParts _ 0 hs) (sym holds) (parted (equations_in s) s.widths.now s.flat.now.outputs.items s.flat.now.lawful c.requires.planned.widths))
+    (subst (λ (hs : List Holds). AreParts (cut_whole plan).units 0 hs) (sym holds) (parted (equations_in s) s.widths.now s.flat.now.outputs.items s.flat.now.lawful c.requires.planned.widths))
 
 pub returns : goal.returns
 returns c =
