@@ -1,9 +1,10 @@
 //! The rows of a product, and of a shift by an operand, at the end of a net.
 
-ghost use Rattle.std.specs.Prelude.{◌≡◌, ◌<◌, ◌≤◌, ◌+◌, ◌++◌, ℕ, Err, length, OnOk, IfOk};
+ghost use Rattle.std.specs.Prelude.{◌≡◌, ◌<◌, ◌≤◌, ◌+◌, ◌++◌, ℕ, Err, length, OnOk, OnErr, IfOk};
 ghost use Rattle.pr_base.specs.declared.caps.Cap.{Cap};
 ghost use Rattle.pr_cut_units.specs.Products.{product};
 ghost use Rattle.pr_cut_units.specs.Shifts.{shifted_by};
+ghost use Rattle.pr_cut_cells.specs.Fronts.{IsFront};
 ghost use Rattle.pr_cutmul.specs.Rows.{HasSame};
 
 use crate::counts::product_count;
@@ -42,7 +43,9 @@ impl From<AllocError> for RowFault {
 ///
 /// # Errors
 ///
-/// `Limit` where the net would have too many units, which leaves it as it was; `Memory` where memory is wanting.
+/// `Limit` where the net would have too many units, which leaves it as it was; `Memory` where memory is wanting, which leaves the first
+/// of the new units.
+#[tactic(auto, using(pr_cut_cells::proofs::FrontLemmas::front_of))]
 pub fn mul_rows(
     alloc: Global,
     net: &mut Net,
@@ -60,6 +63,7 @@ pub fn mul_rows(
     ensures within { OnOk result (length net.new.units.items ≤ 32768) }
     ensures passed { 32768 < length net.old.units.items + length (product bits a.now wa b.now wb (length net.old.units.items)).units → result ≡ Err (RowFault.Limit Cap.Units) }
     ensures limit { (cap : Cap) → result ≡ Err (RowFault.Limit cap) → (cap ≡ Cap.Units) × (32768 < length net.old.units.items + length (product bits a.now wa b.now wb (length net.old.units.items)).units) × (net.new.units.items ≡ net.old.units.items) }
+    ensures part { OnErr result (IsFront net.new.units.items (net.old.units.items ++ (product bits a.now wa b.now wb (length net.old.units.items)).units)) }
     ensures same { HasSame net.old net.new }
 {
     let count = product_count(u16::from(bits), u16::from(wa), u16::from(wb));
@@ -74,7 +78,9 @@ pub fn mul_rows(
 ///
 /// # Errors
 ///
-/// `Limit` where the net would have too many units, which leaves it as it was; `Memory` where memory is wanting.
+/// `Limit` where the net would have too many units, which leaves it as it was; `Memory` where memory is wanting, which leaves the first
+/// of the new units.
+#[tactic(auto, using(pr_cut_cells::proofs::FrontLemmas::front_of))]
 pub fn shift_rows(
     alloc: Global,
     net: &mut Net,
@@ -90,6 +96,7 @@ pub fn shift_rows(
     ensures within { OnOk result (length net.new.units.items ≤ 32768) }
     ensures passed { 32768 < length net.old.units.items + length (shifted_by left wa by.now wby a.now (length net.old.units.items)).units → result ≡ Err (RowFault.Limit Cap.Units) }
     ensures limit { (cap : Cap) → result ≡ Err (RowFault.Limit cap) → (cap ≡ Cap.Units) × (32768 < length net.old.units.items + length (shifted_by left wa by.now wby a.now (length net.old.units.items)).units) × (net.new.units.items ≡ net.old.units.items) }
+    ensures part { OnErr result (IsFront net.new.units.items (net.old.units.items ++ (shifted_by left wa by.now wby a.now (length net.old.units.items)).units)) }
     ensures same { HasSame net.old net.new }
 {
     if net.units.len() + usize::from(wby) > MOST_UNITS {
