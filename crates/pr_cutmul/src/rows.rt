@@ -1,7 +1,8 @@
 //! The rows of a product, and of a shift by an operand, at the end of a net.
 
-ghost use Rattle.std.specs.Prelude.{◌≡◌, ◌<◌, ◌≤◌, ◌+◌, ◌++◌, ℕ, Err, length, OnOk, OnErr, IfOk};
+ghost use Rattle.std.specs.Prelude.{◌≡◌, ◌<◌, ◌≤◌, ◌+◌, ◌++◌, ℕ, Err, List, length, OnOk, OnErr, IfOk};
 ghost use Rattle.pr_base.specs.declared.caps.Cap.{Cap};
+ghost use Rattle.pr_net.specs.declared.cells.Slice.{Slice};
 ghost use Rattle.pr_cut_units.specs.Products.{product};
 ghost use Rattle.pr_cut_units.specs.Shifts.{shifted_by};
 ghost use Rattle.pr_cut_cells.specs.Fronts.{IsFront};
@@ -39,6 +40,16 @@ impl From<AllocError> for RowFault {
     }
 }
 
+/// The number of units of a product.
+fn rows_of(bits: u8, wa: u8, wb: u8) -> usize
+    requires wa { wa ≤ 128 }
+    requires wb { wb ≤ 128 }
+    ensures is { (a b : List Slice) (u : ℕ) → length (product bits a wa b wb u).units ≡ result }
+    ensures few { result ≤ 12800 }
+{
+    product_count(u16::from(bits), u16::from(wa), u16::from(wb)) as usize
+}
+
 /// Appends the units of the first `bits` bits of the product of `a`, of `wa` bits, and `b`, of `wb` bits, and gives its slices.
 ///
 /// # Errors
@@ -66,8 +77,8 @@ pub fn mul_rows(
     ensures part { OnErr result (IsFront net.new.units.items (net.old.units.items ++ (product bits a.now wa b.now wb (length net.old.units.items)).units)) }
     ensures same { HasSame net.old net.new }
 {
-    let count = product_count(u16::from(bits), u16::from(wa), u16::from(wb));
-    if net.units.len() + count as usize > MOST_UNITS {
+    let count = rows_of(bits, wa, wb);
+    if net.units.len() + count > MOST_UNITS {
         return Err(RowFault::Limit(Cap::Units));
     }
     let slices = product(alloc, &mut net.units, bits, a, wa, b, wb)?;
