@@ -1,7 +1,6 @@
 use Rattle.std.proofs.Common.{ℕ, ◌≡◌, ◌+◌, List, length, length-append, refl, ap, arith}
 use Rattle.pr_base.specs.declared.caps.Cap.{Cap}
 use Rattle.pr_net.specs.declared.cells.Cell.{Cell}
-
 use Rattle.pr_cutmul.proofs.rows.mul_rows.Goals as goal
 
 pub returns-then-len-count-gt-MOST_UNITS-clause-limit : goal.returns-then-len-count-gt-MOST_UNITS-clause-limit
