@@ -135,7 +135,7 @@ hold_among a n u l h = there 0 n a (omega arith) (omega (arith, l)) (omega (arit
     there k zero b e l h = absurd (omega (arith, l, h))
     there k (suc m) b e l h = elim (cases_Bool ((a + k) == u)) [
       | inl q ↦ ap (λ (t : Bool). t || is_among u (map (λ j. a + j) (range_with_len (k + 1) m))) q
-      | inr q ↦ (let low : b + 1 ≤ u = elim (cases_lt b u) [ | inl s ↦ omega (arith, s) | inr s ↦ absurd (let same : a + k ≡ u = omega (arith, s, l, e) in false≢true (sym q ∙ eq-eqb (a + k) u same)) ] in
+      | inr q ↦ (let low : b + 1 ≤ u = elim (cases_lt b u) [ inl s ↦ omega (arith, s) | inr s ↦ absurd (let same : a + k ≡ u = omega (arith, s, l, e) in false≢true (sym q ∙ eq-eqb (a + k) u same)) ] in
           ap (λ (t : Bool). t || is_among u (map (λ j. a + j) (range_with_len (k + 1) m))) q ∙ there (k + 1) m (b + 1) (omega (arith, e)) low (omega (arith, h)))
     ]
 
@@ -229,13 +229,15 @@ beyond (x ∷ xs) zero l = absurd (omega (arith, l))
 beyond (x ∷ xs) (suc i) l = beyond xs i (omega (arith, l))
 
 pub marks_more : (from u : ℕ) (marks : List Bool) (group : List ℕ) (b : Bool) → length marks ≡ u - from → from ≤ u → AreMarked from marks group → AreMarked from (marks ++ b ∷ []) (if b then group ++ u ∷ [] else group)
-marks_more from u marks group b long low m = record { is = λ v. elim (cases_lt v u) [
-  | inl l ↦ other v b (λ e. omega (arith, e, l)) ∙ m.is v ∙ sym (kept v l (nat_le from v) refl)
-  | inr l ↦ elim (cases_lt u v) [
-    | inl h ↦ other v b (λ e. omega (arith, e, h)) ∙ m.is v ∙ ap (λ (t : Bool). nat_le from v && t) (beyond marks (v - from) (omega (arith, long, h, low)) ∙ sym (beyond (marks ++ b ∷ []) (v - from) (omega (arith, long, h, low, length-append marks (b ∷ [])))))
-    | inr h ↦ (let same : u ≡ v = omega (arith, l, h) in subst (λ (w : ℕ). is_among w (if b then group ++ u ∷ [] else group) ≡ (nat_le from w && get_or (marks ++ b ∷ []) (w - from) false)) same (here b))
-  ]
-] }
+marks_more from u marks group b long low m = record {
+  is = λ v. elim (cases_lt v u) [
+    | inl l ↦ other v b (λ e. omega (arith, e, l)) ∙ m.is v ∙ sym (kept v l (nat_le from v) refl)
+    | inr l ↦ elim (cases_lt u v) [
+      | inl h ↦ other v b (λ e. omega (arith, e, h)) ∙ m.is v ∙ ap (λ (t : Bool). nat_le from v && t) (beyond marks (v - from) (omega (arith, long, h, low)) ∙ sym (beyond (marks ++ b ∷ []) (v - from) (omega (arith, long, h, low, length-append marks (b ∷ [])))))
+      | inr h ↦ (let same : u ≡ v = omega (arith, l, h) in subst (λ (w : ℕ). is_among w (if b then group ++ u ∷ [] else group) ≡ (nat_le from w && get_or (marks ++ b ∷ []) (w - from) false)) same (here b))
+    ]
+  ];
+}
   where
     other : (v : ℕ) (b : Bool) → (u ≡ v → ⊥) → is_among v (if b then group ++ u ∷ [] else group) ≡ is_among v group
     other v true n = among_other v u group n

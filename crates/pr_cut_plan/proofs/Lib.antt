@@ -1,4 +1,3 @@
-pub mod CountLemmas
 pub mod EquationLemmas
 pub mod ReachedLemmas
 pub mod PlanLemmas

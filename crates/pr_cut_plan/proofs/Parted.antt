@@ -76,12 +76,13 @@ parts_from equations widths outputs from i (e ∷ rest) (counts ∷ flags) flat 
         → AreParts (cut_whole (plan_of equations widths outputs)).units from (if counts && is_rec e.op then holds_of plan i ∷ holds_from plan (suc i) rest flags else holds_from plan (suc i) rest flags)
     by false q ih = subst (λ (t : Bool). AreParts (cut_whole plan).units from (if t then holds_of plan i ∷ holds_from plan (suc i) rest flags else holds_from plan (suc i) rest flags)) (sym q)
         (ih from (record { at = λ c l rc u w. b.at c (omega (arith, l)) rc u w; low = λ c l rc. b.low c (omega (arith, l)) rc }))
-    by true q ih = subst (λ (t : Bool). AreParts (cut_whole plan).units from (if t then holds_of plan i ∷ holds_from plan (suc i) rest flags else holds_from plan (suc i) rest flags)) (sym q)
-        (part_of equations widths outputs from i flat wide (here q) (λ u w. b.at i (omega arith) (here q) u w) (b.low i (omega arith) (here q)),
-        ih (end_of (holds_of plan i)) (record {
-          at = λ c l rc u w. body_after equations widths outputs i c u flat (omega (arith, l)) (here q) rc w;
-          low = λ c l rc. group_before equations widths outputs i c (omega (arith, l)) (here q) rc;
-        }))
+    by true q ih = subst (λ (t : Bool). AreParts (cut_whole plan).units from (if t then holds_of plan i ∷ holds_from plan (suc i) rest flags else holds_from plan (suc i) rest flags)) (sym q) (
+      part_of equations widths outputs from i flat wide (here q) (λ u w. b.at i (omega arith) (here q) u w) (b.low i (omega arith) (here q)),
+      ih (end_of (holds_of plan i)) (record {
+        at = λ c l rc u w. body_after equations widths outputs i c u flat (omega (arith, l)) (here q) rc w;
+        low = λ c l rc. group_before equations widths outputs i c (omega (arith, l)) (here q) rc;
+      }),
+    )
 
 pub parted : (equations : List EquationShape) (widths : List ℕ) (outputs : List Operand) → IsFlat equations outputs → AreWidths equations widths → AreParts (cut_whole (plan_of equations widths outputs)).units 0 (holds_from (plan_of equations widths outputs) 0 equations (reached equations outputs))
 parted equations widths outputs flat wide = parts_from equations widths outputs 0 0 equations (reached equations outputs) flat wide (rest_all equations)

@@ -11,6 +11,7 @@ ghost use Rattle.pr_cut_units.specs.Table.{factor_width};
 ghost use Rattle.pr_cut_units.specs.Counts.{one_where, widening_count, both_count, chain_count, less_count, equal_count, left_count, extract_count, right_count, product_count, operator_count, count_at};
 
 use pr_base::GREATEST;
+use pr_cutmul::{chain_count, product_count, slice_count};
 use pr_flat::{Form, Op};
 use pr_flat_ops::natural;
 
@@ -36,21 +37,6 @@ fn both_count(t: u16, f: Form, g: Form) -> u32
     ensures few { result ≤ 2 }
 {
     widening_count(f, t) + widening_count(g, t)
-}
-
-/// The bytes of so many bits.
-fn slice_count(bits: u16) -> u32
-    ensures { result ≡ slices_of bits }
-{
-    (u32::from(bits) + 7) / 8
-}
-
-/// The segments of a chain of so many cells.
-fn chain_count(cells: u32) -> u32
-    requires { cells ≤ 65536 }
-    ensures { result ≡ chain_count cells }
-{
-    (cells + 3) / 4
 }
 
 /// The width of an operand among signed ones.
@@ -130,32 +116,6 @@ fn right_count(e: u16, k: u16, f: Form) -> u32
     } else {
         0
     }
-}
-
-/// The units of row `j` of a product, where the first factor has `wa` bits.
-fn row_count(e: u16, wa: u16, j: u16) -> u32
-    requires wa { wa ≤ 128 }
-    requires j { j ≤ 128 }
-    ensures is { result ≡ chain_count (slices_of (row_width e wa j) - j / 8) }
-    ensures few { result ≤ 100 }
-{
-    let bits = e.min(wa + j + 1);
-    chain_count(slice_count(bits).saturating_sub(u32::from(j) / 8))
-}
-
-/// The units of a product's rows.
-#[tactic(auto, using(crate::proofs::CountLemmas::sum_each_more))]
-fn product_count(e: u16, wa: u16, wb: u16) -> u32
-    requires wa { wa ≤ 128 }
-    requires wb { wb ≤ 128 }
-    ensures is { result ≡ product_count e wa wb }
-    ensures few { result ≤ 12800 }
-{
-    let mut count = 0;
-    for j in 0..wb.min(e) {
-        count += row_count(e, wa, j);
-    }
-    count
 }
 
 /// The width of a factor as the rows see it, where one of both is signed, or none.

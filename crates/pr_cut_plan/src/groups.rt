@@ -99,9 +99,7 @@ fn ties(wire: Wire, holds: &Holds, from: u32, marks: &[bool]) -> bool
 {
     match wire {
         Wire::Of(unit, _) => {
-            from <= unit
-                && ((unit - from) as usize) < marks.len()
-                && marks[(unit - from) as usize]
+            from <= unit && ((unit - from) as usize) < marks.len() && marks[(unit - from) as usize]
         }
         Wire::State(unit, _) => holds.has(unit),
         _ => false,

@@ -11,6 +11,7 @@ ghost use Rattle.pr_cut_units.specs.Cells.{plain, byte, top, bit_of, slice_at, s
 ghost use Rattle.pr_cut_units.specs.Parts.{each};
 ghost use Rattle.pr_cut_units.specs.Products.{row_width, row_cell, product_row, product};
 ghost use Rattle.pr_cut_units.specs.Parts.{in_turn};
+ghost use Rattle.pr_cut_cells.specs.Fronts.{IsFront};
 
 use pr_base::{Carry, Mode, slices};
 use pr_cut_cells::{bit_of, byte, chain, joined, plain, top, with_left};
@@ -72,6 +73,7 @@ fn lowest(x: &[Slice], n: usize) -> &[Slice]
 }
 
 /// Row `j`: the whole bytes below bit `j` stay, and the others are a chain.
+#[tactic(auto, using(pr_cut_cells::proofs::FrontLemmas::front_of, pr_cut_cells::proofs::FrontLemmas::front_whole))]
 fn product_row(
     alloc: Global,
     units: &mut Vec<Unit>,
@@ -86,6 +88,7 @@ fn product_row(
     requires fits { length units.old.items + 40 < 2 ^ 32 }
     ensures grows { OnOk result (length units.new.items ≤ length units.old.items + 40) }
     ensures units { OnOk result (units.new.items ≡ units.old.items ++ (product_row e w a.now b.now j before.now (length units.old.items)).units) }
+    ensures part { OnErr result (IsFront units.new.items (units.old.items ++ (product_row e w a.now b.now j before.now (length units.old.items)).units)) }
     ensures slices { IfOk result (λ s. s.items ≡ (product_row e w a.now b.now j before.now (length units.old.items)).slices) }
 {
     let cells = row_cells(alloc, e, w, a, b, j, before)?;
@@ -106,6 +109,7 @@ pub fn product(
     requires fits { length units.old.items + 40 * 256 < 2 ^ 32 }
     ensures grows { OnOk result (length units.new.items ≤ length units.old.items + 40 * 256) }
     ensures units { OnOk result (units.new.items ≡ units.old.items ++ (product e a.now wa b.now wb (length units.old.items)).units) }
+    ensures part { OnErr result (IsFront units.new.items (units.old.items ++ (product e a.now wa b.now wb (length units.old.items)).units)) }
     ensures slices { IfOk result (λ s. s.items ≡ (product e a.now wa b.now wb (length units.old.items)).slices) }
 {
     let mut before = Vec::new(alloc);

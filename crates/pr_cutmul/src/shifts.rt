@@ -11,6 +11,7 @@ ghost use Rattle.pr_cut_units.specs.Cells.{plain, byte, top, bit_of, slice_at, s
 ghost use Rattle.pr_cut_units.specs.Parts.{each};
 ghost use Rattle.pr_cut_units.specs.Shifts.{shift_cell, shift_row, shifted_by};
 ghost use Rattle.pr_cut_units.specs.Parts.{in_turn};
+ghost use Rattle.pr_cut_cells.specs.Fronts.{IsFront};
 
 use pr_base::slices;
 use pr_cut_cells::{bit_of, byte, plain, push_unit, same, top, with_left, with_right};
@@ -60,6 +61,7 @@ fn shift_cells(
 }
 
 /// Row `j`: the value before, moved by two to the power of `j` where bit `j` of the amount is 1.
+#[tactic(auto, using(pr_cut_cells::proofs::FrontLemmas::front_of))]
 fn shift_row(
     alloc: Global,
     units: &mut Vec<Unit>,
@@ -72,6 +74,7 @@ fn shift_row(
     requires fits { length units.old.items < 2 ^ 32 }
     ensures grows { OnOk result (length units.new.items ≤ length units.old.items + 1) }
     ensures units { OnOk result (units.new.items ≡ units.old.items ++ (shift_row left w by.now j before.now (length units.old.items)).units) }
+    ensures part { OnErr result (IsFront units.new.items (units.old.items ++ (shift_row left w by.now j before.now (length units.old.items)).units)) }
     ensures slices { IfOk result (λ s. s.items ≡ (shift_row left w by.now j before.now (length units.old.items)).slices) }
 {
     let cells = shift_cells(alloc, left, w, by, j, before)?;
@@ -91,6 +94,7 @@ pub fn shifted_by(
     requires fits { length units.old.items + bits < 2 ^ 32 }
     ensures grows { OnOk result (length units.new.items ≤ length units.old.items + bits) }
     ensures units { OnOk result (units.new.items ≡ units.old.items ++ (shifted_by left w by.now bits x.now (length units.old.items)).units) }
+    ensures part { OnErr result (IsFront units.new.items (units.old.items ++ (shifted_by left w by.now bits x.now (length units.old.items)).units)) }
     ensures slices { IfOk result (λ s. s.items ≡ (shifted_by left w by.now bits x.now (length units.old.items)).slices) }
 {
     let mut before = same(alloc, x)?;

@@ -4,7 +4,7 @@ use Rattle.pr_base.specs.Numbers.{slices_of}
 use Rattle.pr_cut_units.specs.Parts.{each}
 use Rattle.pr_cut_units.specs.Products.{row_width}
 use Rattle.pr_cut_units.specs.Counts.{chain_count}
-use Rattle.pr_cut_plan.proofs.counts.product_count.Given as goal
+use Rattle.pr_cutmul.proofs.counts.product_count.Given as goal
 
 abbrev pub invariant-loop-j : goal.invariant-loop-j
 invariant-loop-j l = record {
