@@ -1,0 +1,7 @@
+pub mod CountLemmas
+pub mod EquationLemmas
+pub mod ReachedLemmas
+pub mod PlanLemmas
+pub mod GroupLemmas
+pub mod Parted
+pub mod HoldLemmas

@@ -1,0 +1,20 @@
+use Rattle.std.proofs.Common.{◌≡◌, ◌∙◌, ap, ◌-◌, ◌+◌, ◌++◌, List, length, arith, min}
+use Rattle.pr_net.specs.declared.cells.Slice.{Slice}
+use Rattle.pr_cut_units.specs.Products.{product_row}
+use Rattle.pr_cut_units.proofs.TurnLemmas.{turn_units, turn_slices}
+use Rattle.pr_cutmul.proofs.products.product.Goals as goal
+
+pub loop-j-preserved : goal.loop-j-preserved
+loop-j-preserved c =
+    let l = c.loop-j in
+    let e = c.in_ok-before.ensures in
+    let step = product_row c.args.e c.args.wa c.args.a.now c.args.b.now in
+    let all = min c.args.wb c.args.e in
+    let n = all - (l.j + 1) in
+    let new : c.product_row.new.units.items ≡ l.units.items ++ (step l.j l.before.items (length l.units.items)).units = e.units ∙ ap (λ (x : List Slice). l.units.items ++ (step l.j x (length l.units.items)).units) c.deref.ensures.value in
+    let now : c.in_ok-before.before.items ≡ (step l.j l.before.items (length l.units.items)).slices = e.slices ∙ ap (λ (x : List Slice). (step l.j x (length l.units.items)).slices) c.deref.ensures.value in
+    record {
+      grows = omega (arith, e.grows, l.invariant.grows);
+      units = turn_units step l.j (all - l.j) n l.before.items c.in_ok-before.before.items l.units.items c.product_row.new.units.items _ (omega (arith, c.loop-j-test.true)) new now l.invariant.units;
+      slices = turn_slices step l.j (all - l.j) n l.before.items c.in_ok-before.before.items _ l.units.items c.product_row.new.units.items (omega (arith, c.loop-j-test.true)) new now l.invariant.slices;
+    }
