@@ -3,6 +3,9 @@ ghost use Rattle.std.specs.Prelude.{◌≡◌, ◌≢◌, ◌≤◌, ◌⊎◌, 
 ghost use Rattle.pr_edge.specs.Count.{Rose};
 ghost use Rattle.pr_modes.specs.Owed.{IsOwed, outcome_faults};
 ghost use Rattle.pr_scope.specs.Walk.{IsScoped};
+ghost use Rattle.pr_flat.specs.Widths.{AreWidths};
+ghost use Rattle.pr_expand_spec.specs.Programs.{equations_of};
+ghost use Rattle.pr_compile_front.specs.Passed.{HasEquations};
 ghost use Rattle.pr_programs.specs.Evaluations.{IsRefused, IsEvaluated};
 ghost use Rattle.pr_programs.specs.Lines.{AreEvalLines};
 ghost use Rattle.pr_programs.specs.Verdicts.{IsEvalVerdict};
@@ -11,11 +14,10 @@ ghost use Rattle.pr_programs.specs.Results.{outcome_by, AreResults, IsPut};
 use crate::lines::lines_of;
 use crate::samples::read_samples;
 use pr_base::Cap;
-use pr_compile_front::load_program;
+use pr_compile_front::{Front, load_program};
 use pr_edge::{Shelf, Sink, write_all};
 use pr_modes::{Outcome, read_file};
 use pr_samples::Got;
-use pr_scope::Scoped;
 use std::alloc::{AllocError, Global};
 
 /// The bytes of a file of samples at most.
@@ -41,12 +43,14 @@ fn outcome_of(end: Got) -> Outcome
 }
 
 /// The lines of what a program means on the samples of a file.
-fn evaluate(alloc: Global, scoped: &Scoped, bytes: Vec<u8>) -> Result<Results, AllocError>
-    requires { IsScoped scoped.now.program scoped.now }
-    ensures { IfOk result (λ r. AreResults scoped.now.program bytes.items r.text.items r.end) }
+fn evaluate(alloc: Global, front: &Front, bytes: Vec<u8>) -> Result<Results, AllocError>
+    requires scoped { IsScoped front.now.scoped.program front.now.scoped }
+    requires flat { HasEquations front.now.scoped.program front.now.flat }
+    requires widths { AreWidths (equations_of front.now.scoped.program).equations front.now.widths }
+    ensures { IfOk result (λ r. AreResults front.now.scoped.program bytes.items r.text.items r.end) }
 {
-    let samples = read_samples(alloc, bytes, &scoped.inputs)?;
-    let rows = pr_source::eval(alloc, scoped, &samples.rows)?;
+    let samples = read_samples(alloc, bytes, &front.scoped.inputs)?;
+    let rows = pr_source::eval(alloc, &front.flat, &front.widths, &samples.rows)?;
     let text = lines_of(alloc, &rows)?;
     Ok(Results {
         text,
@@ -105,7 +109,7 @@ pub fn eval<S: Shelf, K: Sink>(
         Ok(bytes) => bytes,
         Err(outcome) => return outcome,
     };
-    match evaluate(alloc, &front.scoped, bytes) {
+    match evaluate(alloc, &front, bytes) {
         Ok(results) => put_results(out, &results),
         Err(_) => Outcome::Memory,
     }

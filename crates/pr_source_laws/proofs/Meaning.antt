@@ -1,12 +1,11 @@
 -- The rows of the equations of a program.
-use Rattle.std.proofs.Common.{◌≡◌, ℕ, Some, None, List, map, sym, subst}
-use Rattle.std.specs.List.{slice_get, All}
+use Rattle.std.proofs.Common.{◌≡◌, ℕ, None, List, map, sym, subst}
+use Rattle.std.specs.List.{All}
 use Rattle.std.proofs.lemmas.Option.{slice_get_within, get_or_from_slice_get}
 use Rattle.pr_base.specs.Rows.{IsRow}
 use Rattle.pr_lang.specs.declared.trees.Program.{Program}
 use Rattle.pr_lang_meaning.specs.Programs.{out}
 use Rattle.pr_scope.specs.Walk.{offence}
-use Rattle.pr_scope_facts.specs.Items.{widths_of_inputs}
 use Rattle.pr_scope_facts.proofs.Inputs.{inputs-of-equations}
 use Rattle.pr_flat.specs.declared.equations.Operand.{Operand}
 use Rattle.pr_flat.specs.declared.flat.Flat.{Flat}
