@@ -1,9 +1,9 @@
 -- Equations as they are counted: forms of operands, inputs, and widths.
-use Rattle.std.proofs.Common.{◌≡◌, ◌<◌, ◌≤◌, ℕ, zero, suc, ◌+◌, ◌*◌, ◌&&◌, Bool, true, false, cond, Option, Some, None, inl, inr, List, [], ◌∷◌, length, map, drop, get_or, unwrap_or, refl, subst, sym, ap, ◌∙◌, arith, add-one, drop-cons}
+use Rattle.std.proofs.Common.{◌≡◌, ◌<◌, ◌≤◌, ℕ, zero, suc, ◌+◌, ◌&&◌, Bool, true, false, cond, Option, Some, None, List, [], ◌∷◌, length, drop, get_or, unwrap_or, refl, sym, ap, ◌∙◌, arith, add-one, drop-cons}
 use Rattle.std.specs.Prelude.{count_by, slice_index, slice_index_or, All, not}
 use Rattle.std.specs.List.{slice_get, list_all, sum_by}
 use Rattle.std.specs.Option.{is_some}
-use Rattle.std.proofs.lemmas.Bool.{cases_Bool, and_parts, ltb-true, false≢true}
+use Rattle.std.proofs.lemmas.Bool.{and_parts, ltb-true, false≢true}
 use Rattle.std.proofs.lemmas.Option.{slice_get_within}
 use Rattle.std.proofs.lemmas.List.Sums.{sum_by-cons}
 use Rattle.pr_base.specs.Numbers.{slices_of}
@@ -12,17 +12,16 @@ use Rattle.pr_flat.specs.Shape.{EquationShape, equation_shape, shapes_of}
 use Rattle.pr_flat.specs.declared.equations.Operand.{Operand}
 use Rattle.pr_flat.specs.declared.equations.Op.{Op}
 use Rattle.pr_flat.specs.declared.forms.Form.{Form}
-use Rattle.pr_flat.specs.Forms.{IsForm, number_width}
-use Rattle.pr_flat.specs.Facts.{arity, is_input, is_rec, has_lawful_ends, is_lawful_operand, is_lawful_output, IsFlat}
+use Rattle.pr_flat.specs.Forms.{IsForm}
+use Rattle.pr_flat.specs.Facts.{arity, is_input, is_rec, has_lawful_ends, is_lawful_operand, IsFlat}
 use Rattle.pr_flat.specs.Rows.{takes, natural_width}
-use Rattle.pr_flat.specs.Widths.{operand_width, operand_forms, forms_in, settled_width, is_open, AreWidths}
+use Rattle.pr_flat.specs.Widths.{operand_width, operand_forms, forms_in, settled_width, AreWidths}
 use Rattle.pr_flat.proofs.WidthLemmas.{past_of}
 use Rattle.pr_width.specs.Reads.{is_within}
-use Rattle.pr_width.proofs.OperandLemmas.{length-operand_forms, one_form, two_forms}
+use Rattle.pr_width.proofs.OperandLemmas.{one_form}
 use Rattle.pr_width.proofs.SolverLemmas.{shape_at, lawful_at}
 use Rattle.pr_cut_units.specs.Counts.{widening_count, body_count, count_at}
 use Rattle.pr_cut_units.specs.Equations.{own_count}
-use Rattle.pr_cut_units.specs.Reached.{hold_count}
 use Rattle.pr_cut_units.proofs.GoodNets.{WideOperands}
 use Rattle.pr_cut_units.proofs.WideNets.{equation_counted}
 use Rattle.pr_cut_units.proofs.EndNets.{widths_most, output_bounds}

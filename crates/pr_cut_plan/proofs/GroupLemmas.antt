@@ -1,16 +1,16 @@
 -- Groups, one part of the units after the other.
 use Rattle.std.proofs.Common.{◌≡◌, ◌<◌, ◌≤◌, ℕ, zero, suc, ◌+◌, ◌-◌, ◌==◌, ◌&&◌, ◌||◌, Bool, true, false, cond, List, [], ◌∷◌, ◌++◌, length, take, drop, map, filter, get_or, nat_le, refl, subst, sym, ap, ◌∙◌, arith, inl, inr, add-one, drop-cons, length-append, append_assoc}
 use Rattle.std.specs.Bool.{if◌then◌else◌}
-use Rattle.std.specs.List.{list_any, flat_map, range_with_len, Contains}
+use Rattle.std.specs.List.{list_any, flat_map, range_with_len}
 use Rattle.std.proofs.lemmas.Bool.{cases_Bool, cases_lt, eqb-true, eq-eqb, leb-true, le-leb, false≢true}
 use Rattle.std.proofs.lemmas.List.{length-take, take_more, append-nil, get_or_append_left, get_or-append_right}
 use Rattle.std.proofs.lemmas.List.Folds.{list_any-append}
-use Rattle.std.proofs.lemmas.List.Elements.{Contains-append_right, Contains-push}
+use Rattle.std.proofs.lemmas.List.Elements.{Contains-push}
 use Rattle.std.proofs.lemmas.Grind.{flat_map-append}
 use Rattle.pr_net.specs.declared.cells.Cell.{Cell}
 use Rattle.pr_net.proofs.Lists.{any_here, any_found}
 use Rattle.pr_cut_units.specs.Parts.{each}
-use Rattle.pr_cut_units.specs.Groups.{Holds, is_among, is_tied, tied_from, group_of, group_number, groups_at, groups_of}
+use Rattle.pr_cut_units.specs.Groups.{Holds, is_among, is_tied, tied_from, group_of, group_number, groups_at}
 use Rattle.pr_cut_units.proofs.TiedLists.{hold_at, group_order}
 use Rattle.pr_cut_units.proofs.TiedNets.{last_number}
 use Rattle.pr_cut_plan.specs.Parts.{end_of, IsPart, AreParts, AreMarked, part_groups, parts_groups, parts_end}

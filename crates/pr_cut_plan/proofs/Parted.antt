@@ -1,28 +1,23 @@
 -- The units of equations stand in parts, one for each recurrence that has units.
-use Rattle.std.proofs.Common.{◌≡◌, ◌<◌, ◌≤◌, ℕ, zero, suc, ◌+◌, ◌&&◌, Bool, true, false, Some, List, [], ◌∷◌, length, take, get_or, refl, subst, sym, ap, ◌∙◌, arith, inl, inr}
+use Rattle.std.proofs.Common.{◌≡◌, ◌≤◌, ℕ, suc, ◌+◌, ◌&&◌, Bool, true, false, List, [], ◌∷◌, take, refl, subst, sym, ap, ◌∙◌, arith}
 use Rattle.std.specs.Prelude.{slice_index_or}
 use Rattle.std.specs.Bool.{if◌then◌else◌}
-use Rattle.std.specs.List.{slice_get, Contains}
-use Rattle.std.proofs.lemmas.Bool.{cases_lt, and_parts}
-use Rattle.std.proofs.lemmas.List.{length-take, get_or-take}
+use Rattle.std.specs.List.{Contains}
+use Rattle.std.proofs.lemmas.Bool.{and_parts}
 use Rattle.std.proofs.lemmas.List.Elements.{Contains-get_or}
 use Rattle.pr_flat.specs.declared.equations.Operand.{Operand}
 use Rattle.pr_flat.specs.Shape.{EquationShape}
 use Rattle.pr_flat.specs.Facts.{is_rec, IsFlat}
 use Rattle.pr_flat.specs.Widths.{AreWidths}
-use Rattle.pr_net.specs.declared.cells.Cell.{Cell}
-use Rattle.pr_net.specs.Shape.{cells_of}
-use Rattle.pr_net.proofs.Lists.{in_none}
-use Rattle.pr_cut_units.specs.Reached.{reached, hold_count}
-use Rattle.pr_cut_units.specs.Groups.{Holds, tied_from}
+use Rattle.pr_cut_units.specs.Reached.{reached}
+use Rattle.pr_cut_units.specs.Groups.{tied_from}
 use Rattle.pr_cut_units.specs.Equations.{Plan, plan_of, hold_unit, cut_whole}
-use Rattle.pr_cut_units.specs.Nets.{holds_from, net_of}
+use Rattle.pr_cut_units.specs.Nets.{holds_from}
 use Rattle.pr_cut_units.proofs.WideNets.{are_counted, Rest, rest_more, rest_first, rest_all}
 use Rattle.pr_cut_units.proofs.CountNets.{count_whole}
 use Rattle.pr_cut_units.proofs.TiedNets.{holds_end}
 use Rattle.pr_cut_units.proofs.NetGrouped.{holds_of, IsRec, rec_parts}
 use Rattle.pr_cut_units.proofs.NetApart.{group_before}
-use Rattle.pr_cut_units.proofs.DependNets.{tied_within}
 use Rattle.pr_cut_units.proofs.BodyNets.{InBody, in_body, body_after}
 use Rattle.pr_cut_units.proofs.StartNets.{starts_in}
 use Rattle.pr_cut_plan.specs.Parts.{end_of, IsPart, AreParts}

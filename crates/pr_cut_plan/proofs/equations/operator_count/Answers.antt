@@ -1,8 +1,7 @@
-use Rattle.std.proofs.Common.{ℕ, ◌≡◌, ◌<◌, true, List, [], ◌∷◌, length, subst, sym, ap, ◌∙◌, arith}
+use Rattle.std.proofs.Common.{◌≡◌, true, List, length, subst, sym, ap, ◌∙◌, arith}
 use Rattle.std.specs.Prelude.{All}
 use Rattle.pr_flat.specs.declared.forms.Form.{Form}
 use Rattle.pr_flat.specs.Forms.{IsForm}
-use Rattle.pr_flat.specs.Facts.{arity}
 use Rattle.pr_flat.specs.Rows.{takes}
 use Rattle.pr_flat.specs.Shape.{equation_shape}
 use Rattle.pr_flat.specs.Widths.{forms_in}

@@ -1,9 +1,8 @@
-use Rattle.std.proofs.Common.{ℕ, ◌≡◌, ◌<◌, ◌≤◌, true, false, length, subst, sym, ap, ap₂, refl, ◌+◌, ◌∙◌, arith}
+use Rattle.std.proofs.Common.{ℕ, ◌≡◌, true, false, sym, ap, ap₂, refl, ◌+◌, ◌∙◌, arith}
 use Rattle.pr_flat.specs.declared.equations.Op.{Op}
 use Rattle.pr_flat.specs.Facts.{is_rec}
 use Rattle.pr_flat.specs.Shape.{equation_shape, shapes_of}
-use Rattle.pr_cut_units.specs.Counts.{count_at}
-use Rattle.pr_cut_plan.proofs.EquationLemmas.{IsReadAt, read_at, own_at, is_plain, plain_count, plain_op}
+use Rattle.pr_cut_plan.proofs.EquationLemmas.{read_at, own_at, is_plain, plain_count, plain_op}
 use Rattle.pr_cut_plan.proofs.equations.own_count.Goals as goal
 
 pub body_count-requires-clause-args : goal.body_count-requires-clause-args

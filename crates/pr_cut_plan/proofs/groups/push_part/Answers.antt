@@ -1,4 +1,4 @@
-use Rattle.std.proofs.Common.{ℕ, ◌≡◌, ◌+◌, ◌++◌, List, ap, ◌∙◌, arith}
+use Rattle.std.proofs.Common.{ℕ, ◌+◌, ◌++◌, List, ap, ◌∙◌}
 use Rattle.pr_cut_units.specs.Parts.{each}
 use Rattle.pr_cut_plan.proofs.GroupLemmas.{part_whole}
 use Rattle.pr_cut_plan.proofs.groups.push_part.Goals as goal

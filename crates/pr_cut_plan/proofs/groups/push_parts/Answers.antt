@@ -1,4 +1,4 @@
-use Rattle.std.proofs.Common.{ℕ, ◌≡◌, ◌<◌, ◌+◌, ◌++◌, List, length, drop, get_or, ap, sym, subst, ◌∙◌, arith}
+use Rattle.std.proofs.Common.{ℕ, ◌≡◌, ◌<◌, ◌+◌, ◌++◌, length, drop, get_or, ap, sym, subst, ◌∙◌, arith}
 use Rattle.pr_cut_units.specs.Groups.{Holds}
 use Rattle.pr_cut_plan.specs.Parts.{end_of, AreParts, part_groups, parts_groups, parts_end}
 use Rattle.pr_cut_plan.proofs.GroupLemmas.{parts_next, parts_step, end_next}

@@ -1,4 +1,4 @@
-use Rattle.std.proofs.Common.{ℕ, ◌≡◌, ◌+◌, ◌++◌, List, [], ◌∷◌, ap, sym, ◌∙◌, arith, append_assoc}
+use Rattle.std.proofs.Common.{ℕ, ◌+◌, ◌++◌, List, [], ◌∷◌, ap, sym, ◌∙◌, append_assoc}
 use Rattle.pr_cut_units.specs.Parts.{each}
 use Rattle.pr_cut_units.proofs.EachLemmas.{each_more}
 use Rattle.pr_cut_plan.proofs.groups.with_holds.Goals as goal

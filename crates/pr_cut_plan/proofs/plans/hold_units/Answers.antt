@@ -1,4 +1,4 @@
-use Rattle.std.proofs.Common.{ℕ, ◌≡◌, ◌<◌, ◌≤◌, ◌∙◌, ◌+◌, List, length, length-append, get_or, ap, refl, sym, arith}
+use Rattle.std.proofs.Common.{ℕ, ◌≡◌, ◌∙◌, ◌+◌, List, length, length-append, get_or, ap, refl, arith}
 use Rattle.pr_base.specs.declared.caps.Cap.{Cap}
 use Rattle.pr_flat.specs.Shape.{equation_shape, shapes_of}
 use Rattle.pr_cut_units.specs.Equations.{plan_of, hold_unit}

@@ -1,7 +1,7 @@
-use Rattle.std.proofs.Common.{ℕ, ◌≡◌, ◌<◌, ◌≤◌, ◌∙◌, ◌+◌, Bool, Some, List, length, ap, refl, sym, arith}
+use Rattle.std.proofs.Common.{ℕ, ◌≡◌, ◌∙◌, Bool, Some, List, length, ap, sym, arith}
 use Rattle.std.proofs.lemmas.Result.{err_from_is_err_and}
 use Rattle.pr_base.specs.declared.caps.Cap.{Cap}
-use Rattle.pr_flat.specs.Shape.{EquationShape, shapes_of}
+use Rattle.pr_flat.specs.Shape.{shapes_of}
 use Rattle.pr_cut_units.specs.Equations.{plan_of, hold_unit}
 use Rattle.pr_cut_units.proofs.CountNets.{length-reached}
 use Rattle.pr_cut_plan.specs.Plans.{all_units}

@@ -1,4 +1,4 @@
-use Rattle.std.proofs.Common.{◌≡◌, ◌<◌, ◌∙◌, length, arith}
+use Rattle.std.proofs.Common.{arith}
 use Rattle.pr_flat.specs.Shape.{shapes_of}
 use Rattle.pr_flat.proofs.WidthLemmas.{equation_at}
 use Rattle.pr_cut_plan.proofs.ReachedLemmas.{shapes_few}

@@ -1,4 +1,4 @@
-use Rattle.std.proofs.Common.{◌≡◌, ◌<◌, ℕ, ◌+◌, ◌||◌, Bool, false, length, drop, get_or}
+use Rattle.std.proofs.Common.{◌≡◌, ◌<◌, ℕ, ◌+◌, ◌||◌, false, length, drop, get_or}
 use Rattle.std.specs.List.{list_any}
 use Rattle.pr_flat.specs.Facts.{reads_equation}
 use Rattle.pr_cut_plan.proofs.reached.mark.Given as goal

@@ -1,4 +1,4 @@
-use Rattle.std.proofs.Common.{◌≡◌, ◌<◌, ℕ, ◌+◌, ◌-◌, Bool, false, length, get_or}
+use Rattle.std.proofs.Common.{◌≡◌, ◌<◌, ℕ, ◌+◌, ◌-◌, false, length, get_or}
 use Rattle.pr_flat.specs.Shape.{shapes_of}
 use Rattle.pr_cut_plan.proofs.ReachedLemmas.{marked_from}
 use Rattle.pr_cut_plan.proofs.reached.mark_reached.Given as goal

@@ -1,4 +1,4 @@
-use Rattle.std.proofs.Common.{◌≡◌, ℕ, max, map, drop}
+use Rattle.std.proofs.Common.{◌≡◌, max, map, drop}
 use Rattle.std.specs.Prelude.{fold}
 use Rattle.pr_cut_units.specs.Reached.{past_read, greatest}
 use Rattle.pr_cut_plan.proofs.reached.most_read.Given as goal

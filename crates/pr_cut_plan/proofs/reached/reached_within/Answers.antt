@@ -1,4 +1,4 @@
-use Rattle.std.proofs.Common.{◌≡◌, ◌<◌, ℕ, ◌+◌, ◌-◌, Bool, false, length, arith, refl, ◌∙◌}
+use Rattle.std.proofs.Common.{arith, ◌∙◌}
 use Rattle.pr_cut_plan.proofs.ReachedLemmas.{kept_marks}
 use Rattle.pr_cut_plan.proofs.reached.reached_within.Goals as goal
 
