@@ -1,6 +1,7 @@
 -- From the answers of the passes to those of the whole.
-use Rattle.std.proofs.Common.{◌≡◌, ℕ, None, List, Result, Err, sym, ap, ap₂, ◌∙◌, subst, inl, inr}
+use Rattle.std.proofs.Common.{◌≡◌, ℕ, Some, None, List, Result, Err, refl, sym, ap₂, subst, inl, inr}
 use Rattle.std.specs.Result.{IfErr}
+use Rattle.pr_base.specs.declared.caps.Cap.{Cap}
 use Rattle.pr_lang.specs.declared.trees.Program.{Program}
 use Rattle.pr_flat.specs.declared.equations.Operand.{Operand}
 use Rattle.pr_flat.specs.declared.flat.Flat.{Flat}
@@ -12,6 +13,8 @@ use Rattle.pr_net.specs.Shape.{NetShape}
 use Rattle.pr_net.specs.Nets.{IsNet}
 use Rattle.pr_cut_units.specs.Nets.{net_of, limit_passed}
 use Rattle.pr_cut_units.proofs.StartNets.{are_lawful}
+use Rattle.pr_cut_plan.specs.declared.faults.CutFault.{CutFault}
+use Rattle.pr_cut_plan.specs.declared.faults.CutFault.TheVariants as cut
 use Rattle.pr_conf.specs.Shape.{Shape}
 use Rattle.pr_compile_front.specs.declared.faults.FrontFault.{FrontFault}
 use Rattle.pr_compile_front.specs.declared.faults.FrontFault.TheVariants as front
@@ -20,13 +23,22 @@ use Rattle.pr_compile_front.specs.Passed.{HasEquations}
 use Rattle.pr_compile.specs.declared.faults.CompileFault.{CompileFault}
 use Rattle.pr_compile.specs.declared.faults.CompileFault.TheVariants.{Syntax, Scope, NoWidth, NoFit, Limit, Memory}
 use Rattle.pr_compile.specs.Configured.{net_by, IsConfigured, IsConfiguredBy}
-use Rattle.pr_compile.specs.Faults.{front_fault}
+use Rattle.pr_compile.specs.Faults.{front_fault, cut_fault}
 use Rattle.pr_compile.specs.Refusals.{IsNetAnswer, IsCompileAnswer}
 
 -- the net of equations is one that can be placed
 pub cut_lawful : (N : ℕ) (equations : List EquationShape) (widths : List ℕ) (outputs : List Operand) (net : NetShape) → IsFlat equations outputs → AreWidths equations widths
     → net ≡ net_of equations widths outputs → limit_passed N (net_of equations widths outputs) ≡ None → IsNet N net
 cut_lawful N equations widths outputs net flat are is within = subst (IsNet N) (sym is) (are_lawful N equations widths outputs flat are within)
+
+-- a limit that the net passes
+pub cut_answer : (N P : ℕ) (net : NetShape) (e : CutFault) → ((cap : Cap) → e ≡ cut.Limit cap → limit_passed N net ≡ Some cap) → IsNetAnswer N P net (cut_fault e)
+cut_answer N P net (cut.Limit cap) is = is cap refl
+cut_answer N P net (cut.Memory e) is = tt
+
+-- the fault with which a step ends the configuration of a net
+pub at_net_exit : {T : Type 0} (N P : ℕ) (net : NetShape) (r : Result T CompileFault) (e : CompileFault) → (y : CompileFault) × (r ≡ Err y) × (y ≡ e) → IsNetAnswer N P net e → IfErr r (λ x. IsNetAnswer N P net x)
+at_net_exit N P net r e p is = rw (p.1, p.2) is
 
 -- ---- the equations of a program
 pub flat_widths : (program : Program) (flat : Flat) (widths : List ℕ) → HasEquations program flat → AreWidths (equations_of program).equations widths → AreWidths (shapes_of flat.equations.items) widths

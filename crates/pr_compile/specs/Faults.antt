@@ -1,8 +1,8 @@
 -- The faults of the passes, as faults of the whole.
 use Rattle.pr_compile_front.specs.declared.faults.FrontFault.{FrontFault}
 use Rattle.pr_compile_front.specs.declared.faults.FrontFault.TheVariants as front
-use Rattle.pr_cut.specs.declared.faults.CutFault.{CutFault}
-use Rattle.pr_cut.specs.declared.faults.CutFault.TheVariants as cut
+use Rattle.pr_cut_plan.specs.declared.faults.CutFault.{CutFault}
+use Rattle.pr_cut_plan.specs.declared.faults.CutFault.TheVariants as cut
 use Rattle.pr_place.specs.declared.faults.PlaceFault.{PlaceFault}
 use Rattle.pr_place.specs.declared.faults.PlaceFault.TheVariants as place
 use Rattle.pr_compile.specs.declared.faults.CompileFault.{CompileFault}

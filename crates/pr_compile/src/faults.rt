@@ -6,7 +6,7 @@ ghost use Rattle.pr_compile.specs.declared.faults.CompileFault.TheVariants.{Memo
 
 use pr_base::Cap;
 use pr_compile_front::FrontFault;
-use pr_cut::CutFault;
+use pr_cut_plan::CutFault;
 use pr_place::PlaceFault;
 use std::alloc::AllocError;
 use thiserror::Error;
