@@ -1,5 +1,5 @@
 -- Products and shifts on slices of earlier units.
-use Rattle.std.proofs.Common.{◌≡◌, ◌%◌, ◌^◌, ℕ, Bool, true, false, List, [], ◌∷◌, refl, ap, ◌∙◌}
+use Rattle.std.proofs.Common.{◌≡◌, ℕ, Bool, true, false, List, [], ◌∷◌, refl}
 use Rattle.pr_net.specs.declared.cells.Slice.{Slice}
 use Rattle.pr_cut_units.proofs.Operands.{AreOperands}
 use Rattle.pr_cut_laws.specs.Laws.{AreEarlier, shifted}

@@ -1,4 +1,4 @@
-use Rattle.std.proofs.Common.{ℕ, ◌≡◌, ◌≤◌, ◌+◌, ◌-◌, ◌*◌, ◌/◌}
+use Rattle.std.proofs.Common.{ℕ, ◌≡◌, ◌≤◌, ◌-◌, ◌*◌, ◌/◌}
 use Rattle.std.specs.List.{sum}
 use Rattle.pr_base.specs.Numbers.{slices_of}
 use Rattle.pr_cut_units.specs.Parts.{each}

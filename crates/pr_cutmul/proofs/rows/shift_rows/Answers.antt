@@ -1,4 +1,4 @@
-use Rattle.std.proofs.Common.{ℕ, ◌≡◌, ◌+◌, List, length, length-append, refl, ap, arith}
+use Rattle.std.proofs.Common.{◌≡◌, List, length, length-append, refl, ap, arith}
 use Rattle.pr_base.specs.declared.caps.Cap.{Cap}
 use Rattle.pr_net.specs.declared.cells.Cell.{Cell}
 use Rattle.pr_cut_units.proofs.CountTable.{takes_shifted}
