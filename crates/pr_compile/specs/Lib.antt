@@ -1,0 +1,4 @@
+pub mod Configured
+pub mod Refusals
+pub mod Faults
+pub mod Meant

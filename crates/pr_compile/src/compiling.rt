@@ -1,0 +1,84 @@
+//! The steps from a text to its configuration.
+
+ghost use Rattle.std.specs.Prelude.{◌≡◌, ◌≤◌, length, IfOk, IfErr};
+ghost use Rattle.pr_flat.specs.Shape.{shapes_of};
+ghost use Rattle.pr_flat.specs.Widths.{AreWidths};
+ghost use Rattle.pr_expand_spec.specs.Programs.{equations_of};
+ghost use Rattle.pr_cut_units.specs.Nets.{net_of};
+ghost use Rattle.pr_conf.specs.Configuration.{shape_of};
+ghost use Rattle.pr_compile_front.specs.Passed.{HasEquations};
+ghost use Rattle.pr_compile.specs.Configured.{net_by, IsConfigured, IsConfiguredBy, IsCompiled};
+ghost use Rattle.pr_compile.specs.Refusals.{IsNetAnswer, IsCompileAnswer};
+
+use crate::faults::CompileFault;
+use pr_compile_front::{Front, read_program};
+use pr_conf::Configuration;
+use pr_flat::Flat;
+use pr_width::Widths;
+use std::alloc::{AllocError, Global};
+
+/// A configuration, and how many units it was made of.
+#[derive(Drop)]
+pub struct Compiled<const N: usize, const P: usize> {
+    /// The configuration.
+    pub conf: Configuration<N, P>,
+    /// The units of its net.
+    pub units: usize,
+}
+
+/// The configuration of equations; else the first limit that their net passes on N columns, or the last unit of the group
+/// that fits in no stripe of N columns and P registers.
+pub fn configure<const N: usize, const P: usize>(
+    alloc: Global,
+    flat: &Flat,
+    widths: &Widths,
+) -> Result<Compiled<N, P>, CompileFault>
+    requires widths { AreWidths (shapes_of flat.now.equations.items) widths.now }
+    requires columns { 1 ≤ N }
+    requires most_columns { N ≤ 64 }
+    requires registers { 2 ≤ P }
+    requires most_registers { P ≤ 16 }
+    ensures configured { IfOk result (λ c. IsConfigured N P (shapes_of flat.now.equations.items) widths.now flat.now.outputs.items (shape_of c.conf)) }
+    ensures units { IfOk result (λ c. c.units ≡ length (net_of (shapes_of flat.now.equations.items) widths.now flat.now.outputs.items).units) }
+    ensures refused { IfErr result (IsNetAnswer N P (net_of (shapes_of flat.now.equations.items) widths.now flat.now.outputs.items)) }
+{
+    Err(CompileFault::Memory(AllocError))
+}
+
+/// The configuration of a program that is refused at no point up to the widths of its equations; else why it has none.
+pub fn compile_front<const N: usize, const P: usize>(
+    alloc: Global,
+    front: &Front,
+) -> Result<Compiled<N, P>, CompileFault>
+    requires equations { HasEquations front.now.scoped.program front.now.flat }
+    requires widths { AreWidths (equations_of front.now.scoped.program).equations front.now.widths }
+    requires columns { 1 ≤ N }
+    requires most_columns { N ≤ 64 }
+    requires registers { 2 ≤ P }
+    requires most_registers { P ≤ 16 }
+    ensures configured { IfOk result (λ c. IsConfiguredBy N P front.now.scoped.program front.now.widths (shape_of c.conf)) }
+    ensures units { IfOk result (λ c. c.units ≡ length (net_by front.now.scoped.program front.now.widths).units) }
+    ensures refused { IfErr result (IsNetAnswer N P (net_by front.now.scoped.program front.now.widths)) }
+{
+    configure(alloc, &front.flat, &front.widths)
+}
+
+/// The configuration of the program of a text, on N columns and P registers; else the first point that refuses the text: a
+/// token that is nested too deep or breaks the grammar, a broken rule of scope or too many turns, too many equations, an
+/// equation without a width, too many bytes of input, outputs or units, or a group that fits in no stripe.
+pub fn compile<const N: usize, const P: usize>(
+    alloc: Global,
+    text: &[u8],
+) -> Result<Configuration<N, P>, CompileFault>
+    requires short { length text.now ≤ 1048576 }
+    requires columns { 1 ≤ N }
+    requires most_columns { N ≤ 64 }
+    requires registers { 2 ≤ P }
+    requires most_registers { P ≤ 16 }
+    ensures compiled { IfOk result (λ c. IsCompiled N P text.now (shape_of c)) }
+    ensures refused { IfErr result (IsCompileAnswer N P text.now) }
+{
+    let front = read_program(alloc, text)?;
+    let compiled = compile_front::<N, P>(alloc, &front)?;
+    Ok(compiled.conf)
+}
