@@ -1,5 +1,5 @@
 pub mod Round
-pub mod Laws
+pub mod TimeLaws
 pub mod Residence
 pub mod ResidentLaws
 pub mod TurnLaws

@@ -5,7 +5,7 @@ use Rattle.std.proofs.Math.Nat.{mod-eq_of_lt, mod-le}
 use Rattle.std.proofs.lemmas.Nat.{mod_below}
 use Rattle.pr_control.specs.Time.{before, back, event, occupant, spares, turn, IsActive, IsResident}
 use Rattle.pr_control.proofs.Round.{back_cases, back_below, back-back, back-before, back-last, back_other, age}
-use Rattle.pr_control.proofs.Laws.{event_ring, occupant_zero, occupant_hit, occupant_other, ring_live, ring_blank, event_line, event_over, line_live, line_blank}
+use Rattle.pr_control.proofs.TimeLaws.{event_ring, occupant_zero, occupant_hit, occupant_other, ring_live, ring_blank, event_line, event_over, line_live, line_blank}
 
 pub back_self : (n q : ℕ) → q < n → back n q q ≡ n - 1
 back_self n q h = let e = back_cases n q q h h in omega arith

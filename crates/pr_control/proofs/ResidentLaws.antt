@@ -5,7 +5,7 @@ use Rattle.std.proofs.lemmas.Nat.{mod_below}
 use Rattle.std.proofs.Math.Nat.{add-mod_right}
 use Rattle.pr_control.specs.Time.{back, before, event, occupant, spares, turn}
 use Rattle.pr_control.specs.Residents.{IsLast, Resides, Computes, Active}
-use Rattle.pr_control.proofs.Laws.{event_ring, event_line, event_over, occupant_zero, occupant_hit, occupant_other, occupant_still, line_live}
+use Rattle.pr_control.proofs.TimeLaws.{event_ring, event_line, event_over, occupant_zero, occupant_hit, occupant_other, occupant_still, line_live}
 use Rattle.pr_control.proofs.Round.{mod_ahead, back_here, back_other}
 use Rattle.pr_control.proofs.Residence.{back_self, spares_ring, spares_line, ne_ring, some_same_pair, in_range, feeder, alone, active, turns}
 

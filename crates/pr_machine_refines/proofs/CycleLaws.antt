@@ -3,7 +3,7 @@ use Rattle.std.proofs.Common.{◌≡◌, ℕ, zero, suc, ◌+◌, ◌-◌, ◌<�
 use Rattle.std.proofs.lemmas.Bool.{cases_eq, false_from_ne_true, cond-true, cond-false, eq-eqb, ne_eqb}
 use Rattle.pr_control.specs.Time.{event, occupant, spares, before, turn}
 use Rattle.pr_control.proofs.Round.{before_below}
-use Rattle.pr_control.proofs.Laws.{occupant_hit, occupant_other, occupant_still}
+use Rattle.pr_control.proofs.TimeLaws.{occupant_hit, occupant_other, occupant_still}
 use Rattle.pr_control.proofs.Residence.{in_range, feeder, absent, active}
 use Rattle.pr_conf_pipeline.specs.Rows.{Step}
 use Rattle.pr_machine_account.specs.Account.{enters, IsEntries}

@@ -4,7 +4,7 @@ use Rattle.std.proofs.lemmas.Bool.{cond-true, cond-false, lt-ltb, le-ltb}
 use Rattle.std.proofs.lemmas.List.{drop-append-le, drop-drop, take-map}
 use Rattle.std.proofs.Math.Nat.{zero-sub}
 use Rattle.pr_control.specs.Time.{occupant}
-use Rattle.pr_control.proofs.Laws.{occupant_zero}
+use Rattle.pr_control.proofs.TimeLaws.{occupant_zero}
 use Rattle.pr_conf_pipeline.specs.Rows.{Step, rows, through}
 use Rattle.pr_conf_pipeline.proofs.RowLaws.{rows_more}
 use Rattle.pr_machine_account.specs.Account.{Account, Offer, Take, left, after, start, IsLawful, IsEntries}

@@ -6,7 +6,7 @@ use Rattle.std.proofs.lemmas.Nat.{mod_below}
 use Rattle.std.proofs.lemmas.List.{take_more, drop-append-le, length-take-le, length-map}
 use Rattle.std.proofs.lemmas.Option.{slice_get-map, get_or_from_slice_get, slice_get_within}
 use Rattle.pr_control.specs.Time.{event, occupant, spares, before, IsActive, IsRing}
-use Rattle.pr_control.proofs.Laws.{event_ring, event_line, event_over, line_blank}
+use Rattle.pr_control.proofs.TimeLaws.{event_ring, event_line, event_over, line_blank}
 use Rattle.pr_control.proofs.Round.{before_below}
 use Rattle.pr_control.proofs.Residence.{in_range, feeder, line_of, ne_ring, evicted, evicted_none, evicted_line}
 use Rattle.pr_conf_pipeline.specs.Rows.{Step, rows, through, state_after}

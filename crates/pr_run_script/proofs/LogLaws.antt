@@ -3,7 +3,7 @@ use Rattle.std.proofs.Common.{◌≡◌, ℕ, ◌+◌, ◌-◌, ◌<◌, ◌%◌
 use Rattle.std.proofs.lemmas.Bool.{cases_lt, cases_eq, cases_Bool, lt-ltb, le-ltb, false≢true}
 use Rattle.pr_control.specs.Time.{event, occupant, spares, turn}
 use Rattle.pr_control.specs.Residents.{Resides}
-use Rattle.pr_control.proofs.Laws.{event_ring, event_line, event_over, occupant_hit, occupant_other}
+use Rattle.pr_control.proofs.TimeLaws.{event_ring, event_line, event_over, occupant_hit, occupant_other}
 use Rattle.pr_control.proofs.Residence.{evicted, evicted_none, evicted_line, alone, absent, active, some_same}
 use Rattle.pr_control.proofs.ResidentLaws.{resides_occupant, resides_inside, occupant_resides}
 use Rattle.pr_machine_account.specs.Account.{Account, below, enters, done, entered, IsLawful}

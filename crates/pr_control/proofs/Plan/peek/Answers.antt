@@ -1,5 +1,5 @@
 use Rattle.std.proofs.Common.{arith}
-use Rattle.pr_control.proofs.Laws.{peek_line}
+use Rattle.pr_control.proofs.TimeLaws.{peek_line}
 use Rattle.pr_control.proofs.Plan.peek.Goals as goal
 
 pub returns-then-self-from : goal.returns-then-self-from
