@@ -176,9 +176,9 @@ pub eval_write : (first second : List ℕ) (k : Call) (a : Answer) → IsEvaluat
 eval_write first second k a (inl none) is = absurd (kind_never _ a Answer.WriteFault (program_kind k.before.told first k.before.faults k.now.faults a none.cause) is refl (λ e. cc) (λ e. cc))
 eval_write first second k a (inr has) is = (subst (λ (o : Answer). IsEnd second has.program k o) is has.end).1
 
-pub eval_built : (first second : List ℕ) (k : Call) (a : Answer) → IsEvaluated first second k a → a ≡ Answer.NotYet → ⊥
-eval_built first second k a (inl none) is = kind_never _ a Answer.NotYet (program_kind k.before.told first k.before.faults k.now.faults a none.cause) is refl (λ e. cc) (λ e. cc)
-eval_built first second k a (inr has) is = subst (λ (o : Answer). IsEnd second has.program k o) is has.end
+pub eval_usage : (first second : List ℕ) (k : Call) (a : Answer) → IsEvaluated first second k a → a ≡ Answer.Usage → ⊥
+eval_usage first second k a (inl none) is = kind_never _ a Answer.Usage (program_kind k.before.told first k.before.faults k.now.faults a none.cause) is refl (λ e. cc) (λ e. cc)
+eval_usage first second k a (inr has) is = subst (λ (o : Answer). IsEnd second has.program k o) is has.end
 
 pub unbuilt_fault : (told : Told) (name : List ℕ) (sb sn : ℕ) (a : Answer) → IsUnbuilt told name sb sn a → a ≡ Answer.ReadFault → told ≡ None → Rose sb sn
 unbuilt_fault told name sb sn a (inl refused) is untold = untold_rose told name sb sn (kind_fault _ a (program_kind told name sb sn a refused) is) untold
@@ -187,3 +187,7 @@ unbuilt_fault told name sb sn a (inr passed) is untold = absurd (let no : Answer
 pub unbuilt_write : (told : Told) (name : List ℕ) (sb sn : ℕ) (a : Answer) → IsUnbuilt told name sb sn a → a ≡ Answer.WriteFault → ⊥
 unbuilt_write told name sb sn a (inl refused) is = kind_never _ a Answer.WriteFault (program_kind told name sb sn a refused) is refl (λ e. cc) (λ e. cc)
 unbuilt_write told name sb sn a (inr passed) is = (let no : Answer.WriteFault ≡ Answer.NotYet = sym is ∙ passed.0 in cc)
+
+pub unbuilt_usage : (told : Told) (name : List ℕ) (sb sn : ℕ) (a : Answer) → IsUnbuilt told name sb sn a → a ≡ Answer.Usage → ⊥
+unbuilt_usage told name sb sn a (inl refused) is = kind_never _ a Answer.Usage (program_kind told name sb sn a refused) is refl (λ e. cc) (λ e. cc)
+unbuilt_usage told name sb sn a (inr passed) is = (let no : Answer.Usage ≡ Answer.NotYet = sym is ∙ passed.0 in cc)

@@ -220,9 +220,9 @@ run_write j k was (Bench.Base machine) a (inr has) is = has.write_fault is
 run_write j k was (Bench.Wide machine) a (inr has) is = has.write_fault is
 run_write j k was Bench.Nothing a (inr has) is = absurd has
 
--- a run is built
-pub run_built : (j : Job) (k : Call) (was bench : Bench) (a : Answer) → HasCome j k was bench a → a ≡ Answer.NotYet → ⊥
-run_built j k was bench a (inl none) is = kind_never _ a Answer.NotYet (refusal_is j k a none.cause) is refl (λ e. cc) (λ e. cc)
-run_built j k was (Bench.Base machine) a (inr has) is = ran_not j k machine a Answer.NotYet (λ r rows h e. e) has is
-run_built j k was (Bench.Wide machine) a (inr has) is = ran_not j k machine a Answer.NotYet (λ r rows h e. e) has is
-run_built j k was Bench.Nothing a (inr has) is = has
+-- no run is a faulty command line
+pub run_usage : (j : Job) (k : Call) (was bench : Bench) (a : Answer) → HasCome j k was bench a → a ≡ Answer.Usage → ⊥
+run_usage j k was bench a (inl none) is = kind_never _ a Answer.Usage (refusal_is j k a none.cause) is refl (λ e. cc) (λ e. cc)
+run_usage j k was (Bench.Base machine) a (inr has) is = ran_not j k machine a Answer.Usage (λ r rows h e. e) has is
+run_usage j k was (Bench.Wide machine) a (inr has) is = ran_not j k machine a Answer.Usage (λ r rows h e. e) has is
+run_usage j k was Bench.Nothing a (inr has) is = has

@@ -1,16 +1,17 @@
 -- What comes of a text of a configuration, and the verdict on it.
-use Rattle.std.proofs.Common.{◌≡◌, ◌⊎◌, ℕ, List, Option, Some, None, refl, sym, ap, ◌∙◌, subst, inl, inr}
+use Rattle.std.proofs.Common.{◌≡◌, ◌⊎◌, ℕ, true, List, Option, Some, None, refl, sym, ap, ◌∙◌, subst, inl, inr, true≢false}
 use Rattle.pr_edge.specs.Count.{Rose}
 use Rattle.pr_edge.specs.Files.{Told}
 use Rattle.pr_edge.specs.Tape.{Tape}
+use Rattle.pr_conf.specs.Shape.{Shape}
 use Rattle.pr_tool_answers.specs.declared.answers.Answer.{Answer}
 use Rattle.pr_tool_answers.specs.Owed.{IsOwed}
 use Rattle.pr_tool_answers.proofs.OwedLemmas.{owed_by}
 use Rattle.pr_tool_modes.specs.declared.texts.Form.{Form}
 use Rattle.pr_tool_modes.specs.Calls.{Call}
 use Rattle.pr_tool_modes.specs.Sources.{Source, Gives, IsGood, IsSourceRefusal, IsRefusedSource}
-use Rattle.pr_tool_modes.specs.Texts.{text_in, IsPut, HasText, IsTexted, IsTextVerdict}
-use Rattle.pr_tool_modes.proofs.ReasonLemmas.{kind_never, kind_fault}
+use Rattle.pr_tool_modes.specs.Texts.{text_in, IsPut, HasText, IsTexted, AreTextBytes, IsTextVerdict}
+use Rattle.pr_tool_modes.proofs.ReasonLemmas.{refuses, IsKind, kind_never, kind_fault}
 use Rattle.pr_tool_modes.proofs.SourceLemmas.{source_owed, source_kind, one_source, never_source}
 use Rattle.pr_tool_modes.proofs.RunVerdicts.{untold_rose}
 
@@ -52,6 +53,29 @@ pub text_write : (form : Form) (source : Source) (k : Call) (a : Answer) → IsT
 text_write form source k a (inl none) is = absurd (kind_never _ a Answer.WriteFault (source_kind k.before.told source k.before.faults k.now.faults a none.cause) is refl (λ e. cc) (λ e. cc))
 text_write form source k a (inr has) is = (subst (λ (o : Answer). IsPut (text_in form has.N has.P has.conf) k.old k.new k.out_before k.out_now o) is has.put).1
 
-pub text_built : (form : Form) (source : Source) (k : Call) (a : Answer) → IsTexted form source k a → a ≡ Answer.NotYet → ⊥
-text_built form source k a (inl none) is = kind_never _ a Answer.NotYet (source_kind k.before.told source k.before.faults k.now.faults a none.cause) is refl (λ e. cc) (λ e. cc)
-text_built form source k a (inr has) is = subst (λ (o : Answer). IsPut (text_in form has.N has.P has.conf) k.old k.new k.out_before k.out_now o) is has.put
+pub text_usage : (form : Form) (source : Source) (k : Call) (a : Answer) → IsTexted form source k a → a ≡ Answer.Usage → ⊥
+text_usage form source k a (inl none) is = kind_never _ a Answer.Usage (source_kind k.before.told source k.before.faults k.now.faults a none.cause) is refl (λ e. cc) (λ e. cc)
+text_usage form source k a (inr has) is = subst (λ (o : Answer). IsPut (text_in form has.N has.P has.conf) k.old k.new k.out_before k.out_now o) is has.put
+
+-- ---- what is written
+-- nothing, where there is no configuration
+refused_bytes : (files : List ℕ → Option (List ℕ)) (form : Form) (source : Source) (k : Call) (a : Answer) → refuses a ≡ true → k.new ≡ k.old → AreTextBytes files form source k a
+refused_bytes files form source k Answer.Ok is same = absurd (true≢false (sym is))
+refused_bytes files form source k Answer.WriteFault is same = absurd (true≢false (sym is))
+refused_bytes files form source k a is same = same
+
+kind_bytes : (files : List ℕ → Option (List ℕ)) (form : Form) (source : Source) (k : Call) (cause : Type 0) (a : Answer) → IsKind cause a → k.new ≡ k.old → AreTextBytes files form source k a
+kind_bytes files form source k cause a (inl refused) same = refused_bytes files form source k a refused same
+kind_bytes files form source k cause a (inr (inl read)) same = subst (AreTextBytes files form source k) (sym read.0) same
+kind_bytes files form source k cause a (inr (inr memory)) same = subst (AreTextBytes files form source k) (sym memory) same
+
+put_bytes : (files : List ℕ → Option (List ℕ)) (form : Form) (source : Source) (k : Call) (a : Answer) (N P : ℕ) (conf : Shape) → Gives (Some files) source N P conf → IsPut (text_in form N P conf) k.old k.new k.out_before k.out_now a
+    → AreTextBytes files form source k a
+put_bytes files form source k Answer.Ok N P conf gives put = record { N = N; P = P; conf = conf; gives = gives; text = put }
+put_bytes files form source k Answer.WriteFault N P conf gives put = record { N = N; P = P; conf = conf; gives = gives; text = put.0 }
+put_bytes files form source k Answer.Memory N P conf gives put = put
+put_bytes files form source k a N P conf gives put = absurd put
+
+pub text_bytes : (files : List ℕ → Option (List ℕ)) (form : Form) (source : Source) (k : Call) (a : Answer) → k.before.told ≡ Some files → IsTexted form source k a → AreTextBytes files form source k a
+text_bytes files form source k a told (inl none) = kind_bytes files form source k _ a (source_kind k.before.told source k.before.faults k.now.faults a none.cause) none.unwritten
+text_bytes files form source k a told (inr has) = put_bytes files form source k a has.N has.P has.conf (subst (λ (t : Told). Gives t source has.N has.P has.conf) told has.gives) has.put

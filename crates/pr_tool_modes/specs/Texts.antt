@@ -39,6 +39,21 @@ pub record HasText (form : Form) (source : Source) (k : Call) (answer : Answer) 
 abbrev pub IsTexted : Form → Source → Call → Answer → Type 0
 IsTexted form source k answer = HasNoText source k answer ⊎ HasText form source k answer
 
+-- ---- what is written over told files
+-- something is put of the text of the source's configuration
+pub record HasWritten (files : List ℕ → Option (List ℕ)) (form : Form) (source : Source) (put : List ℕ → Type 0) : Type 0 where
+  pub N : ℕ
+  pub P : ℕ
+  pub conf : Shape
+  pub gives : Gives (Some files) source N P conf
+  pub text : put (text_in form N P conf)
+
+-- the text is written; after a failed write first bytes of it are; and else nothing is
+abbrev pub AreTextBytes : (List ℕ → Option (List ℕ)) → Form → Source → Call → Answer → Type 0
+AreTextBytes files form source k Answer.Ok = HasWritten files form source (Appends k.old k.new)
+AreTextBytes files form source k Answer.WriteFault = HasWritten files form source (AppendsFront k.old k.new)
+AreTextBytes files form source k answer = k.new ≡ k.old
+
 -- ---- the verdict
 abbrev pub IsTextVerdict : (List ℕ → Option (List ℕ)) → Source → Answer → Type 0
 IsTextVerdict files source answer = IsRefusedSource files source answer ⊎ ((answer ≡ Answer.Ok) × IsGood (Some files) source)

@@ -1,8 +1,8 @@
 //! Runs of files in memory.
+ghost use Rattle.std.specs.Prelude.{◌≤◌};
 
 use pr_edge::{MemShelf, MemSink, Shelf, Sink};
-use pr_exec::{Bench, exec};
-use pr_modes::Outcome;
+use pr_tool_modes::{Answer, Bench, Job, Source, execute};
 use std::alloc::{AllocError, Global};
 use std::process::Abort;
 
@@ -37,6 +37,20 @@ pub(crate) fn shelf_of(
     MemShelf::make(alloc, files, failing)
 }
 
+/// The run of `c` on `s` on so many stripes, under this stall text.
+fn job_of(stall: Option<&str>, stripes: usize) -> Job<'_>
+    requires two { 2 ≤ stripes }
+    requires most { stripes ≤ 256 }
+{
+    Job {
+        source: Source::File { name: "c" },
+        samples: "s",
+        stall,
+        stripes,
+        log: false,
+    }
+}
+
 /// Runs `c` on `s` on 16 stripes, under the stall text `t` where it is to be read.
 pub(crate) fn run_on_sixteen<S: Shelf, K: Sink>(
     alloc: Global,
@@ -44,15 +58,15 @@ pub(crate) fn run_on_sixteen<S: Shelf, K: Sink>(
     shelf: &mut S,
     out: &mut K,
     bench: &mut Bench,
-) -> Outcome {
+) -> Answer {
     let stall = if is_stalled { Some("t") } else { None };
-    exec(alloc, "c", "s", stall, 16, shelf, out, bench)
+    execute(alloc, &job_of(stall, 16), shelf, out, bench)
 }
 
 /// Runs `c` on `s` on two stripes, under the stall text `t`.
-pub(crate) fn run_on_two<S: Shelf, K: Sink>(alloc: Global, shelf: &mut S, out: &mut K) -> Outcome {
+pub(crate) fn run_on_two<S: Shelf, K: Sink>(alloc: Global, shelf: &mut S, out: &mut K) -> Answer {
     let mut bench = Bench::Nothing;
-    exec(alloc, "c", "s", Some("t"), 2, shelf, out, &mut bench)
+    execute(alloc, &job_of(Some("t"), 2), shelf, out, &mut bench)
 }
 
 /// The columns of the machine on a bench, 0 where there is none.
@@ -67,7 +81,7 @@ fn columns(bench: &Bench) -> usize {
 /// What a run is to come to.
 #[derive(Clone, Copy)]
 pub(crate) struct Wanted<'a> {
-    pub(crate) outcome: Outcome,
+    pub(crate) answer: Answer,
     pub(crate) lines: &'a [u8],
     /// The columns of the machine on the bench, 0 where there is to be none.
     pub(crate) columns: usize,
@@ -83,8 +97,8 @@ pub(crate) fn check_run<S: Shelf>(
 ) -> Result<(), AllocError> {
     let mut out = MemSink::make(alloc, 100, Vec::new(alloc))?;
     let mut bench = Bench::Nothing;
-    let outcome = run_on_sixteen(alloc, is_stalled, shelf, &mut out, &mut bench);
-    assert_eq!(rt; outcome, wanted.outcome);
+    let answer = run_on_sixteen(alloc, is_stalled, shelf, &mut out, &mut bench);
+    assert_eq!(rt; answer, wanted.answer);
     assert_eq!(rt; out.bytes(), wanted.lines);
     assert_eq!(rt; columns(&bench), wanted.columns);
     Ok(())

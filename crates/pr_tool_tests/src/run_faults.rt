@@ -3,8 +3,7 @@
 use crate::configurations::{BASE, XOR, packed, running_sum};
 use crate::trials::{repeated, run_on_sixteen, run_on_two, shelf_of};
 use pr_edge::MemSink;
-use pr_exec::Bench;
-use pr_modes::Outcome;
+use pr_tool_modes::{Answer, Bench};
 use std::alloc::{AllocError, Global};
 use std::process::Abort;
 use std::test::Fail;
@@ -19,14 +18,14 @@ fn outcome_on_two(
     alloc: Global,
     reads: Vec<u64>,
     writes: Vec<u64>,
-) -> Result<Outcome, AllocError> {
+) -> Result<Answer, AllocError> {
     let samples = repeated(alloc, b"1\n", 20)?;
     let mut shelf = shelf_of(alloc, running_sum(alloc)?, &samples, b"iobo..b", reads)?;
     let mut out = MemSink::make(alloc, 100, writes)?;
-    let outcome = run_on_two(alloc, &mut shelf, &mut out);
+    let answer = run_on_two(alloc, &mut shelf, &mut out);
     assert!(rt; SUMS.starts_with(out.bytes()));
-    assert!(rt; outcome != Outcome::Done || out.bytes() == SUMS);
-    Ok(outcome)
+    assert!(rt; answer != Answer::Ok || out.bytes() == SUMS);
+    Ok(answer)
 }
 
 /// Each of the three files takes two reads: one finds its bytes, the other its end.
@@ -35,11 +34,11 @@ fn every_read_fails(rt: HostRuntime) -> Result<(), Fail> {
     let alloc = rt.alloc();
     for call in 1..7u64 {
         let reads = vec![in alloc; call]?;
-        let outcome = outcome_on_two(&rt, alloc, reads, Vec::new(alloc))?;
-        assert_eq!(rt; outcome, Outcome::ReadFault, "read {call}");
+        let answer = outcome_on_two(&rt, alloc, reads, Vec::new(alloc))?;
+        assert_eq!(rt; answer, Answer::ReadFault, "read {call}");
     }
-    let outcome = outcome_on_two(&rt, alloc, vec![in alloc; 7]?, Vec::new(alloc))?;
-    assert_eq!(rt; outcome, Outcome::Done);
+    let answer = outcome_on_two(&rt, alloc, vec![in alloc; 7]?, Vec::new(alloc))?;
+    assert_eq!(rt; answer, Answer::Ok);
     Ok(())
 }
 
@@ -49,11 +48,11 @@ fn every_write_fails(rt: HostRuntime) -> Result<(), Fail> {
     let alloc = rt.alloc();
     for call in 1..21u64 {
         let writes = vec![in alloc; call]?;
-        let outcome = outcome_on_two(&rt, alloc, Vec::new(alloc), writes)?;
-        assert_eq!(rt; outcome, Outcome::WriteFault, "write {call}");
+        let answer = outcome_on_two(&rt, alloc, Vec::new(alloc), writes)?;
+        assert_eq!(rt; answer, Answer::WriteFault, "write {call}");
     }
-    let outcome = outcome_on_two(&rt, alloc, Vec::new(alloc), vec![in alloc; 21]?)?;
-    assert_eq!(rt; outcome, Outcome::Done);
+    let answer = outcome_on_two(&rt, alloc, Vec::new(alloc), vec![in alloc; 21]?)?;
+    assert_eq!(rt; answer, Answer::Ok);
     Ok(())
 }
 
@@ -65,8 +64,8 @@ fn third_read_of_many_samples_fails(rt: HostRuntime) -> Result<(), Fail> {
     let configuration = packed(alloc, BASE, XOR)?;
     let mut shelf = shelf_of(alloc, configuration, &samples, b"", vec![in alloc; 5]?)?;
     let mut out = MemSink::make(alloc, 100_000, Vec::new(alloc))?;
-    let outcome = run_on_sixteen(alloc, false, &mut shelf, &mut out, &mut Bench::Nothing);
-    assert_eq!(rt; outcome, Outcome::ReadFault);
+    let answer = run_on_sixteen(alloc, false, &mut shelf, &mut out, &mut Bench::Nothing);
+    assert_eq!(rt; answer, Answer::ReadFault);
     assert_eq!(rt; out.bytes(), repeated(alloc, b"6\n", 32_768)?.as_slice());
     Ok(())
 }
@@ -81,8 +80,8 @@ fn back_pressure(rt: HostRuntime) -> Result<(), Fail> {
     let failing = vec![in alloc; 6, 7, 8, 9, 10, 11, 12, 13, 14, 15]?;
     let mut shelf = shelf_of(alloc, configuration, &samples, &stall, failing)?;
     let mut out = MemSink::make(alloc, 100, vec![in alloc; 1]?)?;
-    let outcome = run_on_sixteen(alloc, true, &mut shelf, &mut out, &mut Bench::Nothing);
-    assert_eq!(rt; outcome, Outcome::WriteFault);
+    let answer = run_on_sixteen(alloc, true, &mut shelf, &mut out, &mut Bench::Nothing);
+    assert_eq!(rt; answer, Answer::WriteFault);
     assert!(rt; out.bytes().is_empty());
     Ok(())
 }

@@ -1,7 +1,7 @@
 //! Configuration files, good and damaged ones.
 
-use super::*;
 use pr_edge::{MemShelf, MemSink};
+use pr_tool_modes::{Answer, Form, Source, write_text};
 use std::alloc::{AllocError, Global};
 use std::test::Fail;
 
@@ -78,16 +78,16 @@ fn lengthened(mut bytes: Vec<u8>) -> Result<Vec<u8>, AllocError> {
 }
 
 /// What comes of a file, where these reads fail.
-fn outcome(
+fn answer(
     alloc: Global,
     bytes: Vec<u8>,
     failing: Vec<u64>,
     form: Form,
     out: &mut MemSink,
-) -> Result<Outcome, AllocError> {
+) -> Result<Answer, AllocError> {
     let files = vec![in alloc; (String::from_str(alloc, "c")?, bytes)]?;
     let mut shelf = MemShelf::make(alloc, files, failing)?;
-    Ok(write_configuration(alloc, &mut shelf, "c", form, out))
+    Ok(write_text(alloc, &Source::File { name: "c" }, form, &mut shelf, out))
 }
 
 #[test]
@@ -107,8 +107,8 @@ fn texts_of_both_formats_and_fabrics(rt: HostRuntime) -> Result<(), Fail> {
                     Form::Summary => SUMMARY,
                 };
                 let mut out = MemSink::make(alloc, 200, Vec::new(alloc))?;
-                let got = outcome(alloc, bytes, Vec::new(alloc), form, &mut out)?;
-                assert_eq!(rt; got, Outcome::Done);
+                let got = answer(alloc, bytes, Vec::new(alloc), form, &mut out)?;
+                assert_eq!(rt; got, Answer::Ok);
                 assert_eq!(rt; out.bytes(), wanted);
             }
         }
@@ -132,8 +132,8 @@ fn damaged_files(rt: HostRuntime) -> Result<(), Fail> {
     ]?;
     for (bytes, rule, place) in cases {
         let mut out = MemSink::make(alloc, 200, Vec::new(alloc))?;
-        let got = outcome(alloc, bytes, Vec::new(alloc), Form::File, &mut out)?;
-        assert_eq!(rt; got, Outcome::BadConfig { rule, place });
+        let got = answer(alloc, bytes, Vec::new(alloc), Form::File, &mut out)?;
+        assert_eq!(rt; got, Answer::BadConfig { rule, place });
         assert!(rt; out.bytes().is_empty());
     }
     Ok(())
@@ -144,14 +144,15 @@ fn faults(rt: HostRuntime) -> Result<(), Fail> {
     let alloc = rt.alloc();
     let mut out = MemSink::make(alloc, 200, vec![in alloc; 1u64]?)?;
     let bytes = packed(alloc, 0x0010_0008, 3)?;
-    let got = outcome(alloc, bytes, vec![in alloc; 2u64]?, Form::File, &mut out)?;
-    assert_eq!(rt; got, Outcome::ReadFault);
+    let got = answer(alloc, bytes, vec![in alloc; 2u64]?, Form::File, &mut out)?;
+    assert_eq!(rt; got, Answer::ReadFault);
     let bytes = packed(alloc, 0x0010_0008, 3)?;
-    let got = outcome(alloc, bytes, Vec::new(alloc), Form::File, &mut out)?;
-    assert_eq!(rt; got, Outcome::WriteFault);
+    let got = answer(alloc, bytes, Vec::new(alloc), Form::File, &mut out)?;
+    assert_eq!(rt; got, Answer::WriteFault);
     assert!(rt; out.bytes().is_empty());
     let mut shelf = MemShelf::make(alloc, Vec::new(alloc), Vec::new(alloc))?;
-    let got = write_configuration(alloc, &mut shelf, "c", Form::Summary, &mut out);
-    assert_eq!(rt; got, Outcome::ReadFault);
+    let source = Source::File { name: "c" };
+    let got = write_text(alloc, &source, Form::Summary, &mut shelf, &mut out);
+    assert_eq!(rt; got, Answer::ReadFault);
     Ok(())
 }

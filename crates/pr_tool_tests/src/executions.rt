@@ -4,7 +4,7 @@ use crate::configurations::{BASE, WIDE, XOR, packed, plain};
 use crate::trials::{Wanted, check_run, repeated, shelf_of};
 use pr_base::Cap;
 use pr_edge::MemShelf;
-use pr_modes::Outcome;
+use pr_tool_modes::Answer;
 use std::test::Fail;
 
 /// Two samples, and what the exclusive or makes of them.
@@ -28,9 +28,9 @@ fn both_formats_on_both_fabrics(rt: HostRuntime) -> Result<(), Fail> {
         (plain(alloc, WIDE, 128, XOR)?, 32, RESULTS),
     ]?;
     for (configuration, columns, lines) in cases {
-        let outcome = Outcome::Done;
+        let answer = Answer::Ok;
         let wanted = Wanted {
-            outcome,
+            answer,
             lines,
             columns,
         };
@@ -41,27 +41,27 @@ fn both_formats_on_both_fabrics(rt: HostRuntime) -> Result<(), Fail> {
 }
 
 /// Samples, a stall text, what a run of the exclusive or comes to, its lines, and the columns of the machine.
-const RUNS: [(&[u8], &[u8], Outcome, &[u8], usize); 6] = [
-    (TWO, b"o\noib..", Outcome::Done, RESULTS, 16),
-    (TWO, b"..x", Outcome::BadStall { place: 2 }, b"", 0),
-    (b"", b"", Outcome::Done, b"", 16),
-    (b"5\t3\r\n\r\n 255 1", b"o", Outcome::Done, RESULTS, 16),
+const RUNS: [(&[u8], &[u8], Answer, &[u8], usize); 6] = [
+    (TWO, b"o\noib..", Answer::Ok, RESULTS, 16),
+    (TWO, b"..x", Answer::BadStall { place: 2 }, b"", 0),
+    (b"", b"", Answer::Ok, b"", 16),
+    (b"5\t3\r\n\r\n 255 1", b"o", Answer::Ok, RESULTS, 16),
     (
         b"5 3\n255 1\n7 x\n1 1\n2 2\n",
         b"i",
-        Outcome::BadSample { line: 3 },
+        Answer::BadSample { line: 3 },
         RESULTS,
         16,
     ),
-    (b"256 1\n", b"", Outcome::BadSample { line: 1 }, b"", 16),
+    (b"256 1\n", b"", Answer::BadSample { line: 1 }, b"", 16),
 ];
 
 #[test]
 fn samples_and_stall_texts(rt: HostRuntime) -> Result<(), Fail> {
     let alloc = rt.alloc();
-    for (samples, stall, outcome, lines, columns) in RUNS {
+    for (samples, stall, answer, lines, columns) in RUNS {
         let wanted = Wanted {
-            outcome,
+            answer,
             lines,
             columns,
         };
@@ -77,7 +77,7 @@ fn samples_and_stall_texts(rt: HostRuntime) -> Result<(), Fail> {
 fn long_line(rt: HostRuntime) -> Result<(), Fail> {
     let alloc = rt.alloc();
     let wanted = Wanted {
-        outcome: Outcome::Done,
+        answer: Answer::Ok,
         lines: b"6\n",
         columns: 16,
     };
@@ -95,9 +95,9 @@ fn long_line(rt: HostRuntime) -> Result<(), Fail> {
 }
 
 /// What a refusal is to be: nothing is written, and no machine left.
-fn refusal(outcome: Outcome) -> Wanted<'static> {
+fn refusal(answer: Answer) -> Wanted<'static> {
     Wanted {
-        outcome,
+        answer,
         lines: b"",
         columns: 0,
     }
@@ -119,7 +119,7 @@ fn refused_files(rt: HostRuntime) -> Result<(), Fail> {
         alloc,
         true,
         &mut shelf,
-        refusal(Outcome::Limit(Cap::StallBytes)),
+        refusal(Answer::Limit { which: Cap::StallBytes }),
     )?;
     let mut shelf = shelf_of(
         alloc,
@@ -128,9 +128,9 @@ fn refused_files(rt: HostRuntime) -> Result<(), Fail> {
         b"x",
         Vec::new(alloc),
     )?;
-    let wanted = refusal(Outcome::BadConfig { rule: 3, place: 1 });
+    let wanted = refusal(Answer::BadConfig { rule: 3, place: 1 });
     check_run(&rt, alloc, true, &mut shelf, wanted)?;
     let mut shelf = MemShelf::make(alloc, Vec::new(alloc), Vec::new(alloc))?;
-    check_run(&rt, alloc, true, &mut shelf, refusal(Outcome::ReadFault))?;
+    check_run(&rt, alloc, true, &mut shelf, refusal(Answer::ReadFault))?;
     Ok(())
 }
