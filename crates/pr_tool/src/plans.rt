@@ -52,11 +52,15 @@ pub fn plan_of<'a>(words: &Words<'a>) -> Plan<'a>
     let options = &words.options;
     let fabric = options.fabric;
     match words.mode {
-        Mode::Show { configuration: name } => Plan::Texts {
+        Mode::Show {
+            configuration: name,
+        } => Plan::Texts {
             form: Form::Summary,
             source: Source::File { name },
         },
-        Mode::Migrate { configuration: name } => Plan::Texts {
+        Mode::Migrate {
+            configuration: name,
+        } => Plan::Texts {
             form: Form::File,
             source: Source::File { name },
         },

@@ -111,9 +111,9 @@ end_owed files second program k (Answer.Limit which) told (inl long) =
 end_owed files second program k (Answer.Limit which) told (inr end) = inl (whole_verdict files second (inputs_of program) end.rows (Limit which) (samples_told _ files second _ _ _ told end.samples))
 end_owed files second program k Answer.ReadFault told end =
     elim (subst (λ (t : Told). HasReadCause t second k.before.faults k.now.faults) told end.0) as (λ e. IsOwed (λ o. o ≡ whole_file_verdict (inputs_of program) (files second)) k.before.faults k.now.faults k.out_before k.out_now Answer.ReadFault) [
-  | inl missing ↦ inl (sym (ap (whole_file_verdict (inputs_of program)) missing))
-  | inr rose ↦ inr (inl (refl, rose))
-]
+      | inl missing ↦ inl (sym (ap (whole_file_verdict (inputs_of program)) missing))
+      | inr rose ↦ inr (inl (refl, rose))
+    ]
 end_owed files second program k Answer.WriteFault told end = inr (inr (inl (refl, end.1)))
 end_owed files second program k Answer.Memory told end = inr (inr (inr refl))
 end_owed files second program k a told end = absurd end

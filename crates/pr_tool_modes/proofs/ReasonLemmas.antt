@@ -13,9 +13,9 @@ use Rattle.pr_compile_front.proofs.OneRefusal.{one-refusal, no-refusal}
 use Rattle.pr_compile.specs.declared.faults.CompileFault.{CompileFault}
 use Rattle.pr_compile.specs.declared.faults.CompileFault.TheVariants as fault
 use Rattle.pr_compile.specs.Configured.{IsCompiled}
-use Rattle.pr_compile.specs.Refusals.{IsRefused}
+use Rattle.pr_compile.specs.Refusals.{IsRefused, IsCompileAnswer}
 use Rattle.pr_tool_answers.specs.declared.answers.Answer.{Answer}
-use Rattle.pr_tool_modes.specs.Configurations.{broken_answer, HasBroken, IsBadConfiguration, broken_in}
+use Rattle.pr_tool_modes.specs.Configurations.{broken_answer, HasBroken, IsWordRefusal, IsBadConfiguration, broken_in}
 use Rattle.pr_tool_modes.specs.Programs.{front_answer, compile_answer, IsBadProgram, IsUncompiled}
 use Rattle.pr_tool_modes.proofs.CompileLaws.{one_refusal, never_compiled}
 
@@ -110,7 +110,22 @@ one_uncompiled N P text a b is by = is.answers ∙ (ap compile_answer (one_refus
 pub never_uncompiled : (N P : ℕ) (text : List ℕ) (a : Answer) (conf : Shape) → IsCompiled N P text conf → IsUncompiled N P text a → ⊥
 never_uncompiled N P text a conf compiled is = never_compiled N P text is.fault conf is.refused compiled
 
+-- a fault of compilation, or want of memory
+pub compile_refused : (N P : ℕ) (text : List ℕ) (e : CompileFault) (a : Answer) → IsCompileAnswer N P text e → a ≡ compile_answer e → IsUncompiled N P text a ⊎ (a ≡ Answer.Memory)
+compile_refused N P text (fault.Memory e) a is same = inr same
+compile_refused N P text (fault.Syntax token) a is same = inl (record { fault = fault.Syntax token; refused = is; answers = same })
+compile_refused N P text (fault.Scope rule item) a is same = inl (record { fault = fault.Scope rule item; refused = is; answers = same })
+compile_refused N P text (fault.NoWidth equation) a is same = inl (record { fault = fault.NoWidth equation; refused = is; answers = same })
+compile_refused N P text (fault.NoFit unit) a is same = inl (record { fault = fault.NoFit unit; refused = is; answers = same })
+compile_refused N P text (fault.Limit which) a is same = inl (record { fault = fault.Limit which; refused = is; answers = same })
+
 -- ---- configurations
+-- a word that breaks its rule, or want of memory
+pub word_refused : (bytes : List ℕ) (a : Answer) → IsWordRefusal (broken_in bytes) a → IsBadConfiguration bytes a ⊎ (a ≡ Answer.Memory)
+word_refused bytes (Answer.BadConfig rule place) is = inl (record { word = record { rule = rule; place = place }; first = is; answers = refl })
+word_refused bytes Answer.Memory is = inr refl
+word_refused bytes a is = absurd is
+
 pub configuration_refuses : (bytes : List ℕ) (a : Answer) → IsBadConfiguration bytes a → refuses a ≡ true
 configuration_refuses bytes a is = ap refuses is.answers
 

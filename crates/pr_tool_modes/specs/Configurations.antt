@@ -1,5 +1,5 @@
 -- Configuration files, on the fabric that they name.
-use Rattle.std.specs.Prelude.{◌≡◌, ◌≤◌, ℕ, List, length, Option, Some, None, if◌then◌else◌}
+use Rattle.std.specs.Prelude.{◌≡◌, ◌≤◌, ℕ, List, length, Option, Some, None, if◌then◌else◌, ⊤}
 use Rattle.pr_edge.specs.Files.{Told}
 use Rattle.pr_conf.specs.Shape.{Shape}
 use Rattle.pr_code.specs.Fabrics.{names_wide}
@@ -46,6 +46,12 @@ pub record HasBroken (broken : Option Broken) (answer : Answer) : Type 0 where
   pub word : Broken
   pub first : broken ≡ Some word
   pub answers : answer ≡ broken_answer word
+
+-- why bytes are not read: a word breaks its rule, or memory was wanting
+abbrev pub IsWordRefusal : Option Broken → Answer → Type 0
+IsWordRefusal broken (Answer.BadConfig rule place) = broken ≡ Some (record { rule = rule; place = place })
+IsWordRefusal broken Answer.Memory = ⊤
+IsWordRefusal broken answer = ⊥
 
 -- why bytes are no configuration
 abbrev pub IsBadConfiguration : List ℕ → Answer → Type 0

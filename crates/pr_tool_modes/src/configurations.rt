@@ -1,11 +1,11 @@
 //! Configurations that are read from configuration files.
-ghost use Rattle.std.specs.Prelude.{◌≡◌, ◌≢◌, ◌≤◌, ◌⊎◌, ℕ, List, None, IfOk, OnOk, IfErr};
+ghost use Rattle.std.specs.Prelude.{◌≡◌, ◌≢◌, ◌≤◌, ℕ, List, None, IfOk, OnOk, IfErr};
 ghost use Rattle.pr_base.specs.declared.caps.Cap.{Cap};
 ghost use Rattle.pr_conf.specs.Configuration.{shape_of};
 ghost use Rattle.pr_code.specs.Spelling.{IsFile};
 ghost use Rattle.pr_code.specs.Rules.{bad_word, shape_read};
 ghost use Rattle.pr_tool_modes.specs.Files.{IsFileRefusal};
-ghost use Rattle.pr_tool_modes.specs.Configurations.{columns_of, registers_of, HasBroken, IsLoadable, HasConfiguration, IsBadConfiguration};
+ghost use Rattle.pr_tool_modes.specs.Configurations.{columns_of, registers_of, IsWordRefusal, IsLoadable, HasConfiguration, IsBadConfiguration};
 ghost use Rattle.pr_tool_modes.specs.Sources.{columns_in, registers_in, shape_in};
 
 use crate::files::read_file;
@@ -32,7 +32,7 @@ fn decode_bytes<const N: usize, const P: usize>(
     ensures good { OnOk result (bad_word N P bytes.now ≡ None) }
     ensures file { IfOk result (λ c. IsFile N P (shape_of c) bytes.now) }
     ensures shape { IfOk result (λ c. shape_of c ≡ shape_read N bytes.now) }
-    ensures refused { IfErr result (λ a. HasBroken (bad_word N P bytes.now) a ⊎ (a ≡ Answer.Memory)) }
+    ensures refused { IfErr result (IsWordRefusal (bad_word N P bytes.now)) }
 {
     match decode::<N, P>(alloc, bytes) {
         Ok(conf) => Ok(conf),
@@ -44,7 +44,7 @@ fn decode_bytes<const N: usize, const P: usize>(
 /// The configuration of a file's bytes, on the fabric that they name.
 fn decode_named(alloc: Global, bytes: &[u8]) -> Result<Loadable, Answer>
     ensures read { IfOk result (λ l. IsLoadable (columns_in l) (registers_in l) (shape_in l) bytes.now) }
-    ensures refused { IfErr result (λ a. HasBroken (bad_word (columns_of bytes.now) (registers_of bytes.now) bytes.now) a ⊎ (a ≡ Answer.Memory)) }
+    ensures refused { IfErr result (IsWordRefusal (bad_word (columns_of bytes.now) (registers_of bytes.now) bytes.now)) }
 {
     match fabric_of(bytes) {
         Fabric::Base => Ok(Loadable::Base(decode_bytes::<16, 8>(alloc, bytes)?)),

@@ -83,7 +83,14 @@ const SINGLE: [(&str, Case<'_>); 5] = [
     ),
     (
         "run",
-        (MOVING_SUM, "1\n2\n3\n4\n5\n", Answer::Ok, 0, "1\n3\n6\n10\n14\n", ""),
+        (
+            MOVING_SUM,
+            "1\n2\n3\n4\n5\n",
+            Answer::Ok,
+            0,
+            "1\n3\n6\n10\n14\n",
+            "",
+        ),
     ),
     (
         "eval",

@@ -119,7 +119,9 @@ fn refused_files(rt: HostRuntime) -> Result<(), Fail> {
         alloc,
         true,
         &mut shelf,
-        refusal(Answer::Limit { which: Cap::StallBytes }),
+        refusal(Answer::Limit {
+            which: Cap::StallBytes,
+        }),
     )?;
     let mut shelf = shelf_of(
         alloc,

@@ -8,7 +8,7 @@ append_output-requires g c = (
   lit< tt,
   (
     taps_lawful g.row.N g.row.P c.args.outputs.now c.loop-output.output-index c.output-item.result c.deref.result.now c.requires.lawful c.loop-output-test.true c.output-item.is c.deref.ensures.value,
-    room_left g.row.N g.row.P (bytes_of c.args.row.now) c.args.outputs.now c.loop-output.output-index c.output-item.result c.loop-output.into.items c.deref.result.now (vec_len c.loop-output.into) (vec_capacity c.loop-output.into) c.requires.lawful c.loop-output-test.true c.output-item.is c.deref.ensures.value c.loop-output.invariant.bytes (omega (arith, c.loop-output.into.ok.0)) (omega (arith, c.requires.buffers, c.loop-output.invariant.capacity)),
+    room_left g.row.N g.row.P (bytes_of c.args.row.now) c.args.outputs.now c.loop-output.output-index c.output-item.result c.loop-output.into.items c.deref.result.now (vec_len c.loop-output.into) (vec_capacity c.loop-output.into) c.requires.lawful c.loop-output-test.true c.output-item.is c.deref.ensures.value c.loop-output.invariant.bytes (omega (arith, c.loop-output.into.ok.0)) (omega (arith, c.requires.room, c.loop-output.invariant.capacity)),
   ),
 )
 

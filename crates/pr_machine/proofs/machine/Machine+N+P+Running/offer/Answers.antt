@@ -6,11 +6,11 @@ pub returns-in-Ok-clause-stands : goal.returns-in-Ok-clause-stands
 returns-in-Ok-clause-stands g c = λ k p h st. record {
   conf = st.conf;
   stripes = st.stripes;
-  parts = offered c.args.self.now.parts k p h st c.args.piece.now c.put.new.self c.in-Ok.ensures.buffers c.in-Ok.ensures.put;
+  parts = offered c.args.self.now.parts k p h st c.args.piece.now c.put.new.self c.in-Ok.ensures.room c.in-Ok.ensures.put;
 }
 
 pub returns-in-Ok-clause-reply : goal.returns-in-Ok-clause-reply
-returns-in-Ok-clause-reply g c = λ k p h st. accepted c.args.self.now.parts k p h st c.args.piece.now c.in-Ok.ensures.buffers
+returns-in-Ok-clause-reply g c = λ k p h st. accepted c.args.self.now.parts k p h st c.args.piece.now c.in-Ok.ensures.room
 
 pub returns-in-Err-clause-stands : goal.returns-in-Err-clause-stands
 returns-in-Err-clause-stands g c = λ k p h st. record {
