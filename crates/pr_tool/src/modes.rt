@@ -28,9 +28,9 @@ pub fn carry_out<S: Shelf, K: Sink>(
     ensures shelf_later { S.faults shelf.old ≤ S.faults shelf.new }
     ensures out_later { K.faults out.old ≤ K.faults out.new }
 {
-    match plan {
-        Plan::Texts { form, source } => write_text(alloc, source, *form, shelf, out),
-        Plan::Runs(job) => execute(alloc, job, shelf, out, bench),
+    match *plan {
+        Plan::Texts { form, source } => write_text(alloc, &source, form, shelf, out),
+        Plan::Runs(job) => execute(alloc, &job, shelf, out, bench),
         Plan::Evaluates { program, samples } => eval(alloc, program, samples, shelf, out),
         Plan::Refuses { program } => refuse_program(alloc, shelf, program),
         Plan::Nothing => Answer::NotYet,

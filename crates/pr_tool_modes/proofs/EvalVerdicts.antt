@@ -162,7 +162,7 @@ module _ (files : List ℕ → Option (List ℕ)) (name : List ℕ) where
 
 -- ---- single answers
 pub program_kind : (told : Told) (name : List ℕ) (before now : ℕ) (a : Answer) → IsFileRefusal 1048576 Cap.ProgramBytes IsBadProgram told name before now a → IsKind (HasReadCause told name before now) a
-program_kind told name before now a is = refusal_kind 1048576 Cap.ProgramBytes IsBadProgram told name before now a refl program_refuses is
+program_kind told name before now a is = refusal_kind 1048576 Cap.ProgramBytes IsBadProgram told name before now a refl (λ text h. program_refuses text a h) is
 
 pub eval_fault : (first second : List ℕ) (k : Call) (a : Answer) → IsEvaluated first second k a → a ≡ Answer.ReadFault → k.before.told ≡ None → Rose k.before.faults k.now.faults
 eval_fault first second k a (inl none) is untold = untold_rose k.before.told _ _ _ (kind_fault _ a (program_kind k.before.told first k.before.faults k.now.faults a none.cause) is) untold

@@ -67,9 +67,9 @@ module _ (limit : ℕ) (cap : Cap) (reasons : List ℕ → Answer → Type 0) wh
 
     -- nor is a file refused that has a text for which there is no reason
     pub never_refused : (a : Answer) (text : List ℕ) → IsRefusedFile limit cap reasons files name a → files name ≡ Some text → length text ≤ limit → (reasons text a → ⊥) → ⊥
-    never_refused a text (inl is) by short no = no_text text is.1 by
-    never_refused a text (inr (inl is)) by short no = never_both is.1.text text is.1.file by is.1.long short
-    never_refused a text (inr (inr is)) by short no = no (subst (λ (t : List ℕ). reasons t a) (same_text is.text text is.file by) is.refused)
+    never_refused a text (inl is) by short good = no_text text is.1 by
+    never_refused a text (inr (inl is)) by short good = never_both is.1.text text is.1.file by is.1.long short
+    never_refused a text (inr (inr is)) by short good = good (subst (λ (t : List ℕ). reasons t a) (same_text is.text text is.file by) is.refused)
 
   -- ---- what a refusal answers
   -- an answer that refuses a text, a read fault, or want of memory

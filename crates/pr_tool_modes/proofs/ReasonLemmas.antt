@@ -12,7 +12,7 @@ use Rattle.pr_compile_front.specs.Refusals.{HasWidths, IsLimit, IsRefusal}
 use Rattle.pr_compile_front.proofs.OneRefusal.{one-refusal, no-refusal}
 use Rattle.pr_compile.specs.declared.faults.CompileFault.{CompileFault}
 use Rattle.pr_compile.specs.declared.faults.CompileFault.TheVariants as fault
-use Rattle.pr_compile.specs.Configured.{IsCompiled}
+use Rattle.pr_compile.specs.Configured.{net_by, IsCompiled}
 use Rattle.pr_compile.specs.Refusals.{IsRefused, IsCompileAnswer}
 use Rattle.pr_tool_answers.specs.declared.answers.Answer.{Answer}
 use Rattle.pr_tool_modes.specs.Configurations.{broken_answer, HasBroken, IsWordRefusal, IsBadConfiguration, broken_in}
@@ -98,7 +98,7 @@ fault_refuses N P text (fault.Scope rule item) is = refl
 fault_refuses N P text (fault.NoWidth equation) is = refl
 fault_refuses N P text (fault.NoFit unit) is = refl
 fault_refuses N P text (fault.Limit which) (inl is) = front_cap text which is
-fault_refuses N P text (fault.Limit which) (inr is) = net_cap N _ which is.refused
+fault_refuses N P text (fault.Limit which) (inr is) = net_cap N (net_by is.program is.widths) which is.refused
 fault_refuses N P text (fault.Memory e) is = absurd is
 
 pub compile_refuses : (N P : ℕ) (text : List ℕ) (a : Answer) → IsUncompiled N P text a → refuses a ≡ true

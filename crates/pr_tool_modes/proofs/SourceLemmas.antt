@@ -64,6 +64,6 @@ one_conf files (Text name fabric) N P M Q c d is by =
 
 -- ---- what a refusal answers
 pub source_kind : (told : Told) (source : Source) (before now : ℕ) (a : Answer) → IsSourceRefusal told source before now a → IsKind (HasReadCause told (name_in source) before now) a
-source_kind told (File name) before now a is = refusal_kind 16777216 Cap.ConfigBytes IsBadConfiguration told name before now a refl configuration_refuses is
+source_kind told (File name) before now a is = refusal_kind 16777216 Cap.ConfigBytes IsBadConfiguration told name before now a refl (λ bytes h. configuration_refuses bytes a h) is
 source_kind told (Text name fabric) before now a is =
-    refusal_kind 1048576 Cap.ProgramBytes (IsUncompiled (columns fabric) (registers fabric)) told name before now a refl (compile_refuses (columns fabric) (registers fabric)) is
+    refusal_kind 1048576 Cap.ProgramBytes (IsUncompiled (columns fabric) (registers fabric)) told name before now a refl (λ text h. compile_refuses (columns fabric) (registers fabric) text a h) is
