@@ -1,5 +1,5 @@
 -- How much of the lines is written, by the answer, and what the machine was asked.
-use Rattle.std.specs.Prelude.{◌≡◌, ◌⊎◌, ◌≤◌, ℕ, Bool, false, List, [], length, take, Option, Some, unwrap_or, ⊤}
+use Rattle.std.specs.Prelude.{◌≡◌, ◌⊎◌, ◌≤◌, ℕ, Bool, true, false, List, [], length, take, Option, Some, unwrap_or, ⊤}
 use Rattle.pr_base.specs.declared.caps.Cap.{Cap}
 use Rattle.pr_base.specs.Rows.{written}
 use Rattle.pr_edge.specs.Tape.{Tape, Appends, AppendsFront}
