@@ -1,6 +1,3 @@
-use Rattle.pr_tool_modes.proofs.LinesLemmas.{program_lines}
-use Rattle.pr_tool_modes.proofs.RunLemmas.{run_of}
-use Rattle.pr_tool_modes.proofs.SampleLemmas.{no_cause}
 use Rattle.pr_tool_modes.proofs.TextVerdicts.{one_text}
 use Rattle.pr_tool_modes.proofs.EvalVerdicts.{one_eval, one_unbuilt, one_meaning}
 use Rattle.pr_tool_modes.proofs.RunVerdicts.{one_run}
