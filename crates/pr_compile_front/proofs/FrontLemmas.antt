@@ -1,8 +1,6 @@
 -- From the answers of the steps to the refusals of the text.
 use Rattle.std.proofs.Common.{◌≡◌, ◌<◌, ◌≤◌, ℕ, List, length, Result, Err, refl, sym, ap, subst, arith, inl, inr}
 use Rattle.std.specs.Result.{IfErr}
-use Rattle.pr_base.specs.declared.caps.Cap.{Cap}
-use Rattle.pr_edge.specs.Files.{Told}
 use Rattle.pr_lang.specs.declared.trees.Program.{Program}
 use Rattle.pr_lang.specs.Syntax.{refusal_of}
 use Rattle.pr_parse.specs.declared.parser.ParseFault.{ParseFault}
@@ -22,11 +20,7 @@ use Rattle.pr_flat.specs.Shape.{EquationShape}
 use Rattle.pr_flat.specs.Facts.{IsFlat}
 use Rattle.pr_flat.specs.Widths.{IsFirstWithout}
 use Rattle.pr_expand_spec.specs.Programs.{equations_of}
-use Rattle.pr_modes.specs.declared.outcomes.Outcome.{Outcome}
-use Rattle.pr_modes.specs.Files.{IsText, IsFileRefusal}
 use Rattle.pr_compile_front.specs.declared.faults.FrontFault.{FrontFault}
-use Rattle.pr_compile_front.specs.declared.faults.FrontFault.TheVariants as fault
-use Rattle.pr_compile_front.specs.Files.{outcome_by, IsProgramRefusal}
 use Rattle.pr_compile_front.specs.Faults.{parse_fault, scope_fault, expand_fault, width_fault}
 use Rattle.pr_compile_front.specs.Refusals.{IsRead, IsKept, IsMade, IsLimit, IsAnswer}
 
@@ -48,30 +42,6 @@ pub width_answer : (text : List ℕ) (program : Program) (e : WidthFault) → Is
     → ((n : ℕ) → e ≡ width.NoWidth n → IsFirstWithout (equations_of program).equations n) → IsAnswer text (width_fault e)
 width_answer text program (width.NoWidth equation) made is = record { program = program; made = made; without = is equation refl }
 width_answer text program (width.Memory error) made is = tt
-
--- ---- files
--- a file that was not read whole
-pub file_refusal : (told : Told) (name : List ℕ) (before now : ℕ) (outcome : Outcome) → IsFileRefusal told name 1048576 Cap.ProgramBytes before now outcome → IsProgramRefusal told name before now outcome
-file_refusal told name before now (Outcome.Limit which) is = inl is
-file_refusal told name before now Outcome.ReadFault is = is
-file_refusal told name before now Outcome.Memory is = tt
-file_refusal told name before now Outcome.Done is = absurd is
-file_refusal told name before now (Outcome.Syntax token) is = absurd is
-file_refusal told name before now (Outcome.Scope rule item) is = absurd is
-file_refusal told name before now (Outcome.NoWidth equation) is = absurd is
-file_refusal told name before now (Outcome.BadConfig rule place) is = absurd is
-file_refusal told name before now (Outcome.BadStall place) is = absurd is
-file_refusal told name before now (Outcome.BadSample line) is = absurd is
-file_refusal told name before now Outcome.WriteFault is = absurd is
-file_refusal told name before now Outcome.NotYet is = absurd is
-
--- a text that is refused
-pub text_refusal : (told : Told) (name text : List ℕ) (before now : ℕ) (e : FrontFault) → IsText told name text → length text ≤ 1048576 → IsAnswer text e → IsProgramRefusal told name before now (outcome_by e)
-text_refusal told name text before now (fault.Syntax token) file short is = record { text = text; file = file; short = short; refused = is }
-text_refusal told name text before now (fault.Scope rule item) file short is = record { text = text; file = file; short = short; refused = is }
-text_refusal told name text before now (fault.NoWidth equation) file short is = record { text = text; file = file; short = short; refused = is }
-text_refusal told name text before now (fault.Limit which) file short is = inr (record { text = text; file = file; short = short; refused = is })
-text_refusal told name text before now (fault.Memory e) file short is = tt
 
 -- ---- what is known after a step
 -- the fault with which a step ends the whole

@@ -1,4 +1,3 @@
 pub mod Faults
 pub mod Refusals
 pub mod Passed
-pub mod Files

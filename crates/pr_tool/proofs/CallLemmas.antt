@@ -1,134 +1,152 @@
--- From what a task comes to, to the answer.
-use Rattle.std.proofs.Common.{◌≡◌, ◌⊎◌, ℕ, Bool, true, false, List, Option, Some, None, refl, sym, ap, ◌∙◌, subst, inl, inr, true≢false}
+-- What follows of what a call comes to.
+use Rattle.std.proofs.Common.{◌≡◌, ◌⊎◌, ℕ, List, [], Option, Some, None, unwrap_or, refl, sym, ap, ◌∙◌, subst, inl, inr}
+use Rattle.pr_code.specs.declared.fabrics.Fabric.{Fabric}
 use Rattle.pr_edge.specs.Count.{Rose}
-use Rattle.pr_edge.specs.Files.{Told}
-use Rattle.pr_tool_words.specs.Lawful.{Order, Task, Run, Trace, Compile, Show, Migrate, Exec, Eval, Gen, Share, Checkpoint, Move, Extend}
-use Rattle.pr_modes.specs.declared.outcomes.Outcome.{Outcome}
-use Rattle.pr_modes.specs.Owed.{IsOwed, outcome_faults}
-use Rattle.pr_modes.proofs.OwedLemmas.{owed_read}
-use Rattle.pr_exec.specs.Executions.{Job, job}
-use Rattle.pr_programs.specs.Lines.{AreRunLines, AreEvalLines}
-use Rattle.pr_programs.proofs.LinesLemmas.{run_lines, eval_lines}
-use Rattle.pr_tool.specs.declared.answers.Answer.{Answer}
-use Rattle.pr_tool.specs.Answers.{answer_by, answer_faults}
-use Rattle.pr_tool.specs.Words.{Asked, is_plain, is_built, IsLater, WhereBuilt}
-use Rattle.pr_tool.specs.Calls.{Call, IsRunEnd, IsUnbuiltEnd, IsDone, ByOutcome, IsCalled, IsVerdict, IsToldVerdict}
+use Rattle.pr_tool_words.specs.Lawful.{Order}
+use Rattle.pr_tool_answers.specs.declared.answers.Answer.{Answer}
+use Rattle.pr_tool_answers.specs.Owed.{IsOwed}
+use Rattle.pr_tool_answers.proofs.OwedLemmas.{owed_read}
+use Rattle.pr_tool_modes.specs.declared.benches.Bench.{Bench}
+use Rattle.pr_tool_modes.specs.Calls.{Call}
+use Rattle.pr_tool_modes.specs.Executions.{HasCome}
+use Rattle.pr_tool_modes.specs.Jobs.{Job}
+use Rattle.pr_tool_modes.specs.Lines.{AreProgramLines}
+use Rattle.pr_tool_modes.specs.Sources.{Source, File, Text}
+use Rattle.pr_tool_modes.proofs.TextVerdicts.{text_owed, one_text, text_fault, text_memory, text_write, text_usage, text_bytes}
+use Rattle.pr_tool_modes.proofs.EvalVerdicts.{eval_owed, unbuilt_owed, one_eval, one_unbuilt, eval_fault, eval_memory, eval_write, eval_usage, unbuilt_fault, unbuilt_write, unbuilt_usage}
+use Rattle.pr_tool_modes.proofs.RunVerdicts.{run_owed, one_run, run_fault, run_memory, run_write, run_usage}
+use Rattle.pr_tool_modes.proofs.LinesLemmas.{eval_lines, configuration_lines, program_lines}
+use Rattle.pr_tool.specs.Plans.{Plan, Texts, Runs, Evaluates, Refuses, Nothing, plan_of}
+use Rattle.pr_tool.specs.Words.{Asked}
+use Rattle.pr_tool.specs.Calls.{IsUnchanged, IsDone, IsCalled, AreLines, HasGained, IsPlanVerdict, IsVerdict, IsToldVerdict}
 
--- ---- outcomes and answers
-pub by_outcome : (P : Outcome → Type 0) (outcome : Outcome) → P outcome → ByOutcome P (answer_by outcome)
-by_outcome P outcome is = record { outcome = outcome; answers = refl; is = is }
+-- ---- plans
+done_owed : (files : List ℕ → Option (List ℕ)) (plan : Plan) (k : Call) (was bench : Bench) (a : Answer) → k.before.told ≡ Some files → IsDone plan k was bench a
+    → IsOwed (IsPlanVerdict files plan) k.before.faults k.now.faults k.out_before k.out_now a
+done_owed files (Texts form source) k was bench a told done = text_owed files form source k a told done.0
+done_owed files (Runs j) k was bench a told done = run_owed files j k was bench a told done
+done_owed files (Evaluates first second) k was bench a told done = eval_owed files first second k a told done.0
+done_owed files (Refuses name) k was bench a told done = unbuilt_owed files name k.before.told k.before.faults k.now.faults k.out_before k.out_now a told done.ended
+done_owed files Nothing k was bench a told done = inl done.0
 
-pub owed_answer : (P : Outcome → Type 0) (sb sn ob on : ℕ) (outcome : Outcome) → IsOwed outcome_faults P sb sn ob on outcome → IsOwed answer_faults (ByOutcome P) sb sn ob on (answer_by outcome)
-owed_answer P sb sn ob on outcome (inl is) = inl (by_outcome P outcome is)
-owed_answer P sb sn ob on outcome (inr (inl read)) = inr (inl (ap answer_by read.0, read.1))
-owed_answer P sb sn ob on outcome (inr (inr (inl write))) = inr (inr (inl (ap answer_by write.0, write.1)))
-owed_answer P sb sn ob on outcome (inr (inr (inr memory))) = inr (inr (inr (ap answer_by memory)))
+done_fault : (plan : Plan) (k : Call) (was bench : Bench) (a : Answer) → IsDone plan k was bench a → a ≡ Answer.ReadFault → k.before.told ≡ None → Rose k.before.faults k.now.faults
+done_fault (Texts form source) k was bench a done is untold = text_fault form source k a done.0 is untold
+done_fault (Runs j) k was bench a done is untold = run_fault j k was bench a done is untold
+done_fault (Evaluates first second) k was bench a done is untold = eval_fault first second k a done.0 is untold
+done_fault (Refuses name) k was bench a done is untold = unbuilt_fault k.before.told name k.before.faults k.now.faults a done.ended is untold
+done_fault Nothing k was bench a done is untold = absurd (let no : Answer.ReadFault ≡ Answer.NotYet = sym is ∙ done.0 in cc)
 
--- the outcome that an answer is
-abbrev outcome_in : Answer → Option Outcome
-outcome_in Answer.Ok = Some Outcome.Done
-outcome_in (Answer.Syntax token) = Some (Outcome.Syntax token)
-outcome_in (Answer.Scope rule item) = Some (Outcome.Scope rule item)
-outcome_in (Answer.NoWidth equation) = Some (Outcome.NoWidth equation)
-outcome_in (Answer.Limit which) = Some (Outcome.Limit which)
-outcome_in (Answer.BadSample line) = Some (Outcome.BadSample line)
-outcome_in (Answer.BadStall place) = Some (Outcome.BadStall place)
-outcome_in (Answer.BadConfig rule place) = Some (Outcome.BadConfig rule place)
-outcome_in Answer.ReadFault = Some Outcome.ReadFault
-outcome_in Answer.WriteFault = Some Outcome.WriteFault
-outcome_in Answer.Memory = Some Outcome.Memory
-outcome_in Answer.NotYet = Some Outcome.NotYet
-outcome_in answer = None
+done_write : (plan : Plan) (k : Call) (was bench : Bench) (a : Answer) → IsDone plan k was bench a → a ≡ Answer.WriteFault → Rose k.out_before k.out_now
+done_write (Texts form source) k was bench a done is = text_write form source k a done.0 is
+done_write (Runs j) k was bench a done is = run_write j k was bench a done is
+done_write (Evaluates first second) k was bench a done is = eval_write first second k a done.0 is
+done_write (Refuses name) k was bench a done is = absurd (unbuilt_write k.before.told name k.before.faults k.now.faults a done.ended is)
+done_write Nothing k was bench a done is = absurd (let no : Answer.WriteFault ≡ Answer.NotYet = sym is ∙ done.0 in cc)
 
-outcome_back : (o : Outcome) → outcome_in (answer_by o) ≡ Some o
-outcome_back Outcome.Done = refl
-outcome_back (Outcome.Syntax token) = refl
-outcome_back (Outcome.Scope rule item) = refl
-outcome_back (Outcome.NoWidth equation) = refl
-outcome_back (Outcome.Limit which) = refl
-outcome_back (Outcome.BadConfig rule place) = refl
-outcome_back (Outcome.BadStall place) = refl
-outcome_back (Outcome.BadSample line) = refl
-outcome_back Outcome.ReadFault = refl
-outcome_back Outcome.WriteFault = refl
-outcome_back Outcome.Memory = refl
-outcome_back Outcome.NotYet = refl
+done_memory : (plan : Plan) (k : Call) (was bench : Bench) (a : Answer) → IsDone plan k was bench a → a ≡ Answer.Memory → (k.new ≡ k.old) × (bench ≡ was)
+done_memory (Texts form source) k was bench a done is = (text_memory form source k a done.0 is, done.1)
+done_memory (Runs j) k was bench a done is = run_memory j k was bench a done is
+done_memory (Evaluates first second) k was bench a done is = (eval_memory first second k a done.0 is, done.1)
+done_memory (Refuses name) k was bench a done is = (done.unchanged.unwritten, done.unchanged.kept)
+done_memory Nothing k was bench a done is = (done.1.unwritten, done.1.kept)
 
--- ---- what follows of a call
-pub called_usage : (asked : Asked) (k : Call) (answer : Answer) → IsCalled asked k answer → answer ≡ Answer.Usage → asked ≡ None
-called_usage None k answer h e = refl
-called_usage (Some order) k answer (inl memory) e = absurd (let no : Answer.Usage ≡ Answer.Memory = sym e ∙ memory.0 in cc)
-called_usage (Some order) k answer (inr by) e = absurd (let no : None ≡ Some by.outcome = sym (ap outcome_in (sym by.answers ∙ e)) ∙ outcome_back by.outcome in cc)
+done_usage : (plan : Plan) (k : Call) (was bench : Bench) (a : Answer) → IsDone plan k was bench a → a ≡ Answer.Usage → ⊥
+done_usage (Texts form source) k was bench a done is = text_usage form source k a done.0 is
+done_usage (Runs j) k was bench a done is = run_usage j k was bench a done is
+done_usage (Evaluates first second) k was bench a done is = eval_usage first second k a done.0 is
+done_usage (Refuses name) k was bench a done is = unbuilt_usage k.before.told name k.before.faults k.now.faults a done.ended is
+done_usage Nothing k was bench a done is = (let no : Answer.Usage ≡ Answer.NotYet = sym is ∙ done.0 in cc)
 
-pub called_wrong : (asked : Asked) (k : Call) (answer : Answer) → IsCalled asked k answer → asked ≡ None → (answer ≡ Answer.Usage) ⊎ (answer ≡ Answer.Memory)
-called_wrong None k answer h e = h.0
-called_wrong (Some order) k answer h e = absurd (cc)
+-- memory wanted before anything was done
+memory_lines : (files : List ℕ → Option (List ℕ)) (j : Job) (source : Source) (k : Call) (was bench : Bench) → IsUnchanged k was bench → AreLines files j source k was bench Answer.Memory
+memory_lines files j (File name) k was bench same = record { unwritten = same.unwritten; kept = same.kept }
+memory_lines files j (Text name fabric) k was bench same = record { unwritten = same.unwritten; kept = same.kept }
 
-not_built : (order : Order) (task : Task) (k : Call) (outcome : Outcome) → is_built task ≡ false → IsDone order task k outcome → outcome ≡ Outcome.NotYet
-not_built order (Run program samples) k outcome e h = absurd (true≢false e)
-not_built order (Trace program samples) k outcome e h = h.not_yet
-not_built order (Compile program) k outcome e h = h.not_yet
-not_built order (Exec configuration samples) k outcome e h = absurd (true≢false e)
-not_built order (Eval program samples) k outcome e h = absurd (true≢false e)
-not_built order (Show configuration) k outcome e h = absurd (true≢false e)
-not_built order (Gen turns) k outcome e h = h.not_yet
-not_built order (Migrate configuration) k outcome e h = absurd (true≢false e)
-not_built order (Share list) k outcome e h = h.not_yet
-not_built order (Checkpoint program samples) k outcome e h = h.not_yet
-not_built order (Move checkpoint samples) k outcome e h = h.not_yet
-not_built order (Extend checkpoint samples) k outcome e h = h.not_yet
+memory_gained : (files : List ℕ → Option (List ℕ)) (plan : Plan) (k : Call) (was bench : Bench) → IsUnchanged k was bench → HasGained files plan k was bench Answer.Memory
+memory_gained files (Texts form source) k was bench same = (same.unwritten, same.kept)
+memory_gained files (Runs j) k was bench same = memory_lines files j j.source k was bench same
+memory_gained files (Evaluates first second) k was bench same = (same.unwritten, same.kept)
+memory_gained files (Refuses name) k was bench same = same
+memory_gained files Nothing k was bench same = same
 
-pub called_later : (asked : Asked) (k : Call) (answer : Answer) → IsCalled asked k answer → IsLater asked → (answer ≡ Answer.NotYet) ⊎ (answer ≡ Answer.Memory)
-called_later None k answer h later = absurd (let no : None ≡ Some later.order = later.lawful in cc)
-called_later (Some order) k answer (inl memory) later = inr memory.0
-called_later (Some order) k answer (inr by) later =
-    let same : order ≡ later.order = cc in
-    inl (by.answers ∙ ap answer_by (not_built order order.task k by.outcome (ap (λ (o : Order). is_built o.task) same ∙ later.unbuilt) by.is))
+source_lines : (files : List ℕ → Option (List ℕ)) (j : Job) (source : Source) (k : Call) (was bench : Bench) (a : Answer) → j.source ≡ source → k.before.told ≡ Some files → HasCome j k was bench a → AreLines files j source k was bench a
+source_lines files j (File name) k was bench a is told done = configuration_lines files j k was bench a told done
+source_lines files j (Text name fabric) k was bench a is told done = program_lines files j name fabric k was bench a is told done
+
+done_gained : (files : List ℕ → Option (List ℕ)) (plan : Plan) (k : Call) (was bench : Bench) (a : Answer) → k.before.told ≡ Some files → IsDone plan k was bench a → HasGained files plan k was bench a
+done_gained files (Texts form source) k was bench a told done = (text_bytes files form source k a told done.0, done.1)
+done_gained files (Runs j) k was bench a told done = source_lines files j j.source k was bench a refl told done
+done_gained files (Evaluates first second) k was bench a told done = (eval_lines files first second k a told done.0, done.1)
+done_gained files (Refuses name) k was bench a told done = done.unchanged
+done_gained files Nothing k was bench a told done = done.1
+
+-- ---- calls
+-- by what was asked for
+called_plan : (asked : Asked) (order : Order) (k : Call) (was bench : Bench) (a : Answer) → asked ≡ Some order → IsCalled asked k was bench a → ((a ≡ Answer.Memory) × IsUnchanged k was bench) ⊎ IsDone (plan_of order) k was bench a
+called_plan asked order k was bench a is h = subst (λ (x : Asked). IsCalled x k was bench a) is h
+
+pub called_owed : (files : List ℕ → Option (List ℕ)) (asked : Asked) (k : Call) (was bench : Bench) (a : Answer) → k.before.told ≡ Some files → IsCalled asked k was bench a
+    → IsOwed (IsVerdict files asked) k.before.faults k.now.faults k.out_before k.out_now a
+called_owed files None k was bench a told (inl usage, same) = inl usage
+called_owed files None k was bench a told (inr memory, same) = inr (inr (inr memory))
+called_owed files (Some order) k was bench a told (inl memory) = inr (inr (inr memory.0))
+called_owed files (Some order) k was bench a told (inr done) = done_owed files (plan_of order) k was bench a told done
+
+untold_fault : (asked : Asked) (k : Call) (was bench : Bench) (a : Answer) → IsCalled asked k was bench a → a ≡ Answer.ReadFault → k.before.told ≡ None → Rose k.before.faults k.now.faults
+untold_fault None k was bench a (inl usage, same) is untold = absurd (let no : Answer.ReadFault ≡ Answer.Usage = sym is ∙ usage in cc)
+untold_fault None k was bench a (inr memory, same) is untold = absurd (let no : Answer.ReadFault ≡ Answer.Memory = sym is ∙ memory in cc)
+untold_fault (Some order) k was bench a (inl memory) is untold = absurd (let no : Answer.ReadFault ≡ Answer.Memory = sym is ∙ memory.0 in cc)
+untold_fault (Some order) k was bench a (inr done) is untold = done_fault (plan_of order) k was bench a done is untold
 
 -- where the files are told the verdict tells a read fault, and where they are not a count does
-pub told_fault : (told : Told) (asked : Asked) (sb sn ob on : ℕ) (answer : Answer) → answer ≡ Answer.ReadFault → (told ≡ None → Rose sb sn)
-    → ((files : List ℕ → Option (List ℕ)) → told ≡ Some files → IsOwed answer_faults (IsVerdict files asked) sb sn ob on answer) → IsToldVerdict told asked answer ⊎ Rose sb sn
-told_fault None asked sb sn ob on answer is untold owed = inr (untold refl)
-told_fault (Some files) asked sb sn ob on answer is untold owed = owed_read answer_faults (IsVerdict files asked) sb sn ob on answer (λ e. cc) (λ e. cc) is (owed files refl)
+pub called_fault : (asked : Asked) (k : Call) (was bench : Bench) (a : Answer) → IsCalled asked k was bench a → a ≡ Answer.ReadFault → IsToldVerdict k.before.told asked a ⊎ Rose k.before.faults k.now.faults
+called_fault asked k was bench a h is = elim k.before.told as (λ t. k.before.told ≡ t → IsToldVerdict t asked a ⊎ Rose k.before.faults k.now.faults) [
+  | None ↦ λ untold. inr (untold_fault asked k was bench a h is untold)
+  | Some files ↦ λ told. owed_read (IsVerdict files asked) k.before.faults k.now.faults k.out_before k.out_now a is (called_owed files asked k was bench a told h)
+] refl
 
--- ---- what is written
-run_wrote : (files : List ℕ → Option (List ℕ)) (file : List ℕ) (built : Bool) (j : Job) (k : Call) (outcome : Outcome) → k.before.told ≡ Some files → files j.second ≡ Some file
-    → WhereBuilt built (IsRunEnd j k outcome) (IsUnbuiltEnd j.first k outcome) → AreRunLines files j file k.before k.now k.old k.new k.was k.bench outcome
-run_wrote files file true j k outcome told there h = run_lines files file j k.before k.now k.old k.new k.was k.bench outcome told there h.ended
-run_wrote files file false j k outcome told there h = elim h.ended [
-  | inl refused ↦ run_lines files file j k.before k.now k.old k.new k.was k.bench outcome told there (inl (record { cause = inl refused; unwritten = h.unchanged.unwritten; kept = h.unchanged.kept; unread = λ q neither. h.unread q neither.0 }))
-  | inr passed ↦ subst (λ (o : Outcome). AreRunLines files j file k.before k.now k.old k.new k.was k.bench o) (sym passed.0) (record { unwritten = h.unchanged.unwritten; kept = h.unchanged.kept })
+pub called_write : (asked : Asked) (k : Call) (was bench : Bench) (a : Answer) → IsCalled asked k was bench a → a ≡ Answer.WriteFault → Rose k.out_before k.out_now
+called_write None k was bench a (inl usage, same) is = absurd (let no : Answer.WriteFault ≡ Answer.Usage = sym is ∙ usage in cc)
+called_write None k was bench a (inr memory, same) is = absurd (let no : Answer.WriteFault ≡ Answer.Memory = sym is ∙ memory in cc)
+called_write (Some order) k was bench a (inl memory) is = absurd (let no : Answer.WriteFault ≡ Answer.Memory = sym is ∙ memory.0 in cc)
+called_write (Some order) k was bench a (inr done) is = done_write (plan_of order) k was bench a done is
+
+pub called_memory : (asked : Asked) (k : Call) (was bench : Bench) (a : Answer) → IsCalled asked k was bench a → a ≡ Answer.Memory → (k.new ≡ k.old) × (bench ≡ was)
+called_memory None k was bench a (h, same) is = (same.unwritten, same.kept)
+called_memory (Some order) k was bench a (inl memory) is = (memory.1.unwritten, memory.1.kept)
+called_memory (Some order) k was bench a (inr done) is = done_memory (plan_of order) k was bench a done is
+
+-- no plan answers Usage
+pub called_wrong : (asked : Asked) (k : Call) (was bench : Bench) (a : Answer) → IsCalled asked k was bench a → asked ≡ None → (a ≡ Answer.Usage) ⊎ (a ≡ Answer.Memory)
+called_wrong None k was bench a h e = h.0
+called_wrong (Some order) k was bench a h e = absurd (let no : Some order ≡ None = e in cc)
+
+pub called_gained : (files : List ℕ → Option (List ℕ)) (asked : Asked) (order : Order) (k : Call) (was bench : Bench) (a : Answer) → k.before.told ≡ Some files → asked ≡ Some order → IsCalled asked k was bench a → HasGained files (plan_of order) k was bench a
+called_gained files asked order k was bench a told is h = elim (called_plan asked order k was bench a is h) [
+  | inl memory ↦ subst (HasGained files (plan_of order) k was bench) (sym memory.0) (memory_gained files (plan_of order) k was bench memory.1)
+  | inr done ↦ done_gained files (plan_of order) k was bench a told done
 ]
 
--- a run of a program was asked for
-pub called_run : (files : List ℕ → Option (List ℕ)) (asked : Asked) (order : Order) (first second file : List ℕ) (k : Call) (answer : Answer) → k.before.told ≡ Some files → asked ≡ Some order → order.task ≡ Run first second → files second ≡ Some file
-    → IsCalled asked k answer → ByOutcome (AreRunLines files (job first second order.stall order.stripes) file k.before k.now k.old k.new k.was k.bench) answer
-called_run files None order first second file k answer told is task there h = absurd (let no : None ≡ Some order = is in cc)
-called_run files (Some o) order first second file k answer told is task there (inl memory) = record {
-  outcome = Outcome.Memory;
-  answers = memory.0;
-  is = record { unwritten = memory.1.unwritten; kept = memory.1.kept };
-}
-called_run files (Some o) order first second file k answer told is task there (inr by) =
-    let same : o ≡ order = (let both : Some o ≡ Some order = is in cc) in
-    let done = subst (λ (x : Order). IsDone x x.task k by.outcome) same by.is in
-    record {
-      outcome = by.outcome;
-      answers = by.answers;
-      is = run_wrote files file (is_plain order.fabric order.narrow) (job first second order.stall order.stripes) k by.outcome told there (subst (λ (t : Task). IsDone order t k by.outcome) task done);
-    }
+-- the lines of a run of a program
+pub called_lines : (files : List ℕ → Option (List ℕ)) (asked : Asked) (order : Order) (j : Job) (name : List ℕ) (fabric : Fabric) (k : Call) (was bench : Bench) (a : Answer) → k.before.told ≡ Some files → asked ≡ Some order
+    → plan_of order ≡ Runs j → j.source ≡ Text name fabric → IsCalled asked k was bench a → AreProgramLines files j k was bench a
+called_lines files asked order j name fabric k was bench a told is plan source h =
+    let gained = subst (λ (p : Plan). HasGained files p k was bench a) plan (called_gained files asked order k was bench a told is h) in
+    subst (λ (s : Source). AreLines files j s k was bench a) source gained
 
--- an evaluation of a program was
-pub called_eval : (files : List ℕ → Option (List ℕ)) (asked : Asked) (order : Order) (first second file : List ℕ) (k : Call) (answer : Answer) → k.before.told ≡ Some files → asked ≡ Some order → order.task ≡ Eval first second → files second ≡ Some file
-    → IsCalled asked k answer → ByOutcome (AreEvalLines files first file k.old k.new) answer
-called_eval files None order first second file k answer told is task there h = absurd (let no : None ≡ Some order = is in cc)
-called_eval files (Some o) order first second file k answer told is task there (inl memory) = record { outcome = Outcome.Memory; answers = memory.0; is = memory.1.unwritten }
-called_eval files (Some o) order first second file k answer told is task there (inr by) =
-    let same : o ≡ order = (let both : Some o ≡ Some order = is in cc) in
-    let done = subst (λ (x : Order). IsDone x x.task k by.outcome) same by.is in
-    let end = subst (λ (t : Task). IsDone order t k by.outcome) task done in
-    record {
-      outcome = by.outcome;
-      answers = by.answers;
-      is = eval_lines k.before.told files first second file k.before.faults k.now.faults k.out_before k.out_now k.old k.new by.outcome told there end.ended;
-    }
+pub called_usage : (asked : Asked) (k : Call) (was bench : Bench) (a : Answer) → IsCalled asked k was bench a → a ≡ Answer.Usage → asked ≡ None
+called_usage None k was bench a h e = refl
+called_usage (Some order) k was bench a (inl memory) e = absurd (let no : Answer.Usage ≡ Answer.Memory = sym e ∙ memory.0 in cc)
+called_usage (Some order) k was bench a (inr done) e = absurd (done_usage (plan_of order) k was bench a done e)
+
+-- ---- one verdict
+one_plan : (files : List ℕ → Option (List ℕ)) (plan : Plan) (a b : Answer) → IsPlanVerdict files plan a → IsPlanVerdict files plan b → a ≡ b
+one_plan files (Texts form source) a b is by = one_text files source a b is by
+one_plan files (Runs j) a b is by = one_run files j a b is by
+one_plan files (Evaluates first second) a b is by = one_eval files first second a b is by
+one_plan files (Refuses name) a b is by = one_unbuilt files name a b is by
+one_plan files Nothing a b is by = is ∙ sym by
+
+pub one_answer : (files : List ℕ → Option (List ℕ)) (asked : Asked) (a b : Answer) → IsVerdict files asked a → IsVerdict files asked b → a ≡ b
+one_answer files None a b is by = is ∙ sym by
+one_answer files (Some order) a b is by = one_plan files (plan_of order) a b is by

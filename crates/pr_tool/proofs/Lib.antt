@@ -1,3 +1,2 @@
 pub mod NotesLemmas
 pub mod CallLemmas
-pub mod OneAnswer

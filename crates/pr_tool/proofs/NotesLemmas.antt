@@ -1,6 +1,6 @@
 -- The line of an answer that is not Ok.
 use Rattle.std.proofs.Common.{◌≡◌, ◌≢◌, ℕ, List, [], ◌∷◌, ◌++◌, refl, ap, ◌∙◌}
-use Rattle.pr_tool.specs.declared.answers.Answer.{Answer}
+use Rattle.pr_tool_answers.specs.declared.answers.Answer.{Answer}
 use Rattle.pr_tool.specs.declared.notes.Bounds.{Bounds}
 use Rattle.pr_tool.specs.Notes.{answer_text, note_of}
 

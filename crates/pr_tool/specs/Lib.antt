@@ -1,5 +1,5 @@
-pub mod Answers
 pub mod Notes
 pub mod Noted
+pub mod Plans
 pub mod Words
 pub mod Calls

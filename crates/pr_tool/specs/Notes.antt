@@ -1,8 +1,8 @@
 -- The line that goes to the note where the answer is not Ok.
 use Rattle.std.specs.Prelude.{ℕ, List, [], ◌∷◌, ◌++◌, codes, decimal}
 use Rattle.pr_base.specs.declared.caps.Cap.{Cap}
-use Rattle.pr_tool.specs.declared.answers.Answer.{Answer}
-use Rattle.pr_tool.specs.declared.answers.Cause.{Cause}
+use Rattle.pr_tool_answers.specs.declared.answers.Answer.{Answer}
+use Rattle.pr_tool_answers.specs.declared.answers.Cause.{Cause}
 use Rattle.pr_tool.specs.declared.notes.Bounds.{Bounds}
 
 abbrev pub cap_name : Cap → List ℕ

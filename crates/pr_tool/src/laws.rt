@@ -1,7 +1,7 @@
 //! Laws of answers.
 
 ghost use Rattle.std.specs.Prelude.{◌≡◌, ℕ, List, Option};
-ghost use Rattle.pr_tool.specs.declared.answers.Answer.{Answer};
+ghost use Rattle.pr_tool_answers.specs.declared.answers.Answer.{Answer};
 ghost use Rattle.pr_tool.specs.Words.{Asked};
 ghost use Rattle.pr_tool.specs.Calls.{IsVerdict};
 

@@ -1,15 +1,15 @@
 //! The tool: words in, results out.
 #![tactic(auto)]
 
-mod answers;
 mod laws;
 mod modes;
 mod notes;
+mod plans;
 mod tool;
 
-pub use answers::{Answer, Cause};
 pub use laws::answer_law;
 pub use notes::{Bounds, put_note};
 pub use pr_base::Cap;
-pub use pr_exec::Bench;
+pub use pr_tool_answers::{Answer, Cause};
+pub use pr_tool_modes::Bench;
 pub use tool::piperench;

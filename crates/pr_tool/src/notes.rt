@@ -4,11 +4,11 @@ ghost use Rattle.arrayvec.specs.ArrayString.{array_string_len};
 ghost use Rattle.pr_tool.specs.Notes.{cap_name, cap_number, cause_text, answer_text, note_of};
 ghost use Rattle.pr_tool.specs.Noted.{GainsNote};
 
-use crate::answers::{Answer, Cause};
 use arrayvec::ArrayString;
 use itoa::Buffer;
 use pr_base::Cap;
 use pr_edge::{Sink, write_all};
+use pr_tool_answers::{Answer, Cause};
 
 type Line = ArrayString<128>;
 
@@ -22,16 +22,10 @@ pub struct Bounds {
 }
 
 impl Bounds {
-    /// Those of a run on the base fabric.
+    /// Those of a call that asks for nothing.
     pub const BASE: Bounds = Bounds {
         input_bytes: 16,
         sample_bytes: 17_592_186_044_416,
-    };
-
-    /// Those of an evaluation.
-    pub const EVAL: Bounds = Bounds {
-        input_bytes: 16,
-        sample_bytes: 16_777_216,
     };
 
     /// The number that the quantity may not pass.

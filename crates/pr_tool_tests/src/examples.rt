@@ -83,7 +83,14 @@ const SINGLE: [(&str, Case<'_>); 5] = [
     ),
     (
         "run",
-        (MOVING_SUM, "1\n", Answer::NotYet, 13, "", "not yet\n"),
+        (
+            MOVING_SUM,
+            "1\n2\n3\n4\n5\n",
+            Answer::Ok,
+            0,
+            "1\n3\n6\n10\n14\n",
+            "",
+        ),
     ),
     (
         "eval",
@@ -194,10 +201,10 @@ const LINES: [Line<'_>; 42] = [
     ),
     (
         &["run", "p", "s", "--fabric", "wide"],
-        Answer::NotYet,
-        13,
+        Answer::Ok,
+        0,
+        "6\n254\n",
         "",
-        "not yet\n",
     ),
     (
         &["run", "t", "s", "--fabric", "wide"],
@@ -208,10 +215,10 @@ const LINES: [Line<'_>; 42] = [
     ),
     (
         &["run", "p", "n", "--fabric=wide", "--stall", "n"],
-        Answer::NotYet,
-        13,
+        Answer::ReadFault,
+        10,
         "",
-        "not yet\n",
+        "read fault\n",
     ),
     (
         &["run", "n", "s", "--narrow"],

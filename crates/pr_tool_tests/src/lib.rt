@@ -6,10 +6,20 @@ mod benches;
 #[cfg(test)]
 mod calls;
 #[cfg(test)]
+mod configurations;
+#[cfg(test)]
 mod examples;
+#[cfg(test)]
+mod executions;
 #[cfg(test)]
 mod faults;
 #[cfg(test)]
 mod files;
 #[cfg(test)]
+mod run_faults;
+#[cfg(test)]
 mod streams;
+#[cfg(test)]
+mod texts;
+#[cfg(test)]
+mod trials;

@@ -1,5 +1,5 @@
-use Rattle.pr_tool.proofs.OneAnswer.{one-answer}
+use Rattle.pr_tool.proofs.CallLemmas.{one_answer}
 use Rattle.pr_tool.proofs.laws.answer_law.Goals as goal
 
 pub returns : goal.returns
-returns c = one-answer
+returns c = one_answer

@@ -1,7 +1,0 @@
-pub mod ConfigureLemmas
-pub mod ResultsLemmas
-pub mod FormLemmas
-pub mod OperationLemmas
-pub mod MeaningLemmas
-pub mod ThroughLemmas
-pub mod AlikeForms

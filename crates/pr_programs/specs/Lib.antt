@@ -1,6 +1,0 @@
-pub mod Samples
-pub mod Evaluations
-pub mod Results
-pub mod Starts
-pub mod Verdicts
-pub mod Lines

@@ -1,0 +1,14 @@
+pub mod Files
+pub mod Configurations
+pub mod Programs
+pub mod Sources
+pub mod Jobs
+pub mod Calls
+pub mod Texts
+pub mod Stalls
+pub mod Samples
+pub mod Ready
+pub mod Runs
+pub mod Executions
+pub mod Evaluations
+pub mod Lines

@@ -1,0 +1,89 @@
+-- Programs that are read from files, and why their texts are refused.
+use Rattle.std.specs.Prelude.{◌≡◌, ◌≤◌, ◌⊎◌, ℕ, List, length, Option, Some}
+use Rattle.pr_base.specs.declared.caps.Cap.{Cap}
+use Rattle.pr_edge.specs.Files.{Told}
+use Rattle.pr_lang.specs.declared.trees.Program.{Program}
+use Rattle.pr_conf.specs.Shape.{Shape}
+use Rattle.pr_scope.specs.Walk.{inputs_after, program_walk}
+use Rattle.pr_compile_front.specs.declared.faults.FrontFault.{FrontFault}
+use Rattle.pr_compile_front.specs.declared.faults.FrontFault.TheVariants as front
+use Rattle.pr_compile_front.specs.declared.fronts.Front.{Front}
+use Rattle.pr_compile_front.specs.Refusals.{HasWidths, IsRefusal}
+use Rattle.pr_compile_front.specs.Passed.{IsPassed}
+use Rattle.pr_compile.specs.declared.faults.CompileFault.{CompileFault}
+use Rattle.pr_compile.specs.declared.faults.CompileFault.TheVariants as fault
+use Rattle.pr_compile.specs.Configured.{IsCompiled}
+use Rattle.pr_compile.specs.Refusals.{IsRefused}
+use Rattle.pr_tool_answers.specs.declared.answers.Answer.{Answer}
+use Rattle.pr_tool_modes.specs.Files.{IsText, IsFileRefusal, IsRefusedFile}
+
+-- the widths of a program's inputs
+abbrev pub inputs_of : Program → List ℕ
+inputs_of program = inputs_after (program_walk program)
+
+-- ---- up to the widths of equations
+abbrev pub front_answer : FrontFault → Answer
+front_answer (front.Syntax token) = Answer.Syntax token
+front_answer (front.Scope rule item) = Answer.Scope rule item
+front_answer (front.NoWidth equation) = Answer.NoWidth equation
+front_answer (front.Limit which) = Answer.Limit which
+front_answer (front.Memory e) = Answer.Memory
+
+-- a point up to the widths of its equations refuses the text so
+pub record IsBadProgram (text : List ℕ) (answer : Answer) : Type 0 where
+  pub fault : FrontFault
+  pub refused : IsRefusal text fault
+  pub answers : answer ≡ front_answer fault
+
+-- the file has the text of this program, which no such point refuses; its equations have these widths
+pub record HasProgram (told : Told) (name : List ℕ) (program : Program) (widths : List ℕ) : Type 0 where
+  pub text : List ℕ
+  pub file : IsText told name text
+  pub short : length text ≤ 1048576
+  pub has : HasWidths text program widths
+
+-- and this is what is handed on
+pub record IsLoaded (told : Told) (name : List ℕ) (f : Front) : Type 0 where
+  pub text : List ℕ
+  pub file : IsText told name text
+  pub short : length text ≤ 1048576
+  pub passed : IsPassed text f
+
+-- ---- what is not built
+-- the file has a program that no such point refuses
+pub record HasPassed (told : Told) (name : List ℕ) : Type 0 where
+  pub program : Program
+  pub widths : List ℕ
+  pub has : HasProgram told name program widths
+
+-- what comes of a program that is read for what is not built: it is refused, or no such point refuses it
+abbrev pub IsUnbuilt : Told → List ℕ → ℕ → ℕ → Answer → Type 0
+IsUnbuilt told name before now answer =
+    IsFileRefusal 1048576 Cap.ProgramBytes IsBadProgram told name before now answer ⊎ ((answer ≡ Answer.NotYet) × HasPassed told name)
+
+-- by the files alone
+abbrev pub IsUnbuiltVerdict : (List ℕ → Option (List ℕ)) → List ℕ → Answer → Type 0
+IsUnbuiltVerdict files name answer =
+    IsRefusedFile 1048576 Cap.ProgramBytes IsBadProgram files name answer ⊎ ((answer ≡ Answer.NotYet) × HasPassed (Some files) name)
+
+-- ---- up to a configuration
+abbrev pub compile_answer : CompileFault → Answer
+compile_answer (fault.Syntax token) = Answer.Syntax token
+compile_answer (fault.Scope rule item) = Answer.Scope rule item
+compile_answer (fault.NoWidth equation) = Answer.NoWidth equation
+compile_answer (fault.NoFit unit) = Answer.NoFit unit
+compile_answer (fault.Limit which) = Answer.Limit which
+compile_answer (fault.Memory e) = Answer.Memory
+
+-- a point up to a configuration for N columns and P registers refuses the text so
+pub record IsUncompiled (N P : ℕ) (text : List ℕ) (answer : Answer) : Type 0 where
+  pub fault : CompileFault
+  pub refused : IsRefused N P text fault
+  pub answers : answer ≡ compile_answer fault
+
+-- the file has the text of a program that no point refuses, and this is its configuration
+pub record HasCompiled (told : Told) (name : List ℕ) (N P : ℕ) (conf : Shape) : Type 0 where
+  pub text : List ℕ
+  pub file : IsText told name text
+  pub short : length text ≤ 1048576
+  pub is : IsCompiled N P text conf

@@ -1,0 +1,77 @@
+-- Where a configuration comes from: a configuration file, or the file of a program that is compiled.
+use Rattle.std.specs.Prelude.{◌≡◌, ℕ, List, Option}
+use Rattle.pr_base.specs.declared.caps.Cap.{Cap}
+use Rattle.pr_edge.specs.Files.{Told}
+use Rattle.pr_conf.specs.Shape.{Shape}
+use Rattle.pr_conf.specs.Configuration.{shape_of}
+use Rattle.pr_code.specs.declared.fabrics.Fabric.{Fabric}
+use Rattle.pr_compile.specs.Configured.{IsCompiled}
+use Rattle.pr_tool_answers.specs.declared.answers.Answer.{Answer}
+use Rattle.pr_tool_modes.specs.declared.loadables.Loadable.{Loadable}
+use Rattle.pr_tool_modes.specs.Files.{IsFileRefusal, IsRefusedFile}
+use Rattle.pr_tool_modes.specs.Configurations.{HasConfiguration, IsBadConfiguration}
+use Rattle.pr_tool_modes.specs.Programs.{HasCompiled, IsUncompiled}
+
+pub data Source : Type 0 where
+  File : (name : List ℕ) → Source
+  Text : (name : List ℕ) (fabric : Fabric) → Source
+
+abbrev pub name_in : Source → List ℕ
+name_in (File name) = name
+name_in (Text name fabric) = name
+
+-- ---- fabrics
+abbrev pub columns : Fabric → ℕ
+columns Fabric.Base = 16
+columns Fabric.Wide = 32
+
+abbrev pub registers : Fabric → ℕ
+registers Fabric.Base = 8
+registers Fabric.Wide = 16
+
+abbrev pub columns_in : Loadable → ℕ
+columns_in (Loadable.Base conf) = 16
+columns_in (Loadable.Wide conf) = 32
+
+abbrev pub registers_in : Loadable → ℕ
+registers_in (Loadable.Base conf) = 8
+registers_in (Loadable.Wide conf) = 16
+
+abbrev pub shape_in : Loadable → Shape
+shape_in (Loadable.Base conf) = shape_of conf
+shape_in (Loadable.Wide conf) = shape_of conf
+
+-- ---- what comes from a source
+-- the configuration of the text, on the columns and registers of the fabric
+pub record CompilesTo (fabric : Fabric) (N P : ℕ) (text : List ℕ) (conf : Shape) : Type 0 where
+  pub columns_are : N ≡ columns fabric
+  pub registers_are : P ≡ registers fabric
+  pub is : IsCompiled N P text conf
+
+-- the same of the program in a file
+pub record IsOnFabric (told : Told) (name : List ℕ) (fabric : Fabric) (N P : ℕ) (conf : Shape) : Type 0 where
+  pub columns_are : N ≡ columns fabric
+  pub registers_are : P ≡ registers fabric
+  pub has : HasCompiled told name N P conf
+
+-- the source gives this configuration
+abbrev pub Gives : Told → Source → ℕ → ℕ → Shape → Type 0
+Gives told (File name) N P conf = HasConfiguration told name N P conf
+Gives told (Text name fabric) N P conf = IsOnFabric told name fabric N P conf
+
+-- the source gives a configuration
+pub record IsGood (told : Told) (source : Source) : Type 0 where
+  pub N : ℕ
+  pub P : ℕ
+  pub conf : Shape
+  pub gives : Gives told source N P conf
+
+-- why a source gives none
+abbrev pub IsSourceRefusal : Told → Source → ℕ → ℕ → Answer → Type 0
+IsSourceRefusal told (File name) before now answer = IsFileRefusal 16777216 Cap.ConfigBytes IsBadConfiguration told name before now answer
+IsSourceRefusal told (Text name fabric) before now answer = IsFileRefusal 1048576 Cap.ProgramBytes (IsUncompiled (columns fabric) (registers fabric)) told name before now answer
+
+-- by the files alone
+abbrev pub IsRefusedSource : (List ℕ → Option (List ℕ)) → Source → Answer → Type 0
+IsRefusedSource files (File name) answer = IsRefusedFile 16777216 Cap.ConfigBytes IsBadConfiguration files name answer
+IsRefusedSource files (Text name fabric) answer = IsRefusedFile 1048576 Cap.ProgramBytes (IsUncompiled (columns fabric) (registers fabric)) files name answer

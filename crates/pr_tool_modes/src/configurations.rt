@@ -1,0 +1,72 @@
+//! Configurations that are read from configuration files.
+ghost use Rattle.std.specs.Prelude.{◌≡◌, ◌≢◌, ◌≤◌, ℕ, List, None, IfOk, OnOk, IfErr};
+ghost use Rattle.pr_base.specs.declared.caps.Cap.{Cap};
+ghost use Rattle.pr_conf.specs.Configuration.{shape_of};
+ghost use Rattle.pr_code.specs.Spelling.{IsFile};
+ghost use Rattle.pr_code.specs.Rules.{bad_word, shape_read};
+ghost use Rattle.pr_tool_modes.specs.Files.{IsFileRefusal};
+ghost use Rattle.pr_tool_modes.specs.Configurations.{columns_of, registers_of, IsWordRefusal, IsLoadable, HasConfiguration, IsBadConfiguration};
+ghost use Rattle.pr_tool_modes.specs.Sources.{columns_in, registers_in, shape_in};
+
+use crate::files::read_file;
+use crate::loadables::Loadable;
+use pr_base::Cap;
+use pr_code::{CodeFault, Fabric, decode, fabric_of};
+use pr_conf::Configuration;
+use pr_edge::Shelf;
+use pr_tool_answers::Answer;
+use std::alloc::Global;
+
+/// The bytes of a configuration file at most.
+const LIMIT: usize = 16_777_216;
+
+/// The configuration of a file's bytes, on this fabric.
+fn decode_bytes<const N: usize, const P: usize>(
+    alloc: Global,
+    bytes: &[u8],
+) -> Result<Configuration<N, P>, Answer>
+    requires columns { 1 ≤ N }
+    requires most_columns { N ≤ 64 }
+    requires registers { 2 ≤ P }
+    requires most_registers { P ≤ 16 }
+    ensures good { OnOk result (bad_word N P bytes.now ≡ None) }
+    ensures file { IfOk result (λ c. IsFile N P (shape_of c) bytes.now) }
+    ensures shape { IfOk result (λ c. shape_of c ≡ shape_read N bytes.now) }
+    ensures refused { IfErr result (IsWordRefusal (bad_word N P bytes.now)) }
+{
+    match decode::<N, P>(alloc, bytes) {
+        Ok(conf) => Ok(conf),
+        Err(CodeFault::BadConfig { rule, place }) => Err(Answer::BadConfig { rule, place }),
+        Err(CodeFault::Memory(_)) => Err(Answer::Memory),
+    }
+}
+
+/// The configuration of a file's bytes, on the fabric that they name.
+fn decode_named(alloc: Global, bytes: &[u8]) -> Result<Loadable, Answer>
+    ensures read { IfOk result (λ l. IsLoadable (columns_in l) (registers_in l) (shape_in l) bytes.now) }
+    ensures refused { IfErr result (IsWordRefusal (bad_word (columns_of bytes.now) (registers_of bytes.now) bytes.now)) }
+{
+    match fabric_of(bytes) {
+        Fabric::Base => Ok(Loadable::Base(decode_bytes::<16, 8>(alloc, bytes)?)),
+        Fabric::Wide => Ok(Loadable::Wide(decode_bytes::<32, 16>(alloc, bytes)?)),
+    }
+}
+
+/// Reads the configuration of a file, on the fabric that the file names.
+pub fn read_configuration<S: Shelf>(
+    alloc: Global,
+    shelf: &mut S,
+    name: &str,
+) -> Result<Loadable, Answer>
+    ensures read { IfOk result (λ l. HasConfiguration (S.told shelf.old) name.now (columns_in l) (registers_in l) (shape_in l)) }
+    ensures refused { IfErr result (IsFileRefusal 16777216 Cap.ConfigBytes IsBadConfiguration (S.told shelf.old) name.now (S.faults shelf.old) (S.faults shelf.new)) }
+    ensures later { S.faults shelf.old ≤ S.faults shelf.new }
+    ensures same { S.told shelf.new ≡ S.told shelf.old }
+    ensures others { (q : List ℕ) → q ≢ name.now → S.reach shelf.new q ≡ S.reach shelf.old q }
+{
+    let bytes = match read_file(alloc, shelf, name, LIMIT, Cap::ConfigBytes) {
+        Ok(bytes) => bytes,
+        Err(answer) => return Err(answer),
+    };
+    decode_named(alloc, &bytes)
+}

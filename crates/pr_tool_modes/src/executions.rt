@@ -1,0 +1,94 @@
+//! A configuration that is run on samples.
+ghost use Rattle.std.specs.Prelude.{◌≡◌, ◌≢◌, ◌≤◌, ◌⊎◌, ℕ, List, Some, IfOk, IfErr, OnErr};
+ghost use Rattle.pr_edge.specs.Count.{Rose};
+ghost use Rattle.pr_conf.specs.Configuration.{shape_of};
+ghost use Rattle.pr_run.specs.Setting.{view};
+ghost use Rattle.pr_tool_modes.specs.Calls.{call};
+ghost use Rattle.pr_tool_modes.specs.Jobs.{job_of, IsNoStall, IsNeither};
+ghost use Rattle.pr_tool_modes.specs.Stalls.{IsStallRefusal};
+ghost use Rattle.pr_tool_modes.specs.Executions.{HasRun, HasCome};
+
+use crate::benches::Bench;
+use crate::jobs::Job;
+use crate::loadables::Loadable;
+use crate::ready::make_ready;
+use crate::runs::{Over, run_all};
+use crate::sources::load;
+use crate::stalls::read_stall;
+use pr_conf::Configuration;
+use pr_edge::{Shelf, Sink};
+use pr_tool_answers::Answer;
+use std::alloc::Global;
+
+/// Runs a configuration as the job says, whose stall text is read first, and then the samples as the run asks for them. Where
+/// the stall text is refused, or there is no memory, nothing is written. After the run has begun no memory is taken.
+fn run_on<const N: usize, const P: usize, S: Shelf, K: Sink>(
+    alloc: Global,
+    conf: Configuration<N, P>,
+    job: &Job<'_>,
+    shelf: &mut S,
+    out: &mut K,
+) -> Result<Over<N, P>, Answer>
+    ensures ran { IfOk result (λ o. HasRun (IsNoStall (job_of job.now)) (shape_of conf.entry) (job_of job.now)
+        (view (S.told shelf.old) (S.reach shelf.old) (S.faults shelf.old)) (view (S.told shelf.new) (S.reach shelf.new) (S.faults shelf.new))
+        (K.told out.old) (K.told out.new) o.machine o.answer) }
+    ensures refused { IfErr result (λ a. IsStallRefusal (S.told shelf.old) (job_of job.now).stall (S.faults shelf.old) (S.faults shelf.new) a ⊎ (a ≡ Answer.Memory)) }
+    ensures unwritten { OnErr result (K.told out.new ≡ K.told out.old) }
+    ensures unread { OnErr result ((q : List ℕ) → IsNoStall (job_of job.now) q → S.reach shelf.new q ≡ S.reach shelf.old q) }
+    ensures write_fault { IfOk result (λ o. o.answer ≡ Answer.WriteFault → Rose (K.faults out.old) (K.faults out.new)) }
+    ensures told { S.told shelf.new ≡ S.told shelf.old }
+    ensures others { (q : List ℕ) → q ≢ (job_of job.now).second → IsNoStall (job_of job.now) q → S.reach shelf.new q ≡ S.reach shelf.old q }
+    ensures shelf_later { S.faults shelf.old ≤ S.faults shelf.new }
+    ensures out_later { K.faults out.old ≤ K.faults out.new }
+{
+    let stall = match read_stall(alloc, shelf, job.stall) {
+        Ok(stall) => stall,
+        Err(answer) => return Err(answer),
+    };
+    let ready = match make_ready(alloc, conf, job.stripes, job.samples, stall) {
+        Ok(ready) => ready,
+        Err(_) => return Err(Answer::Memory),
+    };
+    Ok(run_all(ready, job.log, shelf, out))
+}
+
+/// Runs the configuration of a source on the samples of a file, on so many stripes, under the stall file where there is one.
+/// The line of each result goes to `out`, with the log among them where it is asked for, and the machine to the bench.
+///
+/// The source is read first, then the stall text, and then the samples as the run asks for them. Where one of the first two is
+/// refused, or there is no memory, nothing is written and the bench is as it was. After the run has begun no memory is taken.
+pub fn execute<S: Shelf, K: Sink>(
+    alloc: Global,
+    job: &Job<'_>,
+    shelf: &mut S,
+    out: &mut K,
+    bench: &mut Bench,
+) -> Answer
+    // What it came to: a refusal before the run, or the run.
+    ensures ended { HasCome (job_of job.now) (call
+        (view (S.told shelf.old) (S.reach shelf.old) (S.faults shelf.old)) (view (S.told shelf.new) (S.reach shelf.new) (S.faults shelf.new))
+        (K.told out.old) (K.told out.new) (K.faults out.old) (K.faults out.new)) bench.old bench.new result }
+
+    ensures told { S.told shelf.new ≡ S.told shelf.old }
+    ensures others { (q : List ℕ) → q ≢ (job_of job.now).second → IsNeither (job_of job.now) q → S.reach shelf.new q ≡ S.reach shelf.old q }
+    ensures shelf_later { S.faults shelf.old ≤ S.faults shelf.new }
+    ensures out_later { K.faults out.old ≤ K.faults out.new }
+{
+    match load(alloc, &job.source, shelf) {
+        Err(answer) => answer,
+        Ok(Loadable::Base(conf)) => match run_on(alloc, conf, job, shelf, out) {
+            Err(answer) => answer,
+            Ok(Over { answer, machine }) => {
+                *bench = Bench::Base(machine);
+                answer
+            }
+        },
+        Ok(Loadable::Wide(conf)) => match run_on(alloc, conf, job, shelf, out) {
+            Err(answer) => answer,
+            Ok(Over { answer, machine }) => {
+                *bench = Bench::Wide(machine);
+                answer
+            }
+        },
+    }
+}

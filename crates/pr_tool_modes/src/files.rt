@@ -1,0 +1,31 @@
+//! Files that are read whole.
+ghost use Rattle.std.specs.Prelude.{◌≡◌, ◌≢◌, ◌≤◌, ℕ, List, length, IfOk, IfErr};
+ghost use Rattle.pr_tool_modes.specs.Files.{IsText, IsUnread};
+
+use pr_base::Cap;
+use pr_edge::{ReadAll, Shelf, read_all};
+use pr_tool_answers::Answer;
+use std::alloc::Global;
+
+/// Reads a file whole, if it has at most so many bytes; `cap` names this limit.
+pub fn read_file<S: Shelf>(
+    alloc: Global,
+    shelf: &mut S,
+    name: &str,
+    limit: usize,
+    cap: Cap,
+) -> Result<Vec<u8>, Answer>
+    ensures text { IfOk result (λ v. IsText (S.told shelf.old) name.now v.items) }
+    ensures short { IfOk result (λ v. length v.items ≤ limit) }
+    ensures refused { IfErr result (IsUnread limit cap (S.told shelf.old) name.now (S.faults shelf.old) (S.faults shelf.new)) }
+    ensures later { S.faults shelf.old ≤ S.faults shelf.new }
+    ensures same { S.told shelf.new ≡ S.told shelf.old }
+    ensures others { (q : List ℕ) → q ≢ name.now → S.reach shelf.new q ≡ S.reach shelf.old q }
+{
+    match read_all(alloc, shelf, name, limit) {
+        Ok(bytes) => Ok(bytes),
+        Err(ReadAll::ReadFault) => Err(Answer::ReadFault),
+        Err(ReadAll::TooLong) => Err(Answer::Limit { which: cap }),
+        Err(ReadAll::Memory(_)) => Err(Answer::Memory),
+    }
+}

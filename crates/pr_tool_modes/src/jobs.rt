@@ -1,0 +1,38 @@
+//! What a run is asked to do.
+ghost use Rattle.std.specs.Prelude.{◌≤◌};
+
+use pr_code::Fabric;
+
+/// Where a configuration comes from.
+#[derive(Clone, Copy, PartialEq, Eq, Debug)]
+pub enum Source<'a> {
+    /// From a configuration file.
+    File {
+        /// Its name.
+        name: &'a str,
+    },
+    /// From the file of a program, which is compiled.
+    Program {
+        /// Its name.
+        name: &'a str,
+        /// The fabric that it is compiled for.
+        fabric: Fabric,
+    },
+}
+
+/// What a run is asked to do.
+#[derive(Clone, Copy, PartialEq, Eq, Debug)]
+pub struct Job<'a> {
+    /// Where the configuration comes from.
+    pub source: Source<'a>,
+    /// The name of the file of samples.
+    pub samples: &'a str,
+    /// The name of the stall file, where there is one.
+    pub stall: Option<&'a str>,
+    /// The number of stripes.
+    pub stripes: usize,
+    /// Whether the log is written among the results.
+    pub log: bool,
+    ghost least: { 2 ≤ stripes },
+    ghost greatest: { stripes ≤ 256 },
+}

@@ -1,0 +1,33 @@
+//! The modes of the tool: what each reads, and what it writes.
+#![tactic(auto)]
+
+mod benches;
+mod configurations;
+mod evaluations;
+mod executions;
+mod files;
+mod jobs;
+mod laws;
+mod lines;
+mod loadables;
+mod programs;
+mod ready;
+mod runs;
+mod samples;
+mod sources;
+mod stalls;
+mod texts;
+
+pub use benches::Bench;
+pub use evaluations::eval;
+pub use executions::execute;
+pub use files::read_file;
+pub use jobs::{Job, Source};
+pub use laws::verdict_law;
+pub use loadables::Loadable;
+pub use pr_base::Cap;
+pub use pr_code::Fabric;
+pub use pr_tool_answers::Answer;
+pub use programs::refuse_program;
+pub use sources::load;
+pub use texts::{Form, write_text};

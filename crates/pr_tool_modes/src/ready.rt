@@ -1,0 +1,81 @@
+//! What is made before a run.
+ghost use Rattle.std.specs.Prelude.{◌≡◌, ◌≤◌, [], length, IfOk};
+ghost use Rattle.pr_conf.specs.Configuration.{shape_of};
+ghost use Rattle.pr_samples.specs.Stall.{turns_left};
+ghost use Rattle.pr_machine.specs.Stands.{Stands, conf_of, stripes_of};
+ghost use Rattle.pr_run.specs.Setting.{stall_turns};
+ghost use Rattle.pr_tool_modes.specs.Ready.{IsReady, IsFeedOf};
+
+use pr_conf::Configuration;
+use pr_machine::{Bare, Machine, Running};
+use pr_run::Room;
+use pr_samples::{Feed, Stall};
+use std::alloc::{AllocError, Global};
+
+/// All that a run takes.
+#[derive(Drop)]
+pub struct Ready<const N: usize, const P: usize> {
+    /// A machine that was just loaded.
+    pub machine: Machine<N, P, Running>,
+    /// The samples, of which none was asked for.
+    pub feed: Feed,
+    /// The stall text.
+    pub stall: Stall,
+    /// The buffers.
+    pub room: Room,
+}
+
+/// A machine of so many stripes that was just loaded.
+fn load<const N: usize, const P: usize>(
+    alloc: Global,
+    conf: Configuration<N, P>,
+    stripes: usize,
+) -> Result<Machine<N, P, Running>, AllocError>
+    requires two { 2 ≤ stripes }
+    requires most { stripes ≤ 256 }
+    ensures { IfOk result (λ m. Stands m (shape_of conf.entry) stripes []) }
+{
+    let machine = Machine::<N, P, Bare>::make(alloc, stripes)?;
+    match machine.load(alloc, conf) {
+        Ok(machine) => Ok(machine),
+        Err(_) => Err(AllocError),
+    }
+}
+
+/// The samples of a file, for a machine.
+fn open_feed<const N: usize, const P: usize>(
+    alloc: Global,
+    name: &str,
+    machine: &Machine<N, P, Running>,
+) -> Result<Feed, AllocError>
+    ensures { IfOk result (λ f. IsFeedOf (conf_of machine.now).inputs name.now f) }
+{
+    Feed::make(alloc, name, &machine.conf().inputs)
+}
+
+/// All that a run of a configuration takes, on so many stripes and on the samples of this file.
+pub fn make_ready<const N: usize, const P: usize>(
+    alloc: Global,
+    conf: Configuration<N, P>,
+    stripes: usize,
+    samples: &str,
+    stall: Stall,
+) -> Result<Ready<N, P>, AllocError>
+    requires two { 2 ≤ stripes }
+    requires most { stripes ≤ 256 }
+    requires few { length (turns_left stall) ≤ 1048576 }
+    ensures ready { IfOk result (λ r. IsReady r.machine r.feed r.stall samples.now) }
+    ensures conf { IfOk result (λ r. conf_of r.machine ≡ shape_of conf.entry) }
+    ensures stripes { IfOk result (λ r. stripes_of r.machine ≡ stripes) }
+    ensures turns { IfOk result (λ r. stall_turns r.stall ≡ stall_turns stall) }
+{
+    let machine = load(alloc, conf, stripes)?;
+    let feed = open_feed(alloc, samples, &machine)?;
+    let room = Room::make(alloc)?;
+    Ok(Ready {
+        machine,
+        feed,
+        stall,
+        room,
+    })
+}

@@ -1,0 +1,55 @@
+//! Stall texts that are read from files.
+ghost use Rattle.std.specs.Prelude.{◌≡◌, ◌≢◌, ◌≤◌, ℕ, List, length, Some, IfOk, IfErr, IsSomeAnd, option_map};
+ghost use Rattle.pr_base.specs.declared.caps.Cap.{Cap};
+ghost use Rattle.pr_samples.specs.Stall.{turns_left};
+ghost use Rattle.pr_run.specs.Setting.{stall_turns};
+ghost use Rattle.pr_tool_modes.specs.Files.{IsUnread};
+ghost use Rattle.pr_tool_modes.specs.Stalls.{IsStallText, HasStall, IsStallRefusal};
+
+use crate::files::read_file;
+use pr_base::Cap;
+use pr_edge::Shelf;
+use pr_samples::Stall;
+use pr_tool_answers::Answer;
+use std::alloc::Global;
+
+/// The bytes of a stall text at most.
+const LIMIT: usize = 1_048_576;
+
+/// The text of a stall file; without one it is empty.
+fn read_text<S: Shelf>(alloc: Global, shelf: &mut S, name: Option<&str>) -> Result<Vec<u8>, Answer>
+    ensures text { IfOk result (λ v. IsStallText (S.told shelf.old) (option_map (λ s. s.now) name.entry) v.items) }
+    ensures short { IfOk result (λ v. length v.items ≤ 1048576) }
+    ensures refused { IfErr result (λ a. IsSomeAnd (option_map (λ s. s.now) name.entry) (λ n. IsUnread 1048576 Cap.StallBytes (S.told shelf.old) n (S.faults shelf.old) (S.faults shelf.new) a)) }
+    ensures later { S.faults shelf.old ≤ S.faults shelf.new }
+    ensures same { S.told shelf.new ≡ S.told shelf.old }
+    ensures others { (q : List ℕ) → option_map (λ s. s.now) name.entry ≢ Some q → S.reach shelf.new q ≡ S.reach shelf.old q }
+{
+    match name {
+        None => Ok(Vec::new(alloc)),
+        Some(name) => read_file(alloc, shelf, name, LIMIT, Cap::StallBytes),
+    }
+}
+
+/// The stall text of a run: that of a file, or one without turns.
+pub fn read_stall<S: Shelf>(
+    alloc: Global,
+    shelf: &mut S,
+    name: Option<&str>,
+) -> Result<Stall, Answer>
+    ensures stall { IfOk result (λ s. HasStall (S.told shelf.old) (option_map (λ s. s.now) name.entry) (stall_turns s)) }
+    ensures few { IfOk result (λ s. length (turns_left s) ≤ 1048576) }
+    ensures refused { IfErr result (λ a. IsStallRefusal (S.told shelf.old) (option_map (λ s. s.now) name.entry) (S.faults shelf.old) (S.faults shelf.new) a) }
+    ensures later { S.faults shelf.old ≤ S.faults shelf.new }
+    ensures same { S.told shelf.new ≡ S.told shelf.old }
+    ensures others { (q : List ℕ) → option_map (λ s. s.now) name.entry ≢ Some q → S.reach shelf.new q ≡ S.reach shelf.old q }
+{
+    let text = match read_text(alloc, shelf, name) {
+        Ok(text) => text,
+        Err(answer) => return Err(answer),
+    };
+    match Stall::make(text) {
+        Ok(stall) => Ok(stall),
+        Err(bad) => Err(Answer::BadStall { place: bad.place }),
+    }
+}

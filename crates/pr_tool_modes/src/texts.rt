@@ -1,0 +1,90 @@
+//! Texts of configurations.
+ghost use Rattle.std.specs.Prelude.{◌≡◌, ◌≢◌, ◌≤◌, ℕ, List, IfOk};
+ghost use Rattle.pr_conf.specs.Configuration.{shape_of};
+ghost use Rattle.pr_run.specs.Setting.{view};
+ghost use Rattle.pr_tool_modes.specs.Calls.{call};
+ghost use Rattle.pr_tool_modes.specs.Jobs.{source_of};
+ghost use Rattle.pr_tool_modes.specs.Sources.{name_in, columns_in, registers_in, shape_in};
+ghost use Rattle.pr_tool_modes.specs.Texts.{text_in, IsPut, IsTexted};
+
+use crate::jobs::Source;
+use crate::loadables::Loadable;
+use crate::sources::load;
+use pr_code::encode;
+use pr_code_show::show as summary;
+use pr_conf::Configuration;
+use pr_edge::{Shelf, Sink, write_all};
+use pr_tool_answers::Answer;
+use std::alloc::{AllocError, Global};
+
+/// A text of a configuration.
+#[derive(Clone, Copy, PartialEq, Eq, Debug)]
+pub enum Form {
+    /// Its summary.
+    Summary,
+    /// Its file, in the newer format.
+    File,
+}
+
+/// A text of a configuration.
+fn text_of<const N: usize, const P: usize>(
+    alloc: Global,
+    conf: &Configuration<N, P>,
+    form: Form,
+) -> Result<Vec<u8>, AllocError>
+    ensures { IfOk result (λ v. v.items ≡ text_in form N P (shape_of conf.now)) }
+{
+    match form {
+        Form::Summary => summary(alloc, conf),
+        Form::File => encode(alloc, conf),
+    }
+}
+
+/// A text of a configuration of either fabric.
+fn loaded_text(alloc: Global, loaded: &Loadable, form: Form) -> Result<Vec<u8>, AllocError>
+    ensures { IfOk result (λ v. v.items ≡ text_in form (columns_in loaded.now) (registers_in loaded.now) (shape_in loaded.now)) }
+{
+    match loaded {
+        Loadable::Base(conf) => text_of(alloc, conf, form),
+        Loadable::Wide(conf) => text_of(alloc, conf, form),
+    }
+}
+
+/// Writes a text of a configuration. It is made whole before its first byte is written.
+fn put_text<K: Sink>(alloc: Global, loaded: &Loadable, form: Form, out: &mut K) -> Answer
+    ensures put { IsPut (text_in form (columns_in loaded.now) (registers_in loaded.now) (shape_in loaded.now)) (K.told out.old) (K.told out.new) (K.faults out.old) (K.faults out.new) result }
+    ensures later { K.faults out.old ≤ K.faults out.new }
+{
+    let text = match loaded_text(alloc, loaded, form) {
+        Ok(text) => text,
+        Err(_) => return Answer::Memory,
+    };
+    match write_all(out, &text) {
+        Ok(()) => Answer::Ok,
+        Err(_) => Answer::WriteFault,
+    }
+}
+
+/// Writes a text of the configuration of a source.
+pub fn write_text<S: Shelf, K: Sink>(
+    alloc: Global,
+    source: &Source<'_>,
+    form: Form,
+    shelf: &mut S,
+    out: &mut K,
+) -> Answer
+    // What it came to: there is no configuration and nothing is written, or its text was to be written.
+    ensures ended { IsTexted form (source_of source.now) (call
+        (view (S.told shelf.old) (S.reach shelf.old) (S.faults shelf.old)) (view (S.told shelf.new) (S.reach shelf.new) (S.faults shelf.new))
+        (K.told out.old) (K.told out.new) (K.faults out.old) (K.faults out.new)) result }
+
+    ensures told { S.told shelf.new ≡ S.told shelf.old }
+    ensures others { (q : List ℕ) → q ≢ name_in (source_of source.now) → S.reach shelf.new q ≡ S.reach shelf.old q }
+    ensures shelf_later { S.faults shelf.old ≤ S.faults shelf.new }
+    ensures out_later { K.faults out.old ≤ K.faults out.new }
+{
+    match load(alloc, source, shelf) {
+        Err(answer) => answer,
+        Ok(loaded) => put_text(alloc, &loaded, form, out),
+    }
+}
