@@ -23,7 +23,6 @@ pub record IsConfigured (N P : ℕ) (equations : List EquationShape) (widths : L
   pub placement : PlacementShape
   pub greedy : IsGreedy N P (net_of equations widths outputs) placement
   pub is : conf ≡ conf_of N (net_of equations widths outputs) placement
-  pub stub : ⊥
 
 -- ---- a program, with the widths of its equations
 abbrev pub net_by : Program → List ℕ → NetShape

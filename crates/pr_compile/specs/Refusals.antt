@@ -35,7 +35,6 @@ pub record HasNetRefusal (N P : ℕ) (text : List ℕ) (e : CompileFault) : Type
   pub widths : List ℕ
   pub has : HasWidths text program widths
   pub refused : IsNetRefusal N P (net_by program widths) e
-  pub stub : ⊥
 
 -- the text is refused, and so
 abbrev pub IsRefused : ℕ → ℕ → List ℕ → CompileFault → Type 0

@@ -13,9 +13,12 @@ ghost use Rattle.pr_compile.specs.Refusals.{IsNetAnswer, IsCompileAnswer};
 use crate::faults::CompileFault;
 use pr_compile_front::{Front, read_program};
 use pr_conf::Configuration;
+use pr_cut::cut;
 use pr_flat::Flat;
+use pr_place::place;
+use pr_route::route;
 use pr_width::Widths;
-use std::alloc::{AllocError, Global};
+use std::alloc::Global;
 
 /// A configuration, and how many units it was made of.
 #[derive(Drop)]
@@ -42,7 +45,13 @@ pub fn configure<const N: usize, const P: usize>(
     ensures units { IfOk result (λ c. c.units ≡ length (net_of (shapes_of flat.now.equations.items) widths.now flat.now.outputs.items).units) }
     ensures refused { IfErr result (IsNetAnswer N P (net_of (shapes_of flat.now.equations.items) widths.now flat.now.outputs.items)) }
 {
-    Err(CompileFault::Memory(AllocError))
+    let net = cut(alloc, flat, widths, N)?;
+    let placement = place::<N, P>(alloc, &net)?;
+    let conf = route::<N, P>(alloc, &net, &placement)?;
+    Ok(Compiled {
+        conf,
+        units: net.units.len(),
+    })
 }
 
 /// The configuration of a program that is refused at no point up to the widths of its equations; else why it has none.

@@ -1,11 +1,13 @@
 //! Why a text has no configuration.
 
 ghost use Rattle.std.specs.Prelude.{◌≡◌};
-ghost use Rattle.pr_compile.specs.Faults.{front_fault};
+ghost use Rattle.pr_compile.specs.Faults.{front_fault, cut_fault, place_fault};
 ghost use Rattle.pr_compile.specs.declared.faults.CompileFault.TheVariants.{Memory};
 
 use pr_base::Cap;
 use pr_compile_front::FrontFault;
+use pr_cut_plan::CutFault;
+use pr_place::PlaceFault;
 use std::alloc::AllocError;
 use thiserror::Error;
 
@@ -49,6 +51,28 @@ impl From<FrontFault> for CompileFault {
             FrontFault::NoWidth { equation } => CompileFault::NoWidth { equation },
             FrontFault::Limit(cap) => CompileFault::Limit(cap),
             FrontFault::Memory(error) => CompileFault::Memory(error),
+        }
+    }
+}
+
+impl From<CutFault> for CompileFault {
+    ghost from_gives = { λ a e. e ≡ cut_fault a };
+
+    fn from(fault: CutFault) -> CompileFault {
+        match fault {
+            CutFault::Limit(cap) => CompileFault::Limit(cap),
+            CutFault::Memory(error) => CompileFault::Memory(error),
+        }
+    }
+}
+
+impl From<PlaceFault> for CompileFault {
+    ghost from_gives = { λ a e. e ≡ place_fault a };
+
+    fn from(fault: PlaceFault) -> CompileFault {
+        match fault {
+            PlaceFault::NoFit { unit } => CompileFault::NoFit { unit },
+            PlaceFault::Memory(error) => CompileFault::Memory(error),
         }
     }
 }

@@ -1,417 +1,140 @@
-//! Operators that are one unit.
+//! Operators at their widths.
 
-ghost use Rattle.std.specs.Prelude.{ℕ, false, if◌then◌else◌, ◌≡◌, ◌≤◌, ◌<◌, ◌+◌, ◌-◌, ◌*◌, ◌/◌, ◌%◌, ◌^◌, ◌++◌, length, vec_len, OnOk, OnErr, IfOk, min, nat_lt, List};
-ghost use Rattle.pr_base.specs.Numbers.{slices_of, byte_at, top_mask_of};
-ghost use Rattle.pr_base.specs.declared.choices.Mode.{Mode};
-ghost use Rattle.pr_base.specs.declared.choices.Next.{Next};
-ghost use Rattle.pr_net.specs.declared.cells.Cell.{Cell};
-ghost use Rattle.pr_net.specs.declared.cells.Slice.{Slice};
-ghost use Rattle.pr_net.specs.declared.cells.Wire.{Wire};
-ghost use Rattle.pr_cut_units.specs.Cells.{plain, byte, top, bit_of, slice_at, slice_below, with_left, with_right, table_a, table_b, table_not_a};
-ghost use Rattle.pr_cut_units.specs.Parts.{each};
-ghost use Rattle.pr_cut_units.specs.Operators.{input_unit, bitwise, inverted, chosen, moved_left, extracted, concatenated, ends_whole};
+ghost use Rattle.std.specs.Prelude.{ℕ, ◌≡◌, ◌≤◌, ◌<◌, ◌+◌, ◌^◌, ◌++◌, min, [], ◌∷◌, true, List, length, OnOk, IfOk};
+ghost use Rattle.pr_flat.specs.Facts.{arity, has_lawful_ends};
+ghost use Rattle.pr_flat.specs.Rows.{takes};
+ghost use Rattle.pr_flat.specs.declared.equations.Op.{Op};
+ghost use Rattle.pr_cut_units.specs.Table.{argument_forms, units_at};
+ghost use Rattle.pr_cut_cells.specs.Arguments.{argument_of};
+ghost use Rattle.pr_cut.specs.Operators.{arguments_of, is_operator};
 
-use crate::cells::{bit_of, byte, plain, slice_at, slice_below, top, with_left, with_right};
-use crate::parts::push_unit;
-use pr_base::{Mode, Next, slices};
-use pr_net::{Cell, Slice, Unit, Wire, WireBit};
+use pr_cut_cells::Argument;
+use pr_cut_ops::{finished, operator_choice, operator_one, operator_two};
+use pr_flat::{Form, Op};
+use pr_flat_ops::{natural_choice, natural_one, natural_two};
+use pr_net::{Slice, Unit};
 use std::alloc::{AllocError, Global};
 
-/// The cells of an input.
-#[tactic(auto, using(pr_cut_units::proofs::EachLemmas::each_more))]
-fn input_cells(alloc: Global, w: u8, offset: u8) -> Result<Vec<Cell>, AllocError>
-    requires { offset ≤ 128 }
-    ensures count { IfOk result (λ all. vec_len all ≡ slices_of w) }
-    ensures all { IfOk result (λ all. all.items ≡ each (slices_of w) (λ i. record plain { a = Wire.Bus (offset + i); table = 170; mask = top w i })) }
+/// The kind and the width of an operand.
+fn form_of(a: &Argument) -> Form
+    ensures { result ≡ (argument_of a.now).form }
 {
-    let mut all = Vec::new(alloc);
-    for i in 0..slices(w) {
-        all.push(Cell {
-            a: Wire::Bus(offset + i as u8),
-            table: 0xaa,
-            mask: top(w, i),
-            ..plain()
-        })?;
+    Form {
+        signed: a.signed,
+        width: u16::from(a.width),
     }
-    Ok(all)
 }
 
-/// An input, whose bytes stand at an offset in the sample.
-pub fn input_unit(
+/// How many of so many bits are computed at a width.
+fn computed(natural: Form, w: u8) -> u8
+    ensures { result ≡ min w natural.width }
+{
+    u16::from(w).min(natural.width) as u8
+}
+
+/// An operator on one operand, at `w` bits.
+fn units_one(
     alloc: Global,
     units: &mut Vec<Unit>,
     w: u8,
-    offset: u8,
+    op: Op,
+    a: &Argument,
 ) -> Result<Vec<Slice>, AllocError>
-    requires place { offset ≤ 128 }
-    requires fits { length units.old.items < 2 ^ 32 }
-    ensures grows { OnOk result (length units.new.items ≤ length units.old.items + 1) }
-    ensures units { OnOk result (units.new.items ≡ units.old.items ++ (input_unit w offset (length units.old.items)).units) }
-    ensures slices { IfOk result (λ s. s.items ≡ (input_unit w offset (length units.old.items)).slices) }
+    requires some { 1 ≤ w }
+    requires few { w ≤ 128 }
+    requires operator { is_operator op ≡ true }
+    requires arity { arity op ≡ 1 }
+    requires takes { takes op ((argument_of a.now).form ∷ []) ≡ true }
+    requires ends { has_lawful_ends op ≡ true }
+    requires fits { length units.old.items + 2 < 2 ^ 32 }
+    ensures units { IfOk result (λ s. units.new.items ≡ units.old.items ++ (units_at w op (argument_of a.now ∷ []) (length units.old.items)).units) }
+    ensures slices { IfOk result (λ s. s.items ≡ (units_at w op (argument_of a.now ∷ []) (length units.old.items)).slices) }
 {
-    let cells = input_cells(alloc, w, offset)?;
-    push_unit(alloc, units, cells)
-}
-
-/// The cells of And, Or and Xor.
-#[tactic(auto, using(pr_cut_units::proofs::EachLemmas::each_more))]
-fn bitwise_cells(
-    alloc: Global,
-    e: u8,
-    table: u8,
-    x: &[Slice],
-    y: &[Slice],
-) -> Result<Vec<Cell>, AllocError>
-    ensures count { IfOk result (λ all. vec_len all ≡ slices_of e) }
-    ensures all { IfOk result (λ all. all.items ≡ each (slices_of e) (λ i. record plain { a = byte x.now i; hi = byte y.now i; table = table; mask = top e i })) }
-{
-    let mut all = Vec::new(alloc);
-    for i in 0..slices(e) {
-        all.push(Cell {
-            a: byte(x, i),
-            hi: byte(y, i),
-            table,
-            mask: top(e, i),
-            ..plain()
-        })?;
-    }
+    let natural = natural_one(op, form_of(a)).unwrap();
+    let e = computed(natural, w);
+    let x = operator_one(alloc, units, e, op, a)?;
+    let all = finished(alloc, units, w, e, natural.signed, &x)?;
     Ok(all)
 }
 
-/// And, Or and Xor, by their tables.
-pub fn bitwise(
+/// An operator on two operands, at `w` bits.
+fn units_two(
     alloc: Global,
     units: &mut Vec<Unit>,
-    e: u8,
-    table: u8,
-    x: &[Slice],
-    y: &[Slice],
+    w: u8,
+    op: Op,
+    a: &Argument,
+    b: &Argument,
 ) -> Result<Vec<Slice>, AllocError>
-    requires fits { length units.old.items < 2 ^ 32 }
-    ensures grows { OnOk result (length units.new.items ≤ length units.old.items + 1) }
-    ensures units { OnOk result (units.new.items ≡ units.old.items ++ (bitwise e table x.now y.now (length units.old.items)).units) }
-    ensures slices { IfOk result (λ s. s.items ≡ (bitwise e table x.now y.now (length units.old.items)).slices) }
+    requires some { 1 ≤ w }
+    requires few { w ≤ 128 }
+    requires arity { arity op ≡ 2 }
+    requires fits { length units.old.items + 20001 < 2 ^ 32 }
+    ensures units { IfOk result (λ s. units.new.items ≡ units.old.items ++ (units_at w op (argument_of a.now ∷ argument_of b.now ∷ []) (length units.old.items)).units) }
+    ensures slices { IfOk result (λ s. s.items ≡ (units_at w op (argument_of a.now ∷ argument_of b.now ∷ []) (length units.old.items)).slices) }
 {
-    let cells = bitwise_cells(alloc, e, table, x, y)?;
-    push_unit(alloc, units, cells)
-}
-
-/// The cells of Not.
-#[tactic(auto, using(pr_cut_units::proofs::EachLemmas::each_more))]
-fn inverted_cells(alloc: Global, e: u8, x: &[Slice]) -> Result<Vec<Cell>, AllocError>
-    ensures count { IfOk result (λ all. vec_len all ≡ slices_of e) }
-    ensures all { IfOk result (λ all. all.items ≡ each (slices_of e) (λ i. record plain { a = byte x.now i; table = 85; mask = top e i })) }
-{
-    let mut all = Vec::new(alloc);
-    for i in 0..slices(e) {
-        all.push(Cell {
-            a: byte(x, i),
-            table: 0x55,
-            mask: top(e, i),
-            ..plain()
-        })?;
-    }
+    let natural = natural_two(op, form_of(a), form_of(b));
+    let e = computed(natural, w);
+    let x = operator_two(alloc, units, e, op, a, b)?;
+    let all = finished(alloc, units, w, e, natural.signed, &x)?;
     Ok(all)
 }
 
-/// Not.
-pub fn inverted(
+/// A choice, at `w` bits.
+fn units_choice(
     alloc: Global,
     units: &mut Vec<Unit>,
-    e: u8,
-    x: &[Slice],
+    w: u8,
+    c: &Argument,
+    a: &Argument,
+    b: &Argument,
 ) -> Result<Vec<Slice>, AllocError>
-    requires fits { length units.old.items < 2 ^ 32 }
-    ensures grows { OnOk result (length units.new.items ≤ length units.old.items + 1) }
-    ensures units { OnOk result (units.new.items ≡ units.old.items ++ (inverted e x.now (length units.old.items)).units) }
-    ensures slices { IfOk result (λ s. s.items ≡ (inverted e x.now (length units.old.items)).slices) }
+    requires some { 1 ≤ w }
+    requires few { w ≤ 128 }
+    requires takes { takes Op.Choose ((argument_of c.now).form ∷ (argument_of a.now).form ∷ (argument_of b.now).form ∷ []) ≡ true }
+    requires fits { length units.old.items + 4 < 2 ^ 32 }
+    ensures units { IfOk result (λ s. units.new.items ≡ units.old.items ++ (units_at w Op.Choose (argument_of c.now ∷ argument_of a.now ∷ argument_of b.now ∷ []) (length units.old.items)).units) }
+    ensures slices { IfOk result (λ s. s.items ≡ (units_at w Op.Choose (argument_of c.now ∷ argument_of a.now ∷ argument_of b.now ∷ []) (length units.old.items)).slices) }
 {
-    let cells = inverted_cells(alloc, e, x)?;
-    push_unit(alloc, units, cells)
-}
-
-/// The cells of Choose.
-#[tactic(auto, using(pr_cut_units::proofs::EachLemmas::each_more))]
-fn chosen_cells(
-    alloc: Global,
-    e: u8,
-    c: &[Slice],
-    x: &[Slice],
-    y: &[Slice],
-) -> Result<Vec<Cell>, AllocError>
-    ensures count { IfOk result (λ all. vec_len all ≡ slices_of e) }
-    ensures all { IfOk result (λ all. all.items ≡ each (slices_of e) (λ i. record plain { a = byte x.now i; hi = byte y.now i; c = bit_of c.now 0; table = 172; mask = top e i })) }
-{
-    let mut all = Vec::new(alloc);
-    for i in 0..slices(e) {
-        all.push(Cell {
-            a: byte(x, i),
-            hi: byte(y, i),
-            c: bit_of(c, 0),
-            table: 0xac,
-            mask: top(e, i),
-            ..plain()
-        })?;
-    }
+    let natural = natural_choice(form_of(c), form_of(a), form_of(b)).unwrap();
+    let e = computed(natural, w);
+    let x = operator_choice(alloc, units, e, c, a, b)?;
+    let all = finished(alloc, units, w, e, natural.signed, &x)?;
     Ok(all)
 }
 
-/// Choose, by the lowest bit of `c`.
-pub fn chosen(
+/// An operator, at `w` bits.
+#[tactic(auto, using(crate::proofs::ItemLemmas::one_argument, crate::proofs::ItemLemmas::two_arguments, crate::proofs::ItemLemmas::three_arguments))]
+pub fn units_at(
     alloc: Global,
     units: &mut Vec<Unit>,
-    e: u8,
-    c: &[Slice],
-    x: &[Slice],
-    y: &[Slice],
-) -> Result<Vec<Slice>, AllocError>
-    requires fits { length units.old.items < 2 ^ 32 }
-    ensures grows { OnOk result (length units.new.items ≤ length units.old.items + 1) }
-    ensures units { OnOk result (units.new.items ≡ units.old.items ++ (chosen e c.now x.now y.now (length units.old.items)).units) }
-    ensures slices { IfOk result (λ s. s.items ≡ (chosen e c.now x.now y.now (length units.old.items)).slices) }
-{
-    let cells = chosen_cells(alloc, e, c, x, y)?;
-    push_unit(alloc, units, cells)
-}
-
-/// The slices of a shift to the left, where no byte is cut.
-#[tactic(auto, using(pr_cut_units::proofs::EachLemmas::each_more))]
-fn moved_left_slices(
-    alloc: Global,
-    e: u8,
     w: u8,
-    k: u8,
-    x: &[Slice],
+    op: Op,
+    args: &[Argument],
 ) -> Result<Vec<Slice>, AllocError>
-    ensures count { IfOk result (λ all. vec_len all ≡ slices_of e) }
-    ensures all { IfOk result (λ all. all.items ≡ each (slices_of e) (λ i. slice_below x.now i (k / 8))) }
+    requires some { 1 ≤ w }
+    requires few { w ≤ 128 }
+    requires operator { is_operator op ≡ true }
+    requires count { length args.now ≡ arity op }
+    requires takes { takes op (argument_forms (arguments_of args.now)) ≡ true }
+    requires ends { has_lawful_ends op ≡ true }
+    requires fits { length units.old.items + 20001 < 2 ^ 32 }
+    ensures units { IfOk result (λ s. units.new.items ≡ units.old.items ++ (units_at w op (arguments_of args.now) (length units.old.items)).units) }
+    ensures slices { IfOk result (λ s. s.items ≡ (units_at w op (arguments_of args.now) (length units.old.items)).slices) }
 {
-    let mut all = Vec::new(alloc);
-    for i in 0..slices(e) {
-        all.push(slice_below(x, i, usize::from(k) / 8))?;
+    match args {
+        [a] => {
+            let all = units_one(alloc, units, w, op, a)?;
+            Ok(all)
+        }
+        [a, b] => {
+            let all = units_two(alloc, units, w, op, a, b)?;
+            Ok(all)
+        }
+        [c, a, b] => {
+            let all = units_choice(alloc, units, w, c, a, b)?;
+            Ok(all)
+        }
+        _ => Ok(Vec::new(alloc)),
     }
-    Ok(all)
-}
-
-/// The cells of a shift to the left.
-#[tactic(auto, using(pr_cut_units::proofs::EachLemmas::each_more))]
-fn moved_left_cells(
-    alloc: Global,
-    e: u8,
-    w: u8,
-    k: u8,
-    x: &[Slice],
-) -> Result<Vec<Cell>, AllocError>
-    ensures count { IfOk result (λ all. vec_len all ≡ slices_of e) }
-    ensures all { IfOk result (λ all. all.items ≡ each (slices_of e) (λ i. with_left x.now k i (record plain { table = 204; mask = top e i }))) }
-{
-    let mut all = Vec::new(alloc);
-    for i in 0..slices(e) {
-        all.push(with_left(
-            x,
-            usize::from(k),
-            i,
-            Cell {
-                table: 0xcc,
-                mask: top(e, i),
-                ..plain()
-            },
-        ))?;
-    }
-    Ok(all)
-}
-
-/// A shift to the left.
-pub fn moved_left(
-    alloc: Global,
-    units: &mut Vec<Unit>,
-    e: u8,
-    w: u8,
-    k: u8,
-    x: &[Slice],
-) -> Result<Vec<Slice>, AllocError>
-    requires fits { length units.old.items < 2 ^ 32 }
-    ensures grows { OnOk result (length units.new.items ≤ length units.old.items + 1) }
-    ensures units { OnOk result (units.new.items ≡ units.old.items ++ (moved_left e w k x.now (length units.old.items)).units) }
-    ensures slices { IfOk result (λ s. s.items ≡ (moved_left e w k x.now (length units.old.items)).slices) }
-{
-    if k % 8 == 0 && ends_whole(u64::from(e), u64::from(w) + u64::from(k)) {
-        return moved_left_slices(alloc, e, w, k, x);
-    }
-    let cells = moved_left_cells(alloc, e, w, k, x)?;
-    push_unit(alloc, units, cells)
-}
-
-/// The slices of the bits from a place on, where no byte is cut.
-#[tactic(auto, using(pr_cut_units::proofs::EachLemmas::each_more))]
-fn extracted_slices(
-    alloc: Global,
-    e: u8,
-    w: u8,
-    l: u64,
-    x: &[Slice],
-) -> Result<Vec<Slice>, AllocError>
-    requires { l < 2 ^ 32 }
-    ensures count { IfOk result (λ all. vec_len all ≡ slices_of e) }
-    ensures all { IfOk result (λ all. all.items ≡ each (slices_of e) (λ i. slice_at x.now (i + l / 8))) }
-{
-    let mut all = Vec::new(alloc);
-    for i in 0..slices(e) {
-        all.push(slice_at(x, i + (l / 8) as usize))?;
-    }
-    Ok(all)
-}
-
-/// The cells of the bits from a place on.
-#[tactic(auto, using(pr_cut_units::proofs::EachLemmas::each_more))]
-fn extracted_cells(
-    alloc: Global,
-    e: u8,
-    w: u8,
-    l: u64,
-    x: &[Slice],
-) -> Result<Vec<Cell>, AllocError>
-    requires { l < 2 ^ 32 }
-    ensures count { IfOk result (λ all. vec_len all ≡ slices_of e) }
-    ensures all { IfOk result (λ all. all.items ≡ each (slices_of e) (λ i. with_right x.now l i (record plain { table = 204; mask = top e i }))) }
-{
-    let mut all = Vec::new(alloc);
-    for i in 0..slices(e) {
-        all.push(with_right(
-            x,
-            l as usize,
-            i,
-            Cell {
-                table: 0xcc,
-                mask: top(e, i),
-                ..plain()
-            },
-        ))?;
-    }
-    Ok(all)
-}
-
-/// The bits from a place on.
-pub fn extracted(
-    alloc: Global,
-    units: &mut Vec<Unit>,
-    e: u8,
-    w: u8,
-    l: u64,
-    x: &[Slice],
-) -> Result<Vec<Slice>, AllocError>
-    requires small { l < 2 ^ 32 }
-    requires fits { length units.old.items < 2 ^ 32 }
-    ensures grows { OnOk result (length units.new.items ≤ length units.old.items + 1) }
-    ensures units { OnOk result (units.new.items ≡ units.old.items ++ (extracted e w l x.now (length units.old.items)).units) }
-    ensures slices { IfOk result (λ s. s.items ≡ (extracted e w l x.now (length units.old.items)).slices) }
-{
-    if l % 8 == 0 && ends_whole(l + u64::from(e), u64::from(w)) {
-        return extracted_slices(alloc, e, w, l, x);
-    }
-    let cells = extracted_cells(alloc, e, w, l, x)?;
-    push_unit(alloc, units, cells)
-}
-
-/// The slices of a concatenation, where no byte is cut.
-#[tactic(auto, using(pr_cut_units::proofs::EachLemmas::each_more))]
-fn joined_slices(
-    alloc: Global,
-    e: u8,
-    wa: u8,
-    wb: u8,
-    x: &[Slice],
-    y: &[Slice],
-) -> Result<Vec<Slice>, AllocError>
-    ensures count { IfOk result (λ all. vec_len all ≡ slices_of e) }
-    ensures all { IfOk result (λ all. all.items ≡ each (slices_of e) (λ i. if nat_lt i (wb / 8) then slice_at y.now i else slice_below x.now i (wb / 8))) }
-{
-    let mut all = Vec::new(alloc);
-    for i in 0..slices(e) {
-        all.push(joined_slice(x, y, i, usize::from(wb) / 8))?;
-    }
-    Ok(all)
-}
-
-/// The cells of a concatenation.
-#[tactic(auto, using(pr_cut_units::proofs::EachLemmas::each_more))]
-fn joined_cells(
-    alloc: Global,
-    e: u8,
-    wa: u8,
-    wb: u8,
-    x: &[Slice],
-    y: &[Slice],
-) -> Result<Vec<Cell>, AllocError>
-    ensures count { IfOk result (λ all. vec_len all ≡ slices_of e) }
-    ensures all { IfOk result (λ all. all.items ≡ each (slices_of e) (λ i. with_left x.now wb i (record plain { a = byte y.now i; table = 238; mask = top e i }))) }
-{
-    let mut all = Vec::new(alloc);
-    for i in 0..slices(e) {
-        all.push(with_left(
-            x,
-            usize::from(wb),
-            i,
-            Cell {
-                a: byte(y, i),
-                table: 0xee,
-                mask: top(e, i),
-                ..plain()
-            },
-        ))?;
-    }
-    Ok(all)
-}
-
-/// A concatenation.
-pub fn joined(
-    alloc: Global,
-    units: &mut Vec<Unit>,
-    e: u8,
-    wa: u8,
-    wb: u8,
-    x: &[Slice],
-    y: &[Slice],
-) -> Result<Vec<Slice>, AllocError>
-    requires fits { length units.old.items < 2 ^ 32 }
-    ensures grows { OnOk result (length units.new.items ≤ length units.old.items + 1) }
-    ensures units { IfOk result (λ s. units.new.items ≡ units.old.items ++ (concatenated e (record { slices = x.now; form = record { signed = false; width = wa } }) (record { slices = y.now; form = record { signed = false; width = wb } }) (length units.old.items)).units) }
-    ensures slices { IfOk result (λ s. s.items ≡ (concatenated e (record { slices = x.now; form = record { signed = false; width = wa } }) (record { slices = y.now; form = record { signed = false; width = wb } }) (length units.old.items)).slices) }
-{
-    if wb % 8 == 0 && ends_whole(u64::from(e), u64::from(wa) + u64::from(wb)) {
-        return joined_slices(alloc, e, wa, wb, x, y);
-    }
-    let cells = joined_cells(alloc, e, wa, wb, x, y)?;
-    push_unit(alloc, units, cells)
-}
-
-/// Whether `e` of `u` bits end where the highest byte does, so that no byte has to be cut.
-fn ends_whole(e: u64, u: u64) -> bool
-    ensures { result ≡ ends_whole e u }
-{
-    e == u || e % 8 == 0
-}
-
-/// Slice `i` of a value above `q` whole bytes of another one.
-fn joined_slice(x: &[Slice], y: &[Slice], i: usize, q: usize) -> Slice
-    ensures { result ≡ (if nat_lt i q then slice_at y.now i else slice_below x.now i q) }
-{
-    if i < q {
-        slice_at(y, i)
-    } else {
-        slice_below(x, i, q)
-    }
-}
-
-/// The slices of a value of `w` bits: those that lack are 0.
-#[tactic(auto, using(pr_cut_units::proofs::EachLemmas::each_more))]
-pub fn filled_slices(alloc: Global, w: u8, x: &[Slice]) -> Result<Vec<Slice>, AllocError>
-    ensures count { IfOk result (λ all. vec_len all ≡ slices_of w) }
-    ensures all { IfOk result (λ all. all.items ≡ each (slices_of w) (λ i. slice_at x.now i)) }
-{
-    let mut all = Vec::new(alloc);
-    for i in 0..slices(w) {
-        all.push(slice_at(x, i))?;
-    }
-    Ok(all)
 }

@@ -13,12 +13,15 @@ use Rattle.pr_net.specs.Reading.{shown}
 use Rattle.pr_net.specs.Runs.{AreBytes, reading_at}
 use Rattle.pr_net.specs.Whole.{output_list as net_list}
 use Rattle.pr_net.proofs.RunsLemmas.{function_bytes}
-use Rattle.pr_cut_units.specs.Equations.{Plan, plan_of, operand_slices, cut_whole}
+use Rattle.pr_cut_units.specs.Equations.{Plan, plan_of, has_units, operand_slices, cut_whole}
 use Rattle.pr_cut_units.specs.Nets.{output_of, net_of}
 use Rattle.pr_cut_units.proofs.GoodNets.{good_whole}
 use Rattle.pr_cut_laws.proofs.Histories.{history, row_at}
 use Rattle.pr_cut_laws.proofs.Whole.{const_is}
-use Rattle.pr_cut_laws.proofs.Lawful.{all_wide}
+use Rattle.pr_cut_units.proofs.WideNets.{are_counted}
+use Rattle.pr_cut_units.proofs.EndNets.{value_long}
+use Rattle.pr_cut_laws.specs.Laws.{AreSamples, IsShown}
+use Rattle.pr_cut_laws.proofs.Lawful.{all_wide, HasUnits}
 use Rattle.pr_cut_laws.proofs.Closed.{operand_counts, counts_at, or_left, or_right}
 use Rattle.pr_cut_laws.proofs.Meaning.{samples_small, lawful_cut_shows}
 
@@ -67,3 +70,14 @@ outputs_from equations outputs widths samples flat all rows (o ∷ xs) lawful re
 pub net_lists : (equations : List EquationShape) (outputs : List Operand) (widths : List ℕ) (samples : List (List ℕ)) → IsFlat equations outputs → AreWidths equations widths → ((n : ℕ) (sample : List ℕ) → slice_get samples n ≡ Some sample → IsRow (input_widths equations) sample) → map (net_list (net_of equations widths outputs) samples) (net_of equations widths outputs).outputs ≡ map (output_list equations widths samples) outputs
 unfolding net_of
 net_lists equations outputs widths samples flat all rows = outputs_from equations outputs widths samples flat all rows outputs flat.given (λ t h. h)
+
+-- the slices of each equation that has units show its list
+pub value_shown : (equations : List EquationShape) (outputs : List Operand) (widths : List ℕ) (samples : List (List ℕ)) (i : ℕ) (e : EquationShape) → IsFlat equations outputs → AreWidths equations widths → AreSamples equations samples → slice_get equations i ≡ Some e → has_units (plan_of equations widths outputs) i e ≡ true → IsShown equations widths outputs samples i
+unfolding net_of
+value_shown equations outputs widths samples i e flat all rows there made =
+    let has : HasUnits (plan_of equations widths outputs) i = λ d at. (let same : e ≡ d = cc in ap (λ (x : EquationShape). has_units (plan_of equations widths outputs) i x) (sym same) ∙ made) in
+    let shows = λ (n : ℕ). lawful_cut_shows equations outputs widths samples flat all rows n i e there has in
+    record {
+      bytes = value_long equations outputs widths (are_counted equations outputs widths flat all) i e there made;
+      list = lists_are equations widths samples (λ n. shown (reading_at (cut_whole (plan_of equations widths outputs)).units (map (row_bytes (input_widths equations)) samples) n) (get_or (cut_whole (plan_of equations widths outputs)).values i [])) (λ row. get_or row i 0) (λ n. (shows n).is);
+    }

@@ -1,5 +1,5 @@
 -- Groups of two recurrences are apart since bodies are: what is tied to a recurrence stands in its body, by the order of units.
-use Rattle.std.proofs.Common.{◌≡◌, ◌<◌, ◌≤◌, ℕ, ◌+◌, false, Some, List, [], ◌∷◌, length, subst, sym, ◌∙◌, arith, inl, inr}
+use Rattle.std.proofs.Common.{◌≡◌, ◌<◌, ◌≤◌, ℕ, ◌+◌, false, Some, List, [], ◌∷◌, length, take, get_or, subst, sym, ◌∙◌, arith, inl, inr}
 use Rattle.std.specs.Prelude.{slice_index_or}
 use Rattle.std.specs.List.{slice_get, Contains}
 use Rattle.std.proofs.lemmas.Bool.{cases_lt, or_right, false≢true}
@@ -15,17 +15,18 @@ use Rattle.pr_net.specs.Shape.{cells_of}
 use Rattle.pr_net.specs.Order.{IsBefore, IsBitBefore, ReadsBefore, AllBefore}
 use Rattle.pr_net.proofs.Lists.{head_or_tail, in_none, only_head}
 use Rattle.pr_cut_units.specs.Reached.{hold_count}
-use Rattle.pr_cut_units.specs.Groups.{bit_wires, cell_wires}
-use Rattle.pr_cut_units.specs.Equations.{plan_of, hold_unit, first_unit}
+use Rattle.pr_cut_units.specs.Groups.{bit_wires, cell_wires, tied_from}
+use Rattle.pr_cut_units.specs.Equations.{plan_of, hold_unit, first_unit, cut_whole}
 use Rattle.pr_cut_units.specs.Nets.{net_of}
 use Rattle.pr_cut_units.proofs.GoodNets.{good_whole}
 use Rattle.pr_cut_units.proofs.WideNets.{are_wide}
 use Rattle.pr_cut_units.proofs.NetLawful.{order_at}
 use Rattle.pr_cut_units.proofs.StateNets.{hold_is}
 use Rattle.pr_cut_units.proofs.TiedNets.{own_rec, first_later}
-use Rattle.pr_cut_units.proofs.NetGrouped.{IsRec, rec_parts}
+use Rattle.pr_cut_units.proofs.NetGrouped.{holds_of, IsRec, rec_parts}
 use Rattle.pr_cut_units.proofs.NetApart.{TiedApart}
-use Rattle.pr_cut_units.proofs.DependNets.{tied_apart_by}
+use Rattle.pr_cut_units.proofs.DependNets.{Passes, tied_within, tied_apart_by}
+use Rattle.std.proofs.lemmas.List.{length-take, get_or-take}
 
 -- a cell of a unit reads bytes of earlier units
 bit_before : (u : ℕ) (c : WireBit) (w : Wire) → IsBitBefore u c → Contains (bit_wires c) w → IsBefore u w
@@ -64,7 +65,7 @@ pub record StartsIn (equations : List EquationShape) (widths : List ℕ) (output
       → Contains (cells_of net u) k → Contains (cell_wires k) (Wire.State v j) → hold_unit plan rec ≤ v → v < hold_unit plan rec + hold_count equations rec → first_unit plan first ≤ u)
 
 -- the group of a recurrence ends before the body of a later one
-body_after : (equations : List EquationShape) (widths : List ℕ) (outputs : List Operand) (a b u : ℕ) → IsFlat equations outputs
+pub body_after : (equations : List EquationShape) (widths : List ℕ) (outputs : List Operand) (a b u : ℕ) → IsFlat equations outputs
     → (let plan = plan_of equations widths outputs in a < b → IsRec equations plan.reached a → IsRec equations plan.reached b → InBody equations widths outputs b u → hold_unit plan a + hold_count equations a ≤ u)
 body_after equations widths outputs a b u flat l ra rb q =
     let plan = plan_of equations widths outputs in
@@ -81,20 +82,46 @@ body_after equations widths outputs a b u flat l ra rb q =
     let low = q.low rb.equation pb.init pb.first rb.there pb.is in
     omega (arith, own, at, end, low)
 
-pub tied_in_bodies : (equations : List EquationShape) (widths : List ℕ) (outputs : List Operand) → IsFlat equations outputs → AreWidths equations widths → StartsIn equations widths outputs → TiedApart equations widths outputs
+-- what units pass on: a unit that reads a state of a recurrence, or a unit of its body, stands in its body
+passes_body : (equations : List EquationShape) (widths : List ℕ) (outputs : List Operand) → IsFlat equations outputs → AreWidths equations widths → StartsIn equations widths outputs
+    → (let plan = plan_of equations widths outputs in let net = net_of equations widths outputs in (rec u : ℕ) → IsRec equations plan.reached rec → u < hold_unit plan rec → u < length net.units → Passes (holds_of plan rec) (InBody equations widths outputs rec) u (cells_of net u))
 unfolding net_of
-tied_in_bodies equations widths outputs flat wide s =
+passes_body equations widths outputs flat wide s =
     let plan = plan_of equations widths outputs in
     let net = net_of equations widths outputs in
     let good = good_whole plan (are_wide equations outputs widths flat wide) in
-    tied_apart_by equations widths outputs (InBody equations widths outputs) (record {
-      passes = λ rec u r high lu. record {
-        states = λ k v j ck cw lo hi. record { high = high; low = λ e init first there op. s.at rec u k v j e init first r there op high lu ck cw lo hi };
-        reads = λ k v j ck cw q. (let z : 0 + u ≡ u = omega arith in
-            let b : AllBefore u (cells_of net u) = subst (λ (n : ℕ). AllBefore n (cells_of net u)) z (order_at 0 net.units u good.order) in
-            let before : v < u = wire_before u k (Wire.Of v j) (cell_before u (cells_of net u) k b ck) cw in
-            record { high = high; low = λ e init first there op. (let t = q.low e init first there op in omega (arith, t, before)) });
-      };
-      apart = λ a b u l ra rb qa qb. (let end = body_after equations widths outputs a b u flat l ra rb qb in let h = qa.high in absurd (omega (arith, end, h)));
-      held = λ a b u l ra rb lo hi qb. (let end = body_after equations widths outputs a b u flat l ra rb qb in absurd (omega (arith, end, hi)));
-    })
+    λ rec u r high lu. record {
+      states = λ k v j ck cw lo hi. record { high = high; low = λ e init first there op. s.at rec u k v j e init first r there op high lu ck cw lo hi };
+      reads = λ k v j ck cw q. (let z : 0 + u ≡ u = omega arith in
+          let b : AllBefore u (cells_of net u) = subst (λ (n : ℕ). AllBefore n (cells_of net u)) z (order_at 0 net.units u good.order) in
+          let before : v < u = wire_before u k (Wire.Of v j) (cell_before u (cells_of net u) k b ck) cw in
+          record { high = high; low = λ e init first there op. (let t = q.low e init first there op in omega (arith, t, before)) });
+    }
+
+pub tied_in_bodies : (equations : List EquationShape) (widths : List ℕ) (outputs : List Operand) → IsFlat equations outputs → AreWidths equations widths → StartsIn equations widths outputs → TiedApart equations widths outputs
+tied_in_bodies equations widths outputs flat wide s = tied_apart_by equations widths outputs (InBody equations widths outputs) (record {
+  passes = passes_body equations widths outputs flat wide s;
+  apart = λ a b u l ra rb qa qb. (let end = body_after equations widths outputs a b u flat l ra rb qb in let h = qa.high in absurd (omega (arith, end, h)));
+  held = λ a b u l ra rb lo hi qb. (let end = body_after equations widths outputs a b u flat l ra rb qb in absurd (omega (arith, end, hi)));
+})
+
+-- a unit below this one that is tied to a recurrence stands in its body
+pub in_body : (equations : List EquationShape) (widths : List ℕ) (outputs : List Operand) (rec n u : ℕ) → IsFlat equations outputs → AreWidths equations widths → StartsIn equations widths outputs
+    → (let plan = plan_of equations widths outputs in IsRec equations plan.reached rec → n ≤ hold_unit plan rec → Contains (tied_from (holds_of plan rec) [] 0 (take n (cut_whole plan).units)) u → InBody equations widths outputs rec u × (u < n))
+unfolding net_of
+in_body equations widths outputs rec n u flat wide s r low c =
+    let plan = plan_of equations widths outputs in
+    let net = net_of equations widths outputs in
+    let Q = λ (u : ℕ). InBody equations widths outputs rec u × (u < n) in
+    let pass = passes_body equations widths outputs flat wide s in
+    tied_within (holds_of plan rec) Q [] 0 (take n net.units) (λ y h. absurd (in_none y h))
+    (λ i l. (let long = length-take n net.units in
+    let short : i < n = omega (arith, l, long) in
+    let z : i ≡ 0 + i = omega arith in
+    let same : get_or (take n net.units) i [] ≡ cells_of net i = get_or-take n net.units i [] short in
+    let p = pass rec i r (omega (arith, short, low)) (omega (arith, l, long)) in
+    subst (λ (k : ℕ). Passes (holds_of plan rec) Q k (get_or (take n net.units) i [])) z
+    (subst (λ (ks : List Cell). Passes (holds_of plan rec) Q i ks) (sym same) (record {
+      states = λ k v j ck cw lo hi. (p.states k v j ck cw lo hi, short);
+      reads = λ k v j ck cw q. (p.reads k v j ck cw q.0, short);
+    })))) u c

@@ -128,7 +128,7 @@ ones : (j n : ℕ) → sum (map (λ k. 1) (range_with_len j n)) ≡ n
 ones j zero = refl
 ones j (suc n) = sum_by-cons (λ k. k) 1 (map (λ k. 1) (range_with_len (j + 1) n)) ∙ omega (arith, ones (j + 1) n)
 
-takes_shifted : (left : Bool) (w : ℕ) (by : List Slice) (bits : ℕ) (x : List Slice) → Takes (shifted_by left w by bits x) bits
+pub takes_shifted : (left : Bool) (w : ℕ) (by : List Slice) (bits : ℕ) (x : List Slice) → Takes (shifted_by left w by bits x) bits
 takes_shifted left w by bits x =
     let p = takes_turns (shift_row left w by) (λ j. 1) 0 bits bits x (λ j before l. takes_unit _ _) (omega arith) in
     record { at = λ u. p.at u ∙ ones 0 bits }

@@ -174,14 +174,19 @@ output_units equations outputs widths i e there h =
     let z : i ≡ 0 + i = omega arith in
     or_right (is_input e.op) _ (reached_at outputs 0 equations i e there (subst (λ (k : ℕ). list_any (reads_equation k) outputs ≡ true) z h))
 
+-- the value of an equation that has units has a slice for each byte of its width
+pub value_long : (equations : List EquationShape) (outputs : List Operand) (widths : List ℕ) → AreCounted (plan_of equations widths outputs) 0 equations → (i : ℕ) (e : EquationShape) → slice_get equations i ≡ Some e → has_units (plan_of equations widths outputs) i e ≡ true → length (get_or (cut_whole (plan_of equations widths outputs)).values i []) ≡ slices_of (slice_index widths i)
+value_long equations outputs widths c i e there made =
+    let plan = plan_of equations widths outputs in
+    let z : i ≡ 0 + i = omega arith in
+    ap (λ (vs : List (List Slice)). length (get_or vs i [])) (values_are plan (cut_start equations) equations)
+    ∙ added_long plan (cut_start equations) 0 equations refl c i e there (subst (λ (k : ℕ). has_units plan k e ≡ true) z made)
+    ∙ ap (λ (k : ℕ). slices_of (slice_index widths k)) (sym z)
+
 pub output_long : (equations : List EquationShape) (outputs : List Operand) (widths : List ℕ) → AreCounted (plan_of equations widths outputs) 0 equations → (a : Operand) → is_lawful_output (length equations) a ≡ true → ((i : ℕ) → a ≡ Operand.Eq i → list_any (reads_equation i) outputs ≡ true)
     → length (operand_slices (plan_of equations widths outputs) (cut_whole (plan_of equations widths outputs)).values a) ≡ slices_of (operand_width widths a)
 output_long equations outputs widths c (Operand.Const k) h r = length-map (bytes_of (slices_of (number_width k)) k) (λ b. Slice.Const b) ∙ length-bytes_of (slices_of (number_width k)) k
 output_long equations outputs widths c (Operand.Eq i) h r =
-    let plan = plan_of equations widths outputs in
     let at = equation_at equations i (ltb-true i (length equations) h) in
-    let z : i ≡ 0 + i = omega arith in
-    ap (λ (vs : List (List Slice)). length (get_or vs i [])) (values_are plan (cut_start equations) equations)
-    ∙ added_long plan (cut_start equations) 0 equations refl c i at.0 at.1 (subst (λ (k : ℕ). has_units plan k at.0 ≡ true) z (output_units equations outputs widths i at.0 at.1 (r i refl)))
-    ∙ ap (λ (k : ℕ). slices_of (slice_index widths k)) (sym z)
+    value_long equations outputs widths c i at.0 at.1 (output_units equations outputs widths i at.0 at.1 (r i refl))
 output_long equations outputs widths c (Operand.Past rec k) h r = absurd (false≢true h)

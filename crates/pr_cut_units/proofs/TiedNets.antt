@@ -121,7 +121,7 @@ holds_there plan k (d ∷ es) (b ∷ flags) (suc i) e there op h =
     go false x m = m
 
 -- ---- the group of a recurrence
-last_number : (xs : List ℕ) (n a : ℕ) → 1 ≤ n → group_number (xs ++ each n (λ j. a + j)) ≡ a + (n - 1)
+pub last_number : (xs : List ℕ) (n a : ℕ) → 1 ≤ n → group_number (xs ++ each n (λ j. a + j)) ≡ a + (n - 1)
 last_number xs n a some =
     let f = λ (j : ℕ). a + j in
     let long : length (each n f) ≡ n = length-map-range_with_len f 0 n in

@@ -1,12 +1,4 @@
-pub mod Visible
-pub mod Given
+pub mod Latest
 pub mod Plain
-pub mod Weights
-pub mod Meanings
-pub mod Calls
-pub mod Changes
-pub mod Runs
-pub mod Defined
-pub mod ItemSteps
-pub mod Fed
-pub mod Sampled
+pub mod Points
+pub mod Whole

@@ -1,4 +1,4 @@
-pub mod Scopes
-pub mod Indices
-pub mod Least
-pub mod Worlds
+pub mod Keeping
+pub mod Outputs
+pub mod Reading
+pub mod Standing

@@ -1,18 +1,10 @@
-//! The plain meaning of a program, evaluated: each stream is a column of numbers, and each operator takes whole columns.
+//! The numbers of flat equations, sample by sample.
 #![tactic(auto)]
 
-mod amounts;
-mod arguments;
-mod counters;
-mod definitions;
 mod evaluation;
-mod items;
-mod looks;
-mod parts;
-mod references;
-mod scopes;
-mod steps;
-mod values;
-mod worlds;
+mod evaluator;
+mod reader;
+mod recent;
 
 pub use evaluation::eval;
+pub use evaluator::Evaluator;

@@ -3,12 +3,18 @@
 
 ghost use Rattle.std.specs.Prelude.{◌≡◌, ◌≤◌, ◌^◌, ◌<◌, All, IfOk, IfSome, IsTrue, length};
 ghost use Rattle.pr_base.specs.Rows.{IsRow};
+ghost use Rattle.pr_flat.specs.Shape.{shapes_of};
+ghost use Rattle.pr_flat.specs.Values.{input_widths};
+ghost use Rattle.pr_flat.specs.Widths.{AreWidths};
 ghost use Rattle.pr_scope.specs.Walk.{IsScoped};
 
 use pr_base::{Num, Sample, Width, cut};
+use pr_expand::{ExpandFault, expand};
+use pr_flat::Flat;
 use pr_parse::{ParseFault, parse, tokens};
 use pr_scope::{ScopeFault, Scoped, check};
 use pr_source::eval;
+use pr_width::{WidthFault, Widths, solve};
 use std::alloc::{AllocError, Global};
 use std::test::Fail;
 
@@ -92,6 +98,29 @@ fn program_of(alloc: Global, text: &[u8]) -> Result<Option<Scoped>, AllocError>
     }
 }
 
+/// The equations of a program, where they are not too many.
+fn equations_of(alloc: Global, scoped: &Scoped) -> Result<Option<Flat>, AllocError>
+    requires { IsScoped scoped.now.program scoped.now }
+    ensures { IfOk result (λ o. IfSome o (λ flat. input_widths (shapes_of flat.equations.items) ≡ scoped.now.inputs.items)) }
+{
+    match expand(alloc, scoped) {
+        Err(ExpandFault::Memory(error)) => Err(error),
+        Err(ExpandFault::Limit(_)) => Ok(None),
+        Ok(flat) => Ok(Some(flat)),
+    }
+}
+
+/// The widths of equations, where they have some.
+fn widths_of(alloc: Global, flat: &Flat) -> Result<Option<Widths>, AllocError>
+    ensures { IfOk result (λ o. IfSome o (λ widths. AreWidths (shapes_of flat.now.equations.items) widths)) }
+{
+    match solve(alloc, flat) {
+        Err(WidthFault::Memory(error)) => Err(error),
+        Err(WidthFault::NoWidth { .. }) => Ok(None),
+        Ok(widths) => Ok(Some(widths)),
+    }
+}
+
 fn same(rows: &[Sample], wanted: &[Sample]) -> bool {
     if rows.len() != wanted.len() {
         return false;
@@ -113,16 +142,22 @@ fn makes(
 ) -> Result<bool, AllocError>
     requires { IsScoped scoped.now.program scoped.now }
 {
+    let Some(flat) = equations_of(alloc, scoped)? else {
+        return Ok(false);
+    };
+    let Some(widths) = widths_of(alloc, &flat)? else {
+        return Ok(false);
+    };
     if !are_rows(&scoped.inputs, samples) {
         return Ok(false);
     }
-    let rows = eval(alloc, scoped, samples)?;
+    let rows = eval(alloc, &flat, &widths, samples)?;
     Ok(same(&rows, wanted))
 }
 
 fn is_right(alloc: Global, case: Case) -> Result<bool, AllocError> {
     let (text, samples, results) = case;
-    if text.len() > 2000 {
+    if text.len() > 8000 {
         return Ok(false);
     }
     let Some(scoped) = program_of(alloc, text.as_bytes())? else {
@@ -282,8 +317,73 @@ const DOCUMENTED: [Case; 35] = [
     ("input x:128; output y:8 = x + x;", "300", "88"),
 ];
 
-/// Widths of 1 and of 128 bits, signed operands at their edges, calls in loops and in recurrences.
-const WORKED_OUT: [Case; 21] = [
+/// Sixty functions, each of which names the one before twice in a loop without turns.
+const SIXTY_FUNCTIONS: &str = "input x:8; fn f0(a) { return a; }\n\
+    fn f1(a) { for i in 0..0 { let q = f0(a) + f0(a); } return a; }\n\
+    fn f2(a) { for i in 0..0 { let q = f1(a) + f1(a); } return a; }\n\
+    fn f3(a) { for i in 0..0 { let q = f2(a) + f2(a); } return a; }\n\
+    fn f4(a) { for i in 0..0 { let q = f3(a) + f3(a); } return a; }\n\
+    fn f5(a) { for i in 0..0 { let q = f4(a) + f4(a); } return a; }\n\
+    fn f6(a) { for i in 0..0 { let q = f5(a) + f5(a); } return a; }\n\
+    fn f7(a) { for i in 0..0 { let q = f6(a) + f6(a); } return a; }\n\
+    fn f8(a) { for i in 0..0 { let q = f7(a) + f7(a); } return a; }\n\
+    fn f9(a) { for i in 0..0 { let q = f8(a) + f8(a); } return a; }\n\
+    fn f10(a) { for i in 0..0 { let q = f9(a) + f9(a); } return a; }\n\
+    fn f11(a) { for i in 0..0 { let q = f10(a) + f10(a); } return a; }\n\
+    fn f12(a) { for i in 0..0 { let q = f11(a) + f11(a); } return a; }\n\
+    fn f13(a) { for i in 0..0 { let q = f12(a) + f12(a); } return a; }\n\
+    fn f14(a) { for i in 0..0 { let q = f13(a) + f13(a); } return a; }\n\
+    fn f15(a) { for i in 0..0 { let q = f14(a) + f14(a); } return a; }\n\
+    fn f16(a) { for i in 0..0 { let q = f15(a) + f15(a); } return a; }\n\
+    fn f17(a) { for i in 0..0 { let q = f16(a) + f16(a); } return a; }\n\
+    fn f18(a) { for i in 0..0 { let q = f17(a) + f17(a); } return a; }\n\
+    fn f19(a) { for i in 0..0 { let q = f18(a) + f18(a); } return a; }\n\
+    fn f20(a) { for i in 0..0 { let q = f19(a) + f19(a); } return a; }\n\
+    fn f21(a) { for i in 0..0 { let q = f20(a) + f20(a); } return a; }\n\
+    fn f22(a) { for i in 0..0 { let q = f21(a) + f21(a); } return a; }\n\
+    fn f23(a) { for i in 0..0 { let q = f22(a) + f22(a); } return a; }\n\
+    fn f24(a) { for i in 0..0 { let q = f23(a) + f23(a); } return a; }\n\
+    fn f25(a) { for i in 0..0 { let q = f24(a) + f24(a); } return a; }\n\
+    fn f26(a) { for i in 0..0 { let q = f25(a) + f25(a); } return a; }\n\
+    fn f27(a) { for i in 0..0 { let q = f26(a) + f26(a); } return a; }\n\
+    fn f28(a) { for i in 0..0 { let q = f27(a) + f27(a); } return a; }\n\
+    fn f29(a) { for i in 0..0 { let q = f28(a) + f28(a); } return a; }\n\
+    fn f30(a) { for i in 0..0 { let q = f29(a) + f29(a); } return a; }\n\
+    fn f31(a) { for i in 0..0 { let q = f30(a) + f30(a); } return a; }\n\
+    fn f32(a) { for i in 0..0 { let q = f31(a) + f31(a); } return a; }\n\
+    fn f33(a) { for i in 0..0 { let q = f32(a) + f32(a); } return a; }\n\
+    fn f34(a) { for i in 0..0 { let q = f33(a) + f33(a); } return a; }\n\
+    fn f35(a) { for i in 0..0 { let q = f34(a) + f34(a); } return a; }\n\
+    fn f36(a) { for i in 0..0 { let q = f35(a) + f35(a); } return a; }\n\
+    fn f37(a) { for i in 0..0 { let q = f36(a) + f36(a); } return a; }\n\
+    fn f38(a) { for i in 0..0 { let q = f37(a) + f37(a); } return a; }\n\
+    fn f39(a) { for i in 0..0 { let q = f38(a) + f38(a); } return a; }\n\
+    fn f40(a) { for i in 0..0 { let q = f39(a) + f39(a); } return a; }\n\
+    fn f41(a) { for i in 0..0 { let q = f40(a) + f40(a); } return a; }\n\
+    fn f42(a) { for i in 0..0 { let q = f41(a) + f41(a); } return a; }\n\
+    fn f43(a) { for i in 0..0 { let q = f42(a) + f42(a); } return a; }\n\
+    fn f44(a) { for i in 0..0 { let q = f43(a) + f43(a); } return a; }\n\
+    fn f45(a) { for i in 0..0 { let q = f44(a) + f44(a); } return a; }\n\
+    fn f46(a) { for i in 0..0 { let q = f45(a) + f45(a); } return a; }\n\
+    fn f47(a) { for i in 0..0 { let q = f46(a) + f46(a); } return a; }\n\
+    fn f48(a) { for i in 0..0 { let q = f47(a) + f47(a); } return a; }\n\
+    fn f49(a) { for i in 0..0 { let q = f48(a) + f48(a); } return a; }\n\
+    fn f50(a) { for i in 0..0 { let q = f49(a) + f49(a); } return a; }\n\
+    fn f51(a) { for i in 0..0 { let q = f50(a) + f50(a); } return a; }\n\
+    fn f52(a) { for i in 0..0 { let q = f51(a) + f51(a); } return a; }\n\
+    fn f53(a) { for i in 0..0 { let q = f52(a) + f52(a); } return a; }\n\
+    fn f54(a) { for i in 0..0 { let q = f53(a) + f53(a); } return a; }\n\
+    fn f55(a) { for i in 0..0 { let q = f54(a) + f54(a); } return a; }\n\
+    fn f56(a) { for i in 0..0 { let q = f55(a) + f55(a); } return a; }\n\
+    fn f57(a) { for i in 0..0 { let q = f56(a) + f56(a); } return a; }\n\
+    fn f58(a) { for i in 0..0 { let q = f57(a) + f57(a); } return a; }\n\
+    fn f59(a) { for i in 0..0 { let q = f58(a) + f58(a); } return a; }\n\
+    fn f60(a) { for i in 0..0 { let q = f59(a) + f59(a); } return a; }\n\
+    rec s:8 = 0 by f60(s@1) + x; output y = s;";
+
+/// Calls in loops and in recurrences, widths of 1 and of 128 bits, signed operands at their edges.
+const WORKED_OUT: [Case; 22] = [
+    (SIXTY_FUNCTIONS, "1, 2, 3", "1, 3, 6"),
     (
         "input x:8; const c = [8, 9, 10, 11, 12, 13, 14, 15, 15, 14, 13, 12, 11, 10, 9, 8]; fn tap(a, k) { return a * k; } let s[0]:24 = tap(x, c[0]); for i in 1..16 { let s[i]:24 = s[i-1] + tap(x@i, c[i]); } output y = s[15];",
         "1, 1, 1",

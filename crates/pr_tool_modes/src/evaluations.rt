@@ -2,6 +2,9 @@
 ghost use Rattle.std.specs.Prelude.{◌≡◌, ◌≢◌, ◌≤◌, ℕ, List, IfOk};
 ghost use Rattle.pr_run.specs.Setting.{view};
 ghost use Rattle.pr_scope.specs.Walk.{IsScoped};
+ghost use Rattle.pr_flat.specs.Widths.{AreWidths};
+ghost use Rattle.pr_expand_spec.specs.Programs.{equations_of};
+ghost use Rattle.pr_compile_front.specs.Passed.{HasEquations};
 ghost use Rattle.pr_tool_modes.specs.Calls.{call};
 ghost use Rattle.pr_tool_modes.specs.Evaluations.{answer_by, AreResults, IsPut, IsEvaluated};
 
@@ -10,9 +13,9 @@ use crate::lines::lines_of;
 use crate::programs::load_program;
 use crate::samples::read_samples;
 use pr_base::Cap;
+use pr_compile_front::Front;
 use pr_edge::{Shelf, Sink, write_all};
 use pr_samples::Got;
-use pr_scope::Scoped;
 use pr_tool_answers::Answer;
 use std::alloc::{AllocError, Global};
 
@@ -39,12 +42,14 @@ fn answer_of(end: Got) -> Answer
 }
 
 /// The lines of what a program means on the samples of a file.
-fn evaluate(alloc: Global, scoped: &Scoped, bytes: Vec<u8>) -> Result<Results, AllocError>
-    requires { IsScoped scoped.now.program scoped.now }
-    ensures { IfOk result (λ r. AreResults scoped.now.program bytes.items r.text.items r.end) }
+fn evaluate(alloc: Global, front: &Front, bytes: Vec<u8>) -> Result<Results, AllocError>
+    requires scoped { IsScoped front.now.scoped.program front.now.scoped }
+    requires flat { HasEquations front.now.scoped.program front.now.flat }
+    requires widths { AreWidths (equations_of front.now.scoped.program).equations front.now.widths }
+    ensures { IfOk result (λ r. AreResults front.now.scoped.program bytes.items r.text.items r.end) }
 {
-    let samples = read_samples(alloc, bytes, &scoped.inputs)?;
-    let rows = pr_source::eval(alloc, scoped, &samples.rows)?;
+    let samples = read_samples(alloc, bytes, &front.scoped.inputs)?;
+    let rows = pr_source::eval(alloc, &front.flat, &front.widths, &samples.rows)?;
     let text = lines_of(alloc, &rows)?;
     Ok(Results {
         text,
@@ -92,7 +97,7 @@ pub fn eval<S: Shelf, K: Sink>(
         Ok(bytes) => bytes,
         Err(answer) => return answer,
     };
-    match evaluate(alloc, &front.scoped, bytes) {
+    match evaluate(alloc, &front, bytes) {
         Ok(results) => put_results(out, &results),
         Err(_) => Answer::Memory,
     }

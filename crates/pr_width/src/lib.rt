@@ -5,5 +5,6 @@ mod operators;
 mod solver;
 mod widths;
 
+pub use operators::operand_width;
 pub use solver::solve;
 pub use widths::{WidthFault, Widths};

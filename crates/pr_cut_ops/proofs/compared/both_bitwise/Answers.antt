@@ -1,0 +1,17 @@
+use Rattle.std.proofs.Common.{◌∙◌, ap₂, List, ◌++◌, length}
+use Rattle.pr_net.specs.declared.cells.Slice.{Slice}
+use Rattle.pr_cut_units.specs.Parts.{Making}
+use Rattle.pr_cut_units.specs.Operators.{bitwise}
+use Rattle.pr_cut_ops.proofs.compared.both_bitwise.Goals as goal
+
+pub returns-clause-units : goal.returns-clause-units
+returns-clause-units c =
+    let us = c.both_widened.new.units.items in
+    let making : List Slice → List Slice → Making = bitwise c.args.e c.args.table in
+    c.in_ok-all.ensures.units ∙ ap₂ (λ (x y : List Slice). us ++ (making x y (length us)).units) c.deref.ensures.value c.deref-2.ensures.value ∙ c.in_ok-both.ensures.units making
+
+pub returns-clause-slices : goal.returns-clause-slices
+returns-clause-slices c =
+    let us = c.both_widened.new.units.items in
+    let making : List Slice → List Slice → Making = bitwise c.args.e c.args.table in
+    c.in_ok-all.ensures.slices ∙ ap₂ (λ (x y : List Slice). (making x y (length us)).slices) c.deref.ensures.value c.deref-2.ensures.value ∙ c.in_ok-both.ensures.slices making

@@ -1,0 +1,10 @@
+use Rattle.std.proofs.Common.{◌≡◌, vec_len}
+use Rattle.pr_cut_units.specs.Parts.{each}
+use Rattle.pr_cut_units.specs.States.{hold_cell}
+use Rattle.pr_cut_ops.proofs.states.hold_cells.Given as goal
+
+abbrev pub invariant-loop-i : goal.invariant-loop-i
+invariant-loop-i l = record {
+  count : vec_len l.all ≡ l.i;
+  all : l.all.items ≡ each l.i (λ i. hold_cell l.w l.init l.x i);
+}

@@ -1,0 +1,344 @@
+//! Operators that widen their operands.
+
+ghost use Rattle.std.specs.Prelude.{ℕ, ◌≡◌, ◌≤◌, ◌<◌, ◌+◌, ◌^◌, ◌++◌, ◌||◌, List, length, max, OnOk, IfOk};
+ghost use Rattle.pr_base.specs.Numbers.{slices_of};
+ghost use Rattle.pr_base.specs.declared.choices.Carry.{Carry};
+ghost use Rattle.pr_base.specs.declared.choices.Mode.{Mode};
+ghost use Rattle.pr_cut_units.specs.Cells.{plain, byte};
+ghost use Rattle.pr_cut_units.specs.Chains.{closed_chain};
+ghost use Rattle.pr_flat.specs.Forms.{signed_width, wider, wider_signed};
+ghost use Rattle.pr_net.specs.declared.cells.Slice.{Slice};
+ghost use Rattle.pr_cut_units.specs.Parts.{Making, each, followed_by};
+ghost use Rattle.pr_cut_units.specs.Widening.{both_widened};
+ghost use Rattle.pr_cut_units.specs.Operators.{bitwise, chosen, added, subtracted, sign_unit, is_any_signed, unsigned_less, signed_less, less, greater_equal, compared_width, equal};
+ghost use Rattle.pr_cut_units.specs.Products.{product};
+ghost use Rattle.pr_cut_units.specs.Table.{factor_width};
+ghost use Rattle.pr_cut_cells.specs.Arguments.{argument_of};
+
+use crate::operators::{bitwise, chosen};
+use crate::sums::{added, carried_equal, carried_less, sign_unit, subtracted};
+use pr_cut_cells::{Argument, widened};
+use pr_cutmul::product;
+use pr_net::{Slice, Unit};
+use std::alloc::{AllocError, Global};
+
+/// Two operands at one width.
+#[derive(Drop)]
+pub struct Pair {
+    pub a: Vec<Slice>,
+    pub b: Vec<Slice>,
+}
+
+/// Both operands at `t` bits, first the first.
+pub fn both_widened(
+    alloc: Global,
+    units: &mut Vec<Unit>,
+    t: u8,
+    a: &Argument,
+    b: &Argument,
+) -> Result<Pair, AllocError>
+    requires fits { length units.old.items + 2 < 2 ^ 32 }
+    ensures grows { OnOk result (length units.new.items ≤ length units.old.items + 2) }
+    ensures units { IfOk result (λ p. (making : List Slice → List Slice → Making) → units.new.items ++ (making p.a.items p.b.items (length units.new.items)).units ≡ units.old.items ++ (both_widened t (argument_of a.now) (argument_of b.now) making (length units.old.items)).units) }
+    ensures slices { IfOk result (λ p. (making : List Slice → List Slice → Making) → (making p.a.items p.b.items (length units.new.items)).slices ≡ (both_widened t (argument_of a.now) (argument_of b.now) making (length units.old.items)).slices) }
+{
+    let x = widened(alloc, units, &a.slices, a.signed, a.width, t)?;
+    let y = widened(alloc, units, &b.slices, b.signed, b.width, t)?;
+    Ok(Pair { a: x, b: y })
+}
+
+/// Whether one of two operands is signed.
+pub fn is_any_signed(a: &Argument, b: &Argument) -> bool
+    ensures { result ≡ is_any_signed (argument_of a.now) (argument_of b.now) }
+{
+    a.signed || b.signed
+}
+
+/// The width of an operand among signed ones.
+pub fn signed_width(a: &Argument) -> u8
+    ensures width { result ≡ signed_width (argument_of a.now).form }
+    ensures few { result ≤ 129 }
+{
+    if a.signed { a.width } else { a.width + 1 }
+}
+
+/// The width at which operands are compared.
+pub fn compared_width(a: &Argument, b: &Argument) -> u8
+    ensures width { result ≡ compared_width (argument_of a.now) (argument_of b.now) }
+    ensures few { result ≤ 129 }
+{
+    if is_any_signed(a, b) {
+        signed_width(a).max(signed_width(b))
+    } else {
+        a.width.max(b.width)
+    }
+}
+
+/// Bit `m` of a difference, or its inverse.
+#[tactic(auto, using(pr_cut_units::proofs::JoinLemmas::then_units, pr_cut_units::proofs::JoinLemmas::then_slices))]
+fn sign_of_difference(
+    alloc: Global,
+    units: &mut Vec<Unit>,
+    m: u8,
+    table: u8,
+    x: &[Slice],
+    y: &[Slice],
+) -> Result<Vec<Slice>, AllocError>
+    requires few { m ≤ 129 }
+    requires fits { length units.old.items + 48 < 2 ^ 32 }
+    ensures grows { OnOk result (length units.new.items ≤ length units.old.items + 48) }
+    ensures units { IfOk result (λ s. units.new.items ≡ units.old.items ++ (followed_by (subtracted (m + 1) x.now y.now) (sign_unit m table) (length units.old.items)).units) }
+    ensures slices { IfOk result (λ s. s.items ≡ (followed_by (subtracted (m + 1) x.now y.now) (sign_unit m table) (length units.old.items)).slices) }
+{
+    let difference = subtracted(alloc, units, m + 1, x, y)?;
+    let bit = sign_unit(alloc, units, m, table, &difference)?;
+    Ok(bit)
+}
+
+/// And, Or and Xor.
+pub fn both_bitwise(
+    alloc: Global,
+    units: &mut Vec<Unit>,
+    e: u8,
+    table: u8,
+    a: &Argument,
+    b: &Argument,
+) -> Result<Vec<Slice>, AllocError>
+    requires fits { length units.old.items + 3 < 2 ^ 32 }
+    ensures grows { OnOk result (length units.new.items ≤ length units.old.items + 3) }
+    ensures units { IfOk result (λ s. units.new.items ≡ units.old.items ++ (both_widened e (argument_of a.now) (argument_of b.now) (bitwise e table) (length units.old.items)).units) }
+    ensures slices { IfOk result (λ s. s.items ≡ (both_widened e (argument_of a.now) (argument_of b.now) (bitwise e table) (length units.old.items)).slices) }
+{
+    let both = both_widened(alloc, units, e, a, b)?;
+    let all = bitwise(alloc, units, e, table, &both.a, &both.b)?;
+    Ok(all)
+}
+
+/// Add.
+pub fn both_added(
+    alloc: Global,
+    units: &mut Vec<Unit>,
+    e: u8,
+    a: &Argument,
+    b: &Argument,
+) -> Result<Vec<Slice>, AllocError>
+    requires fits { length units.old.items + 50 < 2 ^ 32 }
+    ensures grows { OnOk result (length units.new.items ≤ length units.old.items + 50) }
+    ensures units { IfOk result (λ s. units.new.items ≡ units.old.items ++ (both_widened e (argument_of a.now) (argument_of b.now) (added e) (length units.old.items)).units) }
+    ensures slices { IfOk result (λ s. s.items ≡ (both_widened e (argument_of a.now) (argument_of b.now) (added e) (length units.old.items)).slices) }
+{
+    let both = both_widened(alloc, units, e, a, b)?;
+    let all = added(alloc, units, e, &both.a, &both.b)?;
+    Ok(all)
+}
+
+/// Sub.
+pub fn both_subtracted(
+    alloc: Global,
+    units: &mut Vec<Unit>,
+    e: u8,
+    a: &Argument,
+    b: &Argument,
+) -> Result<Vec<Slice>, AllocError>
+    requires fits { length units.old.items + 50 < 2 ^ 32 }
+    ensures grows { OnOk result (length units.new.items ≤ length units.old.items + 50) }
+    ensures units { IfOk result (λ s. units.new.items ≡ units.old.items ++ (both_widened e (argument_of a.now) (argument_of b.now) (subtracted e) (length units.old.items)).units) }
+    ensures slices { IfOk result (λ s. s.items ≡ (both_widened e (argument_of a.now) (argument_of b.now) (subtracted e) (length units.old.items)).slices) }
+{
+    let both = both_widened(alloc, units, e, a, b)?;
+    let all = subtracted(alloc, units, e, &both.a, &both.b)?;
+    Ok(all)
+}
+
+/// Choose, by the lowest bit of `c`.
+pub fn both_chosen(
+    alloc: Global,
+    units: &mut Vec<Unit>,
+    e: u8,
+    c: &[Slice],
+    a: &Argument,
+    b: &Argument,
+) -> Result<Vec<Slice>, AllocError>
+    requires fits { length units.old.items + 3 < 2 ^ 32 }
+    ensures grows { OnOk result (length units.new.items ≤ length units.old.items + 3) }
+    ensures units { IfOk result (λ s. units.new.items ≡ units.old.items ++ (both_widened e (argument_of a.now) (argument_of b.now) (chosen e c.now) (length units.old.items)).units) }
+    ensures slices { IfOk result (λ s. s.items ≡ (both_widened e (argument_of a.now) (argument_of b.now) (chosen e c.now) (length units.old.items)).slices) }
+{
+    let both = both_widened(alloc, units, e, a, b)?;
+    let all = chosen(alloc, units, e, c, &both.a, &both.b)?;
+    Ok(all)
+}
+
+/// The product of factors that the rows see at these widths.
+fn both_multiplied(
+    alloc: Global,
+    units: &mut Vec<Unit>,
+    e: u8,
+    wa: u8,
+    wb: u8,
+    a: &Argument,
+    b: &Argument,
+) -> Result<Vec<Slice>, AllocError>
+    requires fits { length units.old.items + 20000 < 2 ^ 32 }
+    ensures grows { OnOk result (length units.new.items ≤ length units.old.items + 20000) }
+    ensures units { IfOk result (λ s. units.new.items ≡ units.old.items ++ (both_widened e (argument_of a.now) (argument_of b.now) (λ x y. product e x wa y wb) (length units.old.items)).units) }
+    ensures slices { IfOk result (λ s. s.items ≡ (both_widened e (argument_of a.now) (argument_of b.now) (λ x y. product e x wa y wb) (length units.old.items)).slices) }
+{
+    let both = both_widened(alloc, units, e, a, b)?;
+    let all = product(alloc, units, e, &both.a, wa, &both.b, wb)?;
+    Ok(all)
+}
+
+/// The sign of a difference of `m + 1` bits.
+fn both_signed_less(
+    alloc: Global,
+    units: &mut Vec<Unit>,
+    m: u8,
+    table: u8,
+    a: &Argument,
+    b: &Argument,
+) -> Result<Vec<Slice>, AllocError>
+    requires few { m ≤ 129 }
+    requires fits { length units.old.items + 60 < 2 ^ 32 }
+    ensures grows { OnOk result (length units.new.items ≤ length units.old.items + 60) }
+    ensures units { IfOk result (λ s. units.new.items ≡ units.old.items ++ (both_widened (m + 1) (argument_of a.now) (argument_of b.now) (λ x y. followed_by (subtracted (m + 1) x y) (sign_unit m table)) (length units.old.items)).units) }
+    ensures slices { IfOk result (λ s. s.items ≡ (both_widened (m + 1) (argument_of a.now) (argument_of b.now) (λ x y. followed_by (subtracted (m + 1) x y) (sign_unit m table)) (length units.old.items)).slices) }
+{
+    let both = both_widened(alloc, units, m + 1, a, b)?;
+    let all = sign_of_difference(alloc, units, m, table, &both.a, &both.b)?;
+    Ok(all)
+}
+
+/// A comparison at `m` bits.
+fn both_equal(
+    alloc: Global,
+    units: &mut Vec<Unit>,
+    m: u8,
+    closing: u8,
+    a: &Argument,
+    b: &Argument,
+) -> Result<Vec<Slice>, AllocError>
+    requires fits { length units.old.items + 60 < 2 ^ 32 }
+    ensures grows { OnOk result (length units.new.items ≤ length units.old.items + 60) }
+    ensures units { IfOk result (λ s. units.new.items ≡ units.old.items ++ (both_widened m (argument_of a.now) (argument_of b.now) (λ x y. closed_chain Carry.One closing (each (slices_of m) (λ i. record plain { a = byte x i; hi = byte y i; mode = Mode.Zero; table = 102 }))) (length units.old.items)).units) }
+    ensures slices { IfOk result (λ s. s.items ≡ (both_widened m (argument_of a.now) (argument_of b.now) (λ x y. closed_chain Carry.One closing (each (slices_of m) (λ i. record plain { a = byte x i; hi = byte y i; mode = Mode.Zero; table = 102 }))) (length units.old.items)).slices) }
+{
+    let both = both_widened(alloc, units, m, a, b)?;
+    let all = carried_equal(alloc, units, m, closing, &both.a, &both.b)?;
+    Ok(all)
+}
+
+/// Mul.
+pub fn multiplied(
+    alloc: Global,
+    units: &mut Vec<Unit>,
+    e: u8,
+    a: &Argument,
+    b: &Argument,
+) -> Result<Vec<Slice>, AllocError>
+    requires fits { length units.old.items + 20000 < 2 ^ 32 }
+    ensures grows { OnOk result (length units.new.items ≤ length units.old.items + 20000) }
+    ensures units { IfOk result (λ s. units.new.items ≡ units.old.items ++ (both_widened e (argument_of a.now) (argument_of b.now) (λ x y. product e x (factor_width (is_any_signed (argument_of a.now) (argument_of b.now)) e (argument_of a.now).form) y (factor_width (is_any_signed (argument_of a.now) (argument_of b.now)) e (argument_of b.now).form)) (length units.old.items)).units) }
+    ensures slices { IfOk result (λ s. s.items ≡ (both_widened e (argument_of a.now) (argument_of b.now) (λ x y. product e x (factor_width (is_any_signed (argument_of a.now) (argument_of b.now)) e (argument_of a.now).form) y (factor_width (is_any_signed (argument_of a.now) (argument_of b.now)) e (argument_of b.now).form)) (length units.old.items)).slices) }
+{
+    let any = is_any_signed(a, b);
+    let wa = factor_width(any, e, a);
+    let wb = factor_width(any, e, b);
+    both_multiplied(alloc, units, e, wa, wb, a, b)
+}
+
+/// Less and GreaterEqual where one operand is signed, by their tables.
+fn signed_less(
+    alloc: Global,
+    units: &mut Vec<Unit>,
+    table: u8,
+    a: &Argument,
+    b: &Argument,
+) -> Result<Vec<Slice>, AllocError>
+    requires fits { length units.old.items + 60 < 2 ^ 32 }
+    ensures grows { OnOk result (length units.new.items ≤ length units.old.items + 60) }
+    ensures units { IfOk result (λ s. units.new.items ≡ units.old.items ++ (signed_less table (argument_of a.now) (argument_of b.now) (length units.old.items)).units) }
+    ensures slices { IfOk result (λ s. s.items ≡ (signed_less table (argument_of a.now) (argument_of b.now) (length units.old.items)).slices) }
+{
+    let m = signed_width(a).max(signed_width(b));
+    both_signed_less(alloc, units, m, table, a, b)
+}
+
+/// Equal and NotEqual, by their closing tables.
+pub fn equal(
+    alloc: Global,
+    units: &mut Vec<Unit>,
+    closing: u8,
+    a: &Argument,
+    b: &Argument,
+) -> Result<Vec<Slice>, AllocError>
+    requires fits { length units.old.items + 60 < 2 ^ 32 }
+    ensures grows { OnOk result (length units.new.items ≤ length units.old.items + 60) }
+    ensures units { IfOk result (λ s. units.new.items ≡ units.old.items ++ (equal closing (argument_of a.now) (argument_of b.now) (length units.old.items)).units) }
+    ensures slices { IfOk result (λ s. s.items ≡ (equal closing (argument_of a.now) (argument_of b.now) (length units.old.items)).slices) }
+{
+    let m = compared_width(a, b);
+    let all = both_equal(alloc, units, m, closing, a, b)?;
+    Ok(all)
+}
+
+/// The width of a factor as the rows see it.
+fn factor_width(any: bool, e: u8, a: &Argument) -> u8
+    ensures { result ≡ factor_width any e (argument_of a.now).form }
+{
+    if any {
+        e.max(signed_width(a)).min(128)
+    } else {
+        a.width
+    }
+}
+
+/// Less.
+pub fn less(
+    alloc: Global,
+    units: &mut Vec<Unit>,
+    a: &Argument,
+    b: &Argument,
+) -> Result<Vec<Slice>, AllocError>
+    requires fits { length units.old.items + 60 < 2 ^ 32 }
+    ensures grows { OnOk result (length units.new.items ≤ length units.old.items + 60) }
+    ensures units { IfOk result (λ s. units.new.items ≡ units.old.items ++ (less (argument_of a.now) (argument_of b.now) (length units.old.items)).units) }
+    ensures slices { IfOk result (λ s. s.items ≡ (less (argument_of a.now) (argument_of b.now) (length units.old.items)).slices) }
+{
+    if is_any_signed(a, b) {
+        return signed_less(alloc, units, 0xf0, a, b);
+    }
+    carried_less(
+        alloc,
+        units,
+        a.width.max(b.width),
+        0x0f,
+        &a.slices,
+        &b.slices,
+    )
+}
+
+/// GreaterEqual.
+pub fn greater_equal(
+    alloc: Global,
+    units: &mut Vec<Unit>,
+    a: &Argument,
+    b: &Argument,
+) -> Result<Vec<Slice>, AllocError>
+    requires fits { length units.old.items + 60 < 2 ^ 32 }
+    ensures grows { OnOk result (length units.new.items ≤ length units.old.items + 60) }
+    ensures units { IfOk result (λ s. units.new.items ≡ units.old.items ++ (greater_equal (argument_of a.now) (argument_of b.now) (length units.old.items)).units) }
+    ensures slices { IfOk result (λ s. s.items ≡ (greater_equal (argument_of a.now) (argument_of b.now) (length units.old.items)).slices) }
+{
+    if is_any_signed(a, b) {
+        return signed_less(alloc, units, 0x0f, a, b);
+    }
+    carried_less(
+        alloc,
+        units,
+        a.width.max(b.width),
+        0xf0,
+        &a.slices,
+        &b.slices,
+    )
+}

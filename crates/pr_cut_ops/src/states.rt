@@ -1,0 +1,153 @@
+//! Units with state.
+
+ghost use Rattle.std.specs.Prelude.{ℕ, ◌∷◌, [], ◌≡◌, ◌≤◌, ◌<◌, ◌+◌, ◌-◌, ◌*◌, ◌/◌, ◌%◌, ◌^◌, ◌++◌, length, vec_len, OnOk, OnErr, IfOk, min, nat_lt, List};
+ghost use Rattle.pr_base.specs.Numbers.{slices_of, byte_at, top_mask_of};
+ghost use Rattle.pr_base.specs.declared.choices.Mode.{Mode};
+ghost use Rattle.pr_base.specs.declared.choices.Next.{Next};
+ghost use Rattle.pr_net.specs.declared.cells.Cell.{Cell};
+ghost use Rattle.pr_net.specs.declared.cells.Slice.{Slice};
+ghost use Rattle.pr_net.specs.declared.cells.Wire.{Wire};
+ghost use Rattle.pr_cut_units.specs.Cells.{plain, byte, top, bit_of, slice_at, slice_below, with_left, with_right, table_a, table_b, table_not_a};
+ghost use Rattle.pr_cut_units.specs.Parts.{each};
+ghost use Rattle.pr_cut_units.specs.States.{delayed, hold_cell, later_cell, hold_units, past_slices};
+
+use pr_base::{Next, byte_of, slices};
+use pr_cut_cells::{byte, plain, push_unit, slices_of_unit, top};
+use pr_net::{Cell, Slice, Unit, Wire, WireBit};
+use std::alloc::{AllocError, Global};
+
+/// The cells of a delay, which is this unit.
+#[tactic(auto, using(pr_cut_units::proofs::EachLemmas::each_more))]
+fn delayed_cells(
+    alloc: Global,
+    w: u8,
+    c: u64,
+    x: &[Slice],
+    unit: u32,
+) -> Result<Vec<Cell>, AllocError>
+    ensures count { IfOk result (λ all. vec_len all ≡ slices_of w) }
+    ensures all { IfOk result (λ all. all.items ≡ each (slices_of w) (λ i. record plain { a = byte x.now i; hi = Wire.State unit i; table = 204; next = Next.A; init = byte_at c i })) }
+{
+    let mut all = Vec::new(alloc);
+    for i in 0..slices(w) {
+        all.push(Cell {
+            a: byte(x, i),
+            hi: Wire::State(unit, i as u8),
+            table: 0xcc,
+            next: Next::A,
+            init: byte_of(u128::from(c), i),
+            ..plain()
+        })?;
+    }
+    Ok(all)
+}
+
+/// A delay with its first number.
+pub fn delayed(
+    alloc: Global,
+    units: &mut Vec<Unit>,
+    w: u8,
+    c: u64,
+    x: &[Slice],
+) -> Result<Vec<Slice>, AllocError>
+    requires fits { length units.old.items < 2 ^ 32 }
+    ensures grows { OnOk result (length units.new.items ≤ length units.old.items + 1) }
+    ensures units { OnOk result (units.new.items ≡ units.old.items ++ (delayed w c x.now (length units.old.items)).units) }
+    ensures slices { IfOk result (λ s. s.items ≡ (delayed w c x.now (length units.old.items)).slices) }
+{
+    let cells = delayed_cells(alloc, w, c, x, units.len() as u32)?;
+    push_unit(alloc, units, cells)
+}
+
+/// The cells of the first hold unit.
+#[tactic(auto, using(pr_cut_units::proofs::EachLemmas::each_more))]
+fn hold_cells(alloc: Global, w: u8, init: u64, x: &[Slice]) -> Result<Vec<Cell>, AllocError>
+    ensures count { IfOk result (λ all. vec_len all ≡ slices_of w) }
+    ensures all { IfOk result (λ all. all.items ≡ each (slices_of w) (λ i. hold_cell w init x.now i)) }
+{
+    let mut all = Vec::new(alloc);
+    for i in 0..slices(w) {
+        all.push(Cell {
+            a: byte(x, i),
+            table: 0xaa,
+            mask: top(w, i),
+            next: Next::Output,
+            init: byte_of(u128::from(init), i),
+            ..plain()
+        })?;
+    }
+    Ok(all)
+}
+
+/// The cells of a later hold unit, after this unit.
+#[tactic(auto, using(pr_cut_units::proofs::EachLemmas::each_more))]
+fn later_cells(alloc: Global, w: u8, init: u64, before: u32) -> Result<Vec<Cell>, AllocError>
+    ensures count { IfOk result (λ all. vec_len all ≡ slices_of w) }
+    ensures all { IfOk result (λ all. all.items ≡ each (slices_of w) (λ i. later_cell init before i)) }
+{
+    let mut all = Vec::new(alloc);
+    for i in 0..slices(w) {
+        all.push(Cell {
+            a: Wire::State(before, i as u8),
+            table: 0xaa,
+            next: Next::Output,
+            init: byte_of(u128::from(init), i),
+            ..plain()
+        })?;
+    }
+    Ok(all)
+}
+
+/// The slices of a past: the states of this hold unit.
+#[tactic(auto, using(pr_cut_units::proofs::EachLemmas::each_more))]
+pub fn past_slices(alloc: Global, w: u8, unit: u32) -> Result<Vec<Slice>, AllocError>
+    ensures count { IfOk result (λ all. vec_len all ≡ slices_of w) }
+    ensures all { IfOk result (λ all. all.items ≡ each (slices_of w) (λ i. Slice.State unit i)) }
+{
+    let mut all = Vec::new(alloc);
+    for i in 0..slices(w) {
+        all.push(Slice::State(unit, i as u8))?;
+    }
+    Ok(all)
+}
+
+/// One more hold unit, after `j` of them that begin with unit `first`.
+#[tactic(auto, using(pr_cut_units::proofs::EachLemmas::each_more))]
+fn push_later(
+    alloc: Global,
+    units: &mut Vec<Unit>,
+    w: u8,
+    init: u64,
+    before: u32,
+) -> Result<(), AllocError>
+    requires fits { length units.old.items < 2 ^ 32 }
+    ensures units { OnOk result (units.new.items ≡ units.old.items ++ each (slices_of w) (later_cell init before) ∷ []) }
+{
+    let cells = later_cells(alloc, w, init, before)?;
+    units.push(Unit { cells })?;
+    Ok(())
+}
+
+/// Hold units 1 to `k`; the slices are those of the first.
+#[tactic(auto, using(pr_cut_units::proofs::EachLemmas::each_more))]
+pub fn hold_units(
+    alloc: Global,
+    units: &mut Vec<Unit>,
+    w: u8,
+    init: u64,
+    k: u32,
+    x: &[Slice],
+) -> Result<Vec<Slice>, AllocError>
+    requires some { 1 ≤ k }
+    requires fits { length units.old.items + k < 2 ^ 32 }
+    ensures units { OnOk result (units.new.items ≡ units.old.items ++ (hold_units w init k x.now (length units.old.items)).units) }
+    ensures slices { IfOk result (λ s. s.items ≡ (hold_units w init k x.now (length units.old.items)).slices) }
+{
+    let cells = hold_cells(alloc, w, init, x)?;
+    let first = units.len() as u32;
+    let slices = push_unit(alloc, units, cells)?;
+    for j in 0..k - 1 {
+        push_later(alloc, units, w, init, first + j)?;
+    }
+    Ok(slices)
+}

@@ -1,0 +1,187 @@
+//! Sums, differences and comparisons of slices.
+
+ghost use Rattle.std.specs.Prelude.{ℕ, ◌≡◌, ◌≤◌, ◌<◌, ◌+◌, ◌-◌, ◌*◌, ◌/◌, ◌%◌, ◌^◌, ◌++◌, length, vec_len, OnOk, OnErr, IfOk, min, nat_lt, List};
+ghost use Rattle.pr_base.specs.Numbers.{slices_of, byte_at, top_mask_of};
+ghost use Rattle.pr_base.specs.declared.choices.Mode.{Mode};
+ghost use Rattle.pr_base.specs.declared.choices.Next.{Next};
+ghost use Rattle.pr_net.specs.declared.cells.Cell.{Cell};
+ghost use Rattle.pr_net.specs.declared.cells.Slice.{Slice};
+ghost use Rattle.pr_net.specs.declared.cells.Wire.{Wire};
+ghost use Rattle.pr_cut_units.specs.Cells.{plain, byte, top, bit_of, slice_at, slice_below, with_left, with_right, table_a, table_b, table_not_a};
+ghost use Rattle.pr_cut_units.specs.Parts.{each};
+ghost use Rattle.pr_base.specs.declared.choices.Carry.{Carry};
+ghost use Rattle.pr_cut_units.specs.declared.chains.Style.{Style};
+ghost use Rattle.pr_cut_units.specs.Chains.{closed_chain};
+ghost use Rattle.pr_cut_units.specs.Operators.{sum_cell, added, subtracted, sign_unit};
+
+use pr_base::{Carry, Mode, slices};
+use pr_cut_cells::{bit_of, byte, chain, closed_chain, plain, push_unit, top};
+use pr_cut_units::Style;
+use pr_net::{Cell, Slice, Unit};
+use std::alloc::{AllocError, Global};
+
+/// The cells of a sum.
+#[tactic(auto, using(pr_cut_units::proofs::EachLemmas::each_more))]
+fn sum_cells(
+    alloc: Global,
+    e: u8,
+    table: u8,
+    x: &[Slice],
+    y: &[Slice],
+) -> Result<Vec<Cell>, AllocError>
+    ensures count { IfOk result (λ all. vec_len all ≡ slices_of e) }
+    ensures all { IfOk result (λ all. all.items ≡ each (slices_of e) (λ i. record (sum_cell table x.now y.now i) { mask = top e i })) }
+{
+    let mut all = Vec::new(alloc);
+    for i in 0..slices(e) {
+        all.push(Cell {
+            a: byte(x, i),
+            hi: byte(y, i),
+            mode: Mode::Sum,
+            table,
+            mask: top(e, i),
+            ..plain()
+        })?;
+    }
+    Ok(all)
+}
+
+/// The cells of a difference of which the carry alone is looked at.
+#[tactic(auto, using(pr_cut_units::proofs::EachLemmas::each_more))]
+fn difference_cells(alloc: Global, w: u8, x: &[Slice], y: &[Slice]) -> Result<Vec<Cell>, AllocError>
+    ensures count { IfOk result (λ all. vec_len all ≡ slices_of w) }
+    ensures all { IfOk result (λ all. all.items ≡ each (slices_of w) (λ i. sum_cell 51 x.now y.now i)) }
+{
+    let mut all = Vec::new(alloc);
+    for i in 0..slices(w) {
+        all.push(Cell {
+            a: byte(x, i),
+            hi: byte(y, i),
+            mode: Mode::Sum,
+            table: 0x33,
+            ..plain()
+        })?;
+    }
+    Ok(all)
+}
+
+/// The cells that let a carry through where no bits differ.
+#[tactic(auto, using(pr_cut_units::proofs::EachLemmas::each_more))]
+fn equal_cells(alloc: Global, w: u8, x: &[Slice], y: &[Slice]) -> Result<Vec<Cell>, AllocError>
+    ensures count { IfOk result (λ all. vec_len all ≡ slices_of w) }
+    ensures all { IfOk result (λ all. all.items ≡ each (slices_of w) (λ i. record plain { a = byte x.now i; hi = byte y.now i; mode = Mode.Zero; table = 102 })) }
+{
+    let mut all = Vec::new(alloc);
+    for i in 0..slices(w) {
+        all.push(Cell {
+            a: byte(x, i),
+            hi: byte(y, i),
+            mode: Mode::Zero,
+            table: 0x66,
+            ..plain()
+        })?;
+    }
+    Ok(all)
+}
+
+/// A sum.
+pub fn added(
+    alloc: Global,
+    units: &mut Vec<Unit>,
+    e: u8,
+    x: &[Slice],
+    y: &[Slice],
+) -> Result<Vec<Slice>, AllocError>
+    requires fits { length units.old.items + 40 < 2 ^ 32 }
+    ensures grows { OnOk result (length units.new.items ≤ length units.old.items + 40) }
+    ensures units { OnOk result (units.new.items ≡ units.old.items ++ (added e x.now y.now (length units.old.items)).units) }
+    ensures slices { IfOk result (λ s. s.items ≡ (added e x.now y.now (length units.old.items)).slices) }
+{
+    let cells = sum_cells(alloc, e, 0xcc, x, y)?;
+    chain(alloc, units, Style::ByBit, Carry::Zero, &cells)
+}
+
+/// A difference.
+pub fn subtracted(
+    alloc: Global,
+    units: &mut Vec<Unit>,
+    e: u8,
+    x: &[Slice],
+    y: &[Slice],
+) -> Result<Vec<Slice>, AllocError>
+    requires fits { length units.old.items + 40 < 2 ^ 32 }
+    ensures grows { OnOk result (length units.new.items ≤ length units.old.items + 40) }
+    ensures units { OnOk result (units.new.items ≡ units.old.items ++ (subtracted e x.now y.now (length units.old.items)).units) }
+    ensures slices { IfOk result (λ s. s.items ≡ (subtracted e x.now y.now (length units.old.items)).slices) }
+{
+    let cells = sum_cells(alloc, e, 0x33, x, y)?;
+    chain(alloc, units, Style::ByBit, Carry::One, &cells)
+}
+
+/// A comparison by the carry of the difference.
+pub fn carried_less(
+    alloc: Global,
+    units: &mut Vec<Unit>,
+    w: u8,
+    closing: u8,
+    x: &[Slice],
+    y: &[Slice],
+) -> Result<Vec<Slice>, AllocError>
+    requires fits { length units.old.items + 40 < 2 ^ 32 }
+    ensures grows { OnOk result (length units.new.items ≤ length units.old.items + 40) }
+    ensures units { OnOk result (units.new.items ≡ units.old.items ++ (closed_chain Carry.One closing (each (slices_of w) (sum_cell 51 x.now y.now)) (length units.old.items)).units) }
+    ensures slices { IfOk result (λ s. s.items ≡ (closed_chain Carry.One closing (each (slices_of w) (sum_cell 51 x.now y.now)) (length units.old.items)).slices) }
+{
+    let cells = difference_cells(alloc, w, x, y)?;
+    closed_chain(alloc, units, Carry::One, closing, &cells)
+}
+
+/// A comparison by the carry that goes through equal bytes.
+pub fn carried_equal(
+    alloc: Global,
+    units: &mut Vec<Unit>,
+    w: u8,
+    closing: u8,
+    x: &[Slice],
+    y: &[Slice],
+) -> Result<Vec<Slice>, AllocError>
+    requires fits { length units.old.items + 40 < 2 ^ 32 }
+    ensures grows { OnOk result (length units.new.items ≤ length units.old.items + 40) }
+    ensures units { OnOk result (units.new.items ≡ units.old.items ++ (closed_chain Carry.One closing (each (slices_of w) (λ i. record plain { a = byte x.now i; hi = byte y.now i; mode = Mode.Zero; table = 102 })) (length units.old.items)).units) }
+    ensures slices { IfOk result (λ s. s.items ≡ (closed_chain Carry.One closing (each (slices_of w) (λ i. record plain { a = byte x.now i; hi = byte y.now i; mode = Mode.Zero; table = 102 })) (length units.old.items)).slices) }
+{
+    let cells = equal_cells(alloc, w, x, y)?;
+    closed_chain(alloc, units, Carry::One, closing, &cells)
+}
+
+/// The cell that shows bit `m` of a difference.
+fn sign_cell(alloc: Global, m: u8, table: u8, d: &[Slice]) -> Result<Vec<Cell>, AllocError>
+    ensures count { IfOk result (λ all. vec_len all ≡ 1) }
+    ensures all { IfOk result (λ all. all.items ≡ each 1 (λ i. record plain { c = bit_of d.now m; table = table; mask = 1 })) }
+{
+    let mut all = Vec::new(alloc);
+    all.push(Cell {
+        c: bit_of(d, usize::from(m)),
+        table,
+        mask: 1,
+        ..plain()
+    })?;
+    Ok(all)
+}
+
+/// Bit `m` of a difference, or its inverse.
+pub fn sign_unit(
+    alloc: Global,
+    units: &mut Vec<Unit>,
+    m: u8,
+    table: u8,
+    d: &[Slice],
+) -> Result<Vec<Slice>, AllocError>
+    requires fits { length units.old.items < 2 ^ 32 }
+    ensures grows { OnOk result (length units.new.items ≤ length units.old.items + 1) }
+    ensures units { OnOk result (units.new.items ≡ units.old.items ++ (sign_unit m table d.now (length units.old.items)).units) }
+    ensures slices { IfOk result (λ s. s.items ≡ (sign_unit m table d.now (length units.old.items)).slices) }
+{
+    let cells = sign_cell(alloc, m, table, d)?;
+    push_unit(alloc, units, cells)
+}

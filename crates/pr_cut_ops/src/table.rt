@@ -1,0 +1,263 @@
+//! The table: the units of an operator.
+
+ghost use Rattle.std.specs.Prelude.{ℕ, false, ◌≡◌, ◌≤◌, ◌<◌, ◌+◌, ◌^◌, ◌++◌, [], ◌∷◌, Bool, true, nat_lt, List, length, OnOk, IfOk};
+ghost use Rattle.pr_base.specs.Numbers.{slices_of};
+ghost use Rattle.pr_flat.specs.declared.equations.Op.{Op};
+ghost use Rattle.pr_cut_units.specs.Operators.{moved_right, extracted, concatenated};
+ghost use Rattle.pr_cut_units.specs.Parts.{followed_by, filled};
+ghost use Rattle.pr_cut_units.specs.Widening.{flipped, widened};
+ghost use Rattle.pr_cut_units.specs.Shifts.{shifted_by, moved_by, signed_moved_by};
+ghost use Rattle.pr_cut_units.specs.Table.{operator_units};
+ghost use Rattle.pr_cut_cells.specs.Arguments.{argument_of};
+ghost use Rattle.pr_cut_ops.specs.Low.{is_low};
+
+use crate::compared::{
+    both_added, both_bitwise, both_chosen, both_subtracted, equal, greater_equal, less, multiplied,
+};
+use crate::operators::{extracted, filled_slices, inverted, joined, moved_left};
+use pr_cut_cells::{Argument, flipped, widened};
+use pr_cutmul::shifted_by;
+use pr_flat::Op;
+use pr_net::{Slice, Unit};
+use std::alloc::{AllocError, Global};
+
+/// Right by a constant.
+fn moved_right(
+    alloc: Global,
+    units: &mut Vec<Unit>,
+    e: u8,
+    k: u8,
+    a: &Argument,
+) -> Result<Vec<Slice>, AllocError>
+    requires fits { length units.old.items + 1 < 2 ^ 32 }
+    ensures grows { OnOk result (length units.new.items ≤ length units.old.items + 1) }
+    ensures units { IfOk result (λ s. units.new.items ≡ units.old.items ++ (moved_right e k (argument_of a.now) (length units.old.items)).units) }
+    ensures slices { IfOk result (λ s. s.items ≡ (moved_right e k (argument_of a.now) (length units.old.items)).slices) }
+{
+    if a.signed {
+        return extracted(
+            alloc,
+            units,
+            e,
+            a.width,
+            u64::from(k.min(a.width - 1)),
+            &a.slices,
+        );
+    }
+    if k < a.width {
+        return extracted(alloc, units, e, a.width, u64::from(k), &a.slices);
+    }
+    let mut zero = Vec::new(alloc);
+    zero.push(Slice::Const(0))?;
+    Ok(zero)
+}
+
+/// A shift by an operand of an unsigned one.
+#[tactic(auto, using(pr_cut_units::proofs::JoinLemmas::then_units, pr_cut_units::proofs::JoinLemmas::then_slices))]
+fn moved_by(
+    alloc: Global,
+    units: &mut Vec<Unit>,
+    left: bool,
+    e: u8,
+    a: &Argument,
+    by: &Argument,
+) -> Result<Vec<Slice>, AllocError>
+    requires fits { length units.old.items + 300 < 2 ^ 32 }
+    ensures grows { OnOk result (length units.new.items ≤ length units.old.items + 300) }
+    ensures units { IfOk result (λ s. units.new.items ≡ units.old.items ++ (moved_by left e (argument_of a.now) (argument_of by.now) (length units.old.items)).units) }
+    ensures slices { IfOk result (λ s. s.items ≡ (moved_by left e (argument_of a.now) (argument_of by.now) (length units.old.items)).slices) }
+{
+    let all = shifted_by(alloc, units, left, a.width, &by.slices, by.width, &a.slices)?;
+    let low = extracted(alloc, units, e, a.width, 0, &all)?;
+    Ok(low)
+}
+
+/// The units of an operator on one operand.
+pub fn operator_one(
+    alloc: Global,
+    units: &mut Vec<Unit>,
+    e: u8,
+    op: Op,
+    a: &Argument,
+) -> Result<Vec<Slice>, AllocError>
+    requires low { is_low op ≡ true }
+    requires fits { length units.old.items + 1 < 2 ^ 32 }
+    ensures grows { OnOk result (length units.new.items ≤ length units.old.items + 1) }
+    ensures units { IfOk result (λ s. units.new.items ≡ units.old.items ++ (operator_units e op (argument_of a.now ∷ []) (length units.old.items)).units) }
+    ensures slices { IfOk result (λ s. s.items ≡ (operator_units e op (argument_of a.now ∷ []) (length units.old.items)).slices) }
+{
+    match op {
+        Op::Not => inverted(alloc, units, e, &a.slices),
+        Op::Left(k) => moved_left(alloc, units, e, a.width, k, &a.slices),
+        Op::Right(k) => moved_right(alloc, units, e, k, a),
+        Op::Slice(_, low) => extracted(alloc, units, e, a.width, low, &a.slices),
+        Op::Fit => extracted(alloc, units, e, a.width, 0, &a.slices),
+        _ => Ok(Vec::new(alloc)),
+    }
+}
+
+/// The last two steps of a shift to the right of a signed operand: it is inverted again, and cut.
+#[tactic(auto, using(pr_cut_units::proofs::JoinLemmas::then_units, pr_cut_units::proofs::JoinLemmas::then_slices))]
+fn flipped_back(
+    alloc: Global,
+    units: &mut Vec<Unit>,
+    e: u8,
+    a: &Argument,
+    y: &[Slice],
+) -> Result<Vec<Slice>, AllocError>
+    requires fits { length units.old.items + 2 < 2 ^ 32 }
+    ensures grows { OnOk result (length units.new.items ≤ length units.old.items + 2) }
+    ensures units { IfOk result (λ s. units.new.items ≡ units.old.items ++ (followed_by (flipped (argument_of a.now) y.now) (λ z. extracted e a.now.width 0 z) (length units.old.items)).units) }
+    ensures slices { IfOk result (λ s. s.items ≡ (followed_by (flipped (argument_of a.now) y.now) (λ z. extracted e a.now.width 0 z) (length units.old.items)).slices) }
+{
+    let z = flipped(alloc, units, &a.slices, a.width, y)?;
+    let low = extracted(alloc, units, e, a.width, 0, &z)?;
+    Ok(low)
+}
+
+/// The rows and the steps after them.
+#[tactic(auto, using(pr_cut_units::proofs::JoinLemmas::then_units, pr_cut_units::proofs::JoinLemmas::then_slices))]
+fn shifted_back(
+    alloc: Global,
+    units: &mut Vec<Unit>,
+    e: u8,
+    a: &Argument,
+    by: &Argument,
+    x: &[Slice],
+) -> Result<Vec<Slice>, AllocError>
+    requires fits { length units.old.items + 300 < 2 ^ 32 }
+    ensures grows { OnOk result (length units.new.items ≤ length units.old.items + 300) }
+    ensures units { IfOk result (λ s. units.new.items ≡ units.old.items ++ (followed_by (shifted_by false a.now.width by.now.slices.items by.now.width x.now) (λ y. followed_by (flipped (argument_of a.now) y) (λ z. extracted e a.now.width 0 z)) (length units.old.items)).units) }
+    ensures slices { IfOk result (λ s. s.items ≡ (followed_by (shifted_by false a.now.width by.now.slices.items by.now.width x.now) (λ y. followed_by (flipped (argument_of a.now) y) (λ z. extracted e a.now.width 0 z)) (length units.old.items)).slices) }
+{
+    let y = shifted_by(alloc, units, false, a.width, &by.slices, by.width, x)?;
+    let low = flipped_back(alloc, units, e, a, &y)?;
+    Ok(low)
+}
+
+/// A shift to the right of a signed operand.
+#[tactic(auto, using(pr_cut_units::proofs::JoinLemmas::then_units, pr_cut_units::proofs::JoinLemmas::then_slices))]
+fn signed_moved_by(
+    alloc: Global,
+    units: &mut Vec<Unit>,
+    e: u8,
+    a: &Argument,
+    by: &Argument,
+) -> Result<Vec<Slice>, AllocError>
+    requires fits { length units.old.items + 302 < 2 ^ 32 }
+    ensures grows { OnOk result (length units.new.items ≤ length units.old.items + 302) }
+    ensures units { IfOk result (λ s. units.new.items ≡ units.old.items ++ (signed_moved_by e (argument_of a.now) (argument_of by.now) (length units.old.items)).units) }
+    ensures slices { IfOk result (λ s. s.items ≡ (signed_moved_by e (argument_of a.now) (argument_of by.now) (length units.old.items)).slices) }
+{
+    let x = flipped(alloc, units, &a.slices, a.width, &a.slices)?;
+    let low = shifted_back(alloc, units, e, a, by, &x)?;
+    Ok(low)
+}
+
+/// RightBy.
+fn moved_right_by(
+    alloc: Global,
+    units: &mut Vec<Unit>,
+    e: u8,
+    a: &Argument,
+    by: &Argument,
+) -> Result<Vec<Slice>, AllocError>
+    requires fits { length units.old.items + 302 < 2 ^ 32 }
+    ensures grows { OnOk result (length units.new.items ≤ length units.old.items + 302) }
+    ensures units { IfOk result (λ s. units.new.items ≡ units.old.items ++ (operator_units e Op.RightBy ((argument_of a.now) ∷ argument_of by.now ∷ []) (length units.old.items)).units) }
+    ensures slices { IfOk result (λ s. s.items ≡ (operator_units e Op.RightBy ((argument_of a.now) ∷ argument_of by.now ∷ []) (length units.old.items)).slices) }
+{
+    if a.signed {
+        return signed_moved_by(alloc, units, e, a, by);
+    }
+    moved_by(alloc, units, false, e, a, by)
+}
+
+/// Cat.
+fn concatenated(
+    alloc: Global,
+    units: &mut Vec<Unit>,
+    e: u8,
+    a: &Argument,
+    b: &Argument,
+) -> Result<Vec<Slice>, AllocError>
+    requires fits { length units.old.items + 1 < 2 ^ 32 }
+    ensures grows { OnOk result (length units.new.items ≤ length units.old.items + 1) }
+    ensures units { IfOk result (λ s. units.new.items ≡ units.old.items ++ (concatenated e (argument_of a.now) (argument_of b.now) (length units.old.items)).units) }
+    ensures slices { IfOk result (λ s. s.items ≡ (concatenated e (argument_of a.now) (argument_of b.now) (length units.old.items)).slices) }
+{
+    let all = joined(alloc, units, e, a.width, b.width, &a.slices, &b.slices)?;
+    Ok(all)
+}
+
+/// The units of an operator on two operands.
+pub fn operator_two(
+    alloc: Global,
+    units: &mut Vec<Unit>,
+    e: u8,
+    op: Op,
+    a: &Argument,
+    b: &Argument,
+) -> Result<Vec<Slice>, AllocError>
+    requires fits { length units.old.items + 20000 < 2 ^ 32 }
+    ensures grows { OnOk result (length units.new.items ≤ length units.old.items + 20000) }
+    ensures units { IfOk result (λ s. units.new.items ≡ units.old.items ++ (operator_units e op ((argument_of a.now) ∷ argument_of b.now ∷ []) (length units.old.items)).units) }
+    ensures slices { IfOk result (λ s. s.items ≡ (operator_units e op ((argument_of a.now) ∷ argument_of b.now ∷ []) (length units.old.items)).slices) }
+{
+    match op {
+        Op::Add => both_added(alloc, units, e, a, b),
+        Op::Sub => both_subtracted(alloc, units, e, a, b),
+        Op::Mul => multiplied(alloc, units, e, a, b),
+        Op::And => both_bitwise(alloc, units, e, 0x88, a, b),
+        Op::Or => both_bitwise(alloc, units, e, 0xee, a, b),
+        Op::Xor => both_bitwise(alloc, units, e, 0x66, a, b),
+        Op::Equal => equal(alloc, units, 0xf0, a, b),
+        Op::NotEqual => equal(alloc, units, 0x0f, a, b),
+        Op::Less => less(alloc, units, a, b),
+        Op::GreaterEqual => greater_equal(alloc, units, a, b),
+        Op::Greater => less(alloc, units, b, a),
+        Op::LessEqual => greater_equal(alloc, units, b, a),
+        Op::Cat => concatenated(alloc, units, e, a, b),
+        Op::LeftBy => moved_by(alloc, units, true, e, a, b),
+        Op::RightBy => moved_right_by(alloc, units, e, a, b),
+        _ => Ok(Vec::new(alloc)),
+    }
+}
+
+/// The units of a choice.
+pub fn operator_choice(
+    alloc: Global,
+    units: &mut Vec<Unit>,
+    e: u8,
+    c: &Argument,
+    a: &Argument,
+    b: &Argument,
+) -> Result<Vec<Slice>, AllocError>
+    requires fits { length units.old.items + 3 < 2 ^ 32 }
+    ensures grows { OnOk result (length units.new.items ≤ length units.old.items + 3) }
+    ensures units { IfOk result (λ s. units.new.items ≡ units.old.items ++ (operator_units e Op.Choose (argument_of c.now ∷ (argument_of a.now) ∷ argument_of b.now ∷ []) (length units.old.items)).units) }
+    ensures slices { IfOk result (λ s. s.items ≡ (operator_units e Op.Choose (argument_of c.now ∷ (argument_of a.now) ∷ argument_of b.now ∷ []) (length units.old.items)).slices) }
+{
+    both_chosen(alloc, units, e, &c.slices, a, b)
+}
+
+/// A result of `e` bits at width `w`: a signed one is widened, and above an unsigned one are zeros.
+pub fn finished(
+    alloc: Global,
+    units: &mut Vec<Unit>,
+    w: u8,
+    e: u8,
+    signed: bool,
+    x: &[Slice],
+) -> Result<Vec<Slice>, AllocError>
+    requires some { 1 ≤ e }
+    requires whole { length x.now ≡ slices_of e }
+    requires fits { length units.old.items + 1 < 2 ^ 32 }
+    ensures grows { OnOk result (length units.new.items ≤ length units.old.items + 1) }
+    ensures units { IfOk result (λ s. units.new.items ≡ units.old.items ++ (filled (slices_of w) (widened (record { slices = x.now; form = record { signed = signed; width = e } }) w) (length units.old.items)).units) }
+    ensures slices { IfOk result (λ s. s.items ≡ (filled (slices_of w) (widened (record { slices = x.now; form = record { signed = signed; width = e } }) w) (length units.old.items)).slices) }
+{
+    let wide = widened(alloc, units, x, signed, e, w)?;
+    let all = filled_slices(alloc, w, &wide)?;
+    Ok(all)
+}

@@ -1,0 +1,118 @@
+//! The rows of a product, and of a shift by an operand, at the end of a net.
+
+ghost use Rattle.std.specs.Prelude.{◌≡◌, ◌<◌, ◌≤◌, ◌+◌, ◌++◌, ℕ, Err, List, length, OnOk, OnErr, IfOk};
+ghost use Rattle.pr_base.specs.declared.caps.Cap.{Cap};
+ghost use Rattle.pr_net.specs.declared.cells.Slice.{Slice};
+ghost use Rattle.pr_cut_units.specs.Products.{product};
+ghost use Rattle.pr_cut_units.specs.Shifts.{shifted_by};
+ghost use Rattle.pr_cut_cells.specs.Fronts.{IsFront};
+ghost use Rattle.pr_cutmul.specs.Rows.{HasSame};
+
+use crate::counts::product_count;
+use crate::products::product;
+use crate::shifts::shifted_by;
+use pr_base::Cap;
+use pr_net::{Net, Slice};
+use std::alloc::{AllocError, Global};
+use thiserror::Error;
+
+/// The most units of a net.
+const MOST_UNITS: usize = 32_768;
+
+/// Why rows are not appended.
+#[derive(Debug, Drop, Error)]
+pub enum RowFault {
+    /// The net would pass this limit.
+    #[error("limit: {0:?}")]
+    Limit(Cap),
+    #[error("out of memory")]
+    Memory(AllocError),
+}
+
+impl From<AllocError> for RowFault {
+    ghost use Rattle.std.specs.Prelude.{◌≡◌};
+    ghost use Rattle.pr_cutmul.specs.declared.rows.RowFault.TheVariants.{Memory};
+
+    ghost from_gives = { λ a e. e ≡ Memory a };
+
+    fn from(error: AllocError) -> RowFault {
+        RowFault::Memory(error)
+    }
+}
+
+/// The number of units of a product.
+fn rows_of(bits: u8, wa: u8, wb: u8) -> usize
+    requires wa { wa ≤ 128 }
+    requires wb { wb ≤ 128 }
+    ensures is { (a b : List Slice) (u : ℕ) → length (product bits a wa b wb u).units ≡ result }
+    ensures few { result ≤ 12800 }
+{
+    product_count(u16::from(bits), u16::from(wa), u16::from(wb)) as usize
+}
+
+/// Appends the units of the first `bits` bits of the product of `a`, of `wa` bits, and `b`, of `wb` bits, and gives its slices.
+///
+/// # Errors
+///
+/// `Limit` where the net would have too many units, which leaves it as it was; `Memory` where memory is wanting, which leaves the first
+/// of the new units.
+#[tactic(auto, using(pr_cut_cells::proofs::FrontLemmas::front_of))]
+pub fn mul_rows(
+    alloc: Global,
+    net: &mut Net,
+    a: &[Slice],
+    wa: u8,
+    b: &[Slice],
+    wb: u8,
+    bits: u8,
+) -> Result<Vec<Slice>, RowFault>
+    requires wa { wa ≤ 128 }
+    requires wb { wb ≤ 128 }
+    requires few { length net.old.units.items ≤ 32768 }
+    ensures units { OnOk result (net.new.units.items ≡ net.old.units.items ++ (product bits a.now wa b.now wb (length net.old.units.items)).units) }
+    ensures slices { IfOk result (λ s. s.items ≡ (product bits a.now wa b.now wb (length net.old.units.items)).slices) }
+    ensures within { OnOk result (length net.new.units.items ≤ 32768) }
+    ensures passed { 32768 < length net.old.units.items + length (product bits a.now wa b.now wb (length net.old.units.items)).units → result ≡ Err (RowFault.Limit Cap.Units) }
+    ensures limit { (cap : Cap) → result ≡ Err (RowFault.Limit cap) → (cap ≡ Cap.Units) × (32768 < length net.old.units.items + length (product bits a.now wa b.now wb (length net.old.units.items)).units) × (net.new.units.items ≡ net.old.units.items) }
+    ensures part { OnErr result (IsFront net.new.units.items (net.old.units.items ++ (product bits a.now wa b.now wb (length net.old.units.items)).units)) }
+    ensures same { HasSame net.old net.new }
+{
+    let count = rows_of(bits, wa, wb);
+    if net.units.len() + count > MOST_UNITS {
+        return Err(RowFault::Limit(Cap::Units));
+    }
+    let slices = product(alloc, &mut net.units, bits, a, wa, b, wb)?;
+    Ok(slices)
+}
+
+/// Appends the units of a shift of `a`, of `wa` bits, to one side by `by`, of `wby` bits, and gives its slices.
+///
+/// # Errors
+///
+/// `Limit` where the net would have too many units, which leaves it as it was; `Memory` where memory is wanting, which leaves the first
+/// of the new units.
+#[tactic(auto, using(pr_cut_cells::proofs::FrontLemmas::front_of))]
+pub fn shift_rows(
+    alloc: Global,
+    net: &mut Net,
+    left: bool,
+    a: &[Slice],
+    wa: u8,
+    by: &[Slice],
+    wby: u8,
+) -> Result<Vec<Slice>, RowFault>
+    requires few { length net.old.units.items ≤ 32768 }
+    ensures units { OnOk result (net.new.units.items ≡ net.old.units.items ++ (shifted_by left wa by.now wby a.now (length net.old.units.items)).units) }
+    ensures slices { IfOk result (λ s. s.items ≡ (shifted_by left wa by.now wby a.now (length net.old.units.items)).slices) }
+    ensures within { OnOk result (length net.new.units.items ≤ 32768) }
+    ensures passed { 32768 < length net.old.units.items + length (shifted_by left wa by.now wby a.now (length net.old.units.items)).units → result ≡ Err (RowFault.Limit Cap.Units) }
+    ensures limit { (cap : Cap) → result ≡ Err (RowFault.Limit cap) → (cap ≡ Cap.Units) × (32768 < length net.old.units.items + length (shifted_by left wa by.now wby a.now (length net.old.units.items)).units) × (net.new.units.items ≡ net.old.units.items) }
+    ensures part { OnErr result (IsFront net.new.units.items (net.old.units.items ++ (shifted_by left wa by.now wby a.now (length net.old.units.items)).units)) }
+    ensures same { HasSame net.old net.new }
+{
+    if net.units.len() + usize::from(wby) > MOST_UNITS {
+        return Err(RowFault::Limit(Cap::Units));
+    }
+    let slices = shifted_by(alloc, &mut net.units, left, wa, by, wby, a)?;
+    Ok(slices)
+}

@@ -1,0 +1,53 @@
+-- The tables of a net.
+use Rattle.std.specs.Prelude.{◌≡◌, ◌≢◌, ℕ, ◌<◌, ◌+◌, ◌-◌, ◌^◌, Bool, false, List, [], Vec, length, map, replicate, slice_index, slice_index_or}
+use Rattle.std.specs.List.{All}
+use Rattle.std.specs.declared.alloc.Global.{Global}
+use Rattle.pr_net.specs.Shape.{NetShape}
+use Rattle.pr_place.specs.declared.celltables.CellTables.{CellTables}
+use Rattle.pr_place.specs.declared.lookups.Tables.{Tables}
+use Rattle.pr_place.specs.declared.starts.Start.{Start}
+use Rattle.pr_place.specs.Registers.{count_of}
+use Rattle.pr_place.specs.Numbering.{IsNumbered, reads_from, marked_outputs}
+use Rattle.pr_place.specs.Tracking.{IsCellOf, ops_of, uses_of, needs_of, Fixed, Filling}
+use Rattle.pr_place.specs.Waits.{waits_of, Owned}
+
+-- the lists of a table of lists
+abbrev pub kinds_of : List (Vec Bool Global) → List (List Bool)
+kinds_of kinds = map (λ k. k.items) kinds
+
+abbrev pub numbers_of : List (Vec ℕ Global) → List (List ℕ)
+numbers_of lists = map (λ r. r.items) lists
+
+-- what a group reads, and who reads it
+abbrev pub reads_in : Tables → ℕ → List ℕ
+reads_in t g = slice_index_or (ops_of t.plans.items) g []
+
+abbrev pub readers_in : Tables → ℕ → List ℕ
+readers_in t g = slice_index_or (numbers_of t.readers.items) g []
+
+-- the tables of a net's cells
+pub record AreCells (net : NetShape) (t : CellTables) : Type 0 where
+  pub numbered : IsNumbered net.units t.first.items (length t.owner.items)
+  pub owner : (g u i : ℕ) → IsCellOf net g u i → slice_index t.owner.items (slice_index t.first.items u + i) ≡ g
+  pub kept : t.kept.items ≡ marked_outputs t.first.items (replicate (length t.owner.items) false) net.outputs
+  pub uses_long : length t.uses.items ≡ length t.owner.items
+  pub uses : (x : ℕ) → slice_index t.uses.items x ≡ uses_of (reads_from net.units t.first.items t.owner.items 0 net.groups) [] x
+
+-- the tables of a net: who reads a group stands there as often as it reads a cell of it
+pub record AreTables (N P : ℕ) (net : NetShape) (t : Tables) : Type 0 where
+  pub fixed : Fixed N P net t.cells.first.items t.cells.kept.items t.plans.items t.class.items (length t.cells.owner.items)
+  pub first_long : length t.cells.first.items ≡ length net.units
+  pub owned : Owned net t.cells.first.items (ops_of t.plans.items) t.cells.owner.items
+  pub uses_long : length t.cells.uses.items ≡ length t.cells.owner.items
+  pub uses : (x : ℕ) → slice_index t.cells.uses.items x ≡ uses_of (ops_of t.plans.items) [] x
+  pub alike : (g h : ℕ) → g < length net.groups → h < length net.groups → slice_index t.class.items g ≡ slice_index t.class.items h → slice_index t.class.items g ≢ 63 → needs_of net g ≡ needs_of net h
+  pub readers_long : length t.readers.items ≡ length net.groups
+  pub readers : (g h : ℕ) → g < length net.groups → h < length net.groups → count_of h (readers_in t g) ≡ count_of g (map (λ x. slice_index t.cells.owner.items x) (reads_in t h))
+  pub readers_there : (g : ℕ) → All (λ h. h < length net.groups) (readers_in t g)
+
+-- how placing begins: nothing is placed, and each group waits for all that it reads
+pub record IsStart (N P : ℕ) (net : NetShape) (t : Tables) (s : Start) : Type 0 where
+  pub spots : length s.progress.spots ≡ length t.cells.owner.items
+  pub waits_long : length s.waits.items ≡ length net.groups
+  pub waits : (g : ℕ) → g < length net.groups → slice_index s.waits.items g ≡ waits_of t.cells.owner.items [] (reads_in t g)
+  pub filling : Filling N P net t.cells.first.items t.cells.kept.items t.plans.items t.class.items s.summary.items s.ready.items s.progress 0 (2 ^ 64 - 1) 0 []

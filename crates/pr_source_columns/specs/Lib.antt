@@ -1,4 +1,0 @@
-pub mod Columns
-pub mod Operands
-pub mod Environments
-pub mod Readings
