@@ -94,13 +94,14 @@ pub(crate) fn named(
 }
 
 /// Programs, samples, and a text `t` that is neither samples nor a stall text.
-const TEXTS: [(&str, &str); 6] = [
+const TEXTS: [(&str, &str); 7] = [
     ("p", XOR),
     ("g", GROWING_SUM),
     ("s", "5 3\n255 1\n"),
     ("b", BAD_LINE),
     ("f", "256 1\n"),
     ("t", "..x"),
+    ("e", ""),
 ];
 
 /// The texts, the configuration `c`, and others.
