@@ -1,5 +1,6 @@
 #!/usr/bin/env python3
-"""What the idioms and kernels are to write, by other definitions than their programs: on whole lists, with numbers of any size.
+"""What the programs of the guide, the idioms and the kernels are to write, by other definitions: on whole lists, with numbers of any
+size.
 
 usage: reference.py FOLDER [SAMPLES], as reference.py kernels/fir; without a folder it compares each stored file
 """
@@ -7,12 +8,12 @@ import base64, itertools, pathlib, sys, zlib
 from math import cos, pi
 
 here = pathlib.Path(__file__).resolve().parent
-kernels = {}
+folders = {}
 
 
-def kernel(name):
+def example(name):
     def keep(function):
-        kernels[name] = function
+        folders[name] = function
         return function
     return keep
 
@@ -34,55 +35,102 @@ def ones(number):
     return bin(number).count("1")
 
 
+# The programs of the guide
+
+@example("guide/moving-sum")
+def moving_sum(rows):
+    x = column(rows)
+    return [[sum(x[max(0, n - 3):n + 1])] for n in range(len(x))]
+
+
+@example("guide/first-filter")
+def first_filter(rows):
+    x = column(rows)
+    return [[(at(x, n) + 3 * at(x, n - 1) + 3 * at(x, n - 2) + at(x, n - 3)) // 8] for n in range(len(x))]
+
+
+@example("guide/smoother")
+def smoother(rows):
+    s, results = 0, []
+    for x, in rows:
+        s = s - s // 16 + x
+        results.append([s // 16])
+    return results
+
+
+@example("guide/edge-detector")
+def edge_detector(rows):
+    x = [signed(v, 8) for v, in rows]
+    slopes = [x[n] - at(x, n - 1) for n in range(len(x))]
+    steep = [abs(slope) > 20 for slope in slopes]
+    return [[slope % 2**9, int(any(steep[max(0, n - 3):n + 1]))] for n, slope in enumerate(slopes)]
+
+
+@example("guide/minute")
+def minute(rows):
+    x = column(rows)
+    return [[sum(c * at(x, n - k) for k, c in enumerate((8, 9, 10, 11))), n] for n in range(len(x))]
+
+
+@example("guide/complex-product")
+def complex_product(rows):
+    results = []
+    for row in rows:
+        a, b, c, d = (signed(v, 8) for v in row)
+        product = complex(a, b) * complex(c, d)
+        results.append([int(product.real) % 2**16, int(product.imag) % 2**17])
+    return results
+
+
 # Idioms
 
-@kernel("idioms/negative-constant")
+@example("idioms/negative-constant")
 def negative_constant(rows):
     return [[(signed(x, 8) - 3) % 2**9, -signed(x, 8) % 2**9] for x, in rows]
 
 
-@kernel("idioms/grow-and-wrap")
+@example("idioms/grow-and-wrap")
 def grow_and_wrap(rows):
     return [[a + b, (a - b) % 256, (a - b) % 512] for a, b in rows]
 
 
-@kernel("idioms/saturation")
+@example("idioms/saturation")
 def saturation(rows):
     return [[min(a + b, 255)] for a, b in rows]
 
 
-@kernel("idioms/rotation")
+@example("idioms/rotation")
 def rotation(rows):
     return [[x * 8 % 255 if x < 255 else 255] for x, in rows]
 
 
-@kernel("idioms/tree-of-choices")
+@example("idioms/tree-of-choices")
 def tree_of_choices(rows):
     return [[(3, 7, 9, 1)[k]] for k, in rows]
 
 
-@kernel("idioms/hold-a-value")
+@example("idioms/hold-a-value")
 def hold_a_value(rows):
     return [[([0] + [x for x, take in rows[:n + 1] if take])[-1]] for n in range(len(rows))]
 
 
-@kernel("idioms/counter")
+@example("idioms/counter")
 def counter(rows):
     return [[n % 256, x] for n, (x,) in enumerate(rows)]
 
 
-@kernel("idioms/signed-recurrence")
+@example("idioms/signed-recurrence")
 def signed_recurrence(rows):
     sums = itertools.accumulate(signed(x, 8) for x, in rows)
     return [[s % 2**16, s // 2 % 2**16] for s in sums]
 
 
-@kernel("idioms/one-after-the-other")
+@example("idioms/one-after-the-other")
 def one_after_the_other(rows):
     return [[sum(x ^ i for i in range(120)) % 256] for x, in rows]
 
 
-@kernel("idioms/split-recurrence")
+@example("idioms/split-recurrence")
 def split_recurrence(rows):
     seen = itertools.accumulate(column(rows), lambda a, b: a | b)
     return [[2**64 - 1 - s] for s in seen]
@@ -90,19 +138,20 @@ def split_recurrence(rows):
 
 # Kernels
 
-@kernel("kernels/fir")
+@example("guide/loop-and-function")
+@example("kernels/fir")
 def fir(rows):
     taps = [8, 9, 10, 11, 12, 13, 14, 15, 15, 14, 13, 12, 11, 10, 9, 8]
     x = column(rows)
     return [[sum(c * at(x, n - k) for k, c in enumerate(taps))] for n in range(len(x))]
 
 
-@kernel("kernels/population-count")
+@example("kernels/population-count")
 def population_count(rows):
     return [[ones(x)] for x, in rows]
 
 
-@kernel("kernels/target-recognition")
+@example("kernels/target-recognition")
 def target_recognition(rows):
     ring = ["..####..", ".######.", "###..###", "##....##", "##....##", "###..###", ".######.", "..####.."]
     picture = ["." * 8] * 7 + [format(x, "08b").replace("1", "#").replace("0", ".") for x, in rows]
@@ -114,7 +163,7 @@ def target_recognition(rows):
     return results
 
 
-@kernel("kernels/cordic")
+@example("kernels/cordic")
 def cordic(rows):
     results = []
     for angle, in rows:
@@ -132,12 +181,12 @@ def transform(values):
     return [sum(f * v for f, v in zip(line, values)) for line in factor]
 
 
-@kernel("kernels/dct8")
+@example("kernels/dct8")
 def dct8(rows):
     return [[y % 2**18 for y in transform([signed(x, 8) for x in row])] for row in rows]
 
 
-@kernel("kernels/dct8x8")
+@example("kernels/dct8x8")
 def dct8x8(rows):
     picture = [[0] * 8] * 7 + [[signed(x, 8) for x in row] for row in rows]
     results = []
@@ -148,7 +197,7 @@ def dct8x8(rows):
     return results
 
 
-@kernel("kernels/idea")
+@example("kernels/idea")
 def idea(rows):
     key = 0x00010002000300040005000600070008
     parts = []
@@ -172,12 +221,12 @@ def idea(rows):
     return results
 
 
-@kernel("kernels/n-queens")
+@example("kernels/n-queens")
 def n_queens(rows):
     return [[int(all(len({q + s * row for row, q in enumerate(r)}) == 8 for s in (-1, 0, 1)))] for r in rows]
 
 
-@kernel("kernels/image-over")
+@example("kernels/image-over")
 def image_over(rows):
     return [[(2 * (f * a + b * (255 - a)) + 255) // 510 for f, b in zip(r[:3], r[3:])] for a, *r in rows]
 
@@ -195,13 +244,13 @@ def remainders(bits, poly, width, first):
     return results
 
 
-@kernel("kernels/crc-8")
+@example("kernels/crc-8")
 def crc_8(rows):
     bits = [x >> k & 1 for x, in rows for k in range(7, -1, -1)]
     return [[r] for r in remainders(bits, 0x07, 8, 0)[7::8]]
 
 
-@kernel("kernels/crc-32")
+@example("kernels/crc-32")
 def crc_32(rows):
     bits = column(rows)
     results = [[int(format(r ^ 0xffffffff, "032b")[::-1], 2)] for r in remainders(bits, 0x04c11db7, 32, 0xffffffff)]
@@ -211,7 +260,7 @@ def crc_32(rows):
     return results
 
 
-@kernel("kernels/cic")
+@example("kernels/cic")
 def cic(rows):
     x = column(rows)
     for _ in range(3):
@@ -219,7 +268,7 @@ def cic(rows):
     return [[y, int(n % 8 == 7)] for n, y in enumerate(x)]
 
 
-@kernel("kernels/biquad")
+@example("kernels/biquad")
 def biquad(rows):
     x, y = [signed(v, 8) for v, in rows], []
     for n in range(len(x)):
@@ -227,19 +276,19 @@ def biquad(rows):
     return [[v % 2**16] for v in y]
 
 
-@kernel("kernels/base64")
+@example("kernels/base64")
 def base_64(rows):
     return [list(base64.b64encode(bytes(row))) for row in rows]
 
 
-@kernel("kernels/convolutional-coder")
+@example("kernels/convolutional-coder")
 def convolutional_coder(rows):
     x = column(rows)
     taps = [[k for k in range(7) if g >> (6 - k) & 1] for g in (0o171, 0o133)]
     return [[sum(at(x, n - k) for k in t) % 2 for t in taps] for n in range(len(x))]
 
 
-@kernel("kernels/viterbi-step")
+@example("kernels/viterbi-step")
 def viterbi_step(rows):
     results = []
     for *sums, received in rows:
@@ -253,13 +302,13 @@ def viterbi_step(rows):
     return results
 
 
-@kernel("kernels/run-lengths")
+@example("kernels/run-lengths")
 def run_lengths(rows):
     runs = [len(list(run)) for _, run in itertools.groupby(column(rows))]
     return [[int(k == 0), k + 1] for length in runs for k in range(length)]
 
 
-@kernel("kernels/quadrature-mixer")
+@example("kernels/quadrature-mixer")
 def quadrature_mixer(rows):
     phase, results = 0, []
     for x, step in rows:
@@ -271,7 +320,7 @@ def quadrature_mixer(rows):
 
 def expected(folder, samples):
     rows = [[int(word) for word in line.split()] for line in samples.read_text().splitlines()]
-    return "".join(" ".join(map(str, row)) + "\n" for row in kernels[folder](rows))
+    return "".join(" ".join(map(str, row)) + "\n" for row in folders[folder](rows))
 
 
 def main(words):
@@ -280,7 +329,7 @@ def main(words):
         sys.stdout.write(expected(words[0].strip("/"), samples))
         return 0
     differ = 0
-    for folder in kernels:
+    for folder in folders:
         for samples in sorted((here / folder).glob("samples*.txt")):
             stored = samples.with_name(samples.name.replace("samples", "expected"))
             if stored.read_text() != expected(folder, samples):
