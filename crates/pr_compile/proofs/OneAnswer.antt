@@ -1,12 +1,11 @@
 -- A net has one refusal at most, equations one configuration, and a text one refusal or one configuration.
 use Rattle.std.proofs.Common.{◌≡◌, ◌⊎◌, ℕ, Some, None, List, refl, sym, ap, ap₂, ◌∙◌, subst, inl, inr}
-use Rattle.pr_base.specs.declared.caps.Cap.{Cap}
 use Rattle.pr_lang.specs.declared.trees.Program.{Program}
 use Rattle.pr_flat.specs.declared.equations.Operand.{Operand}
 use Rattle.pr_flat.specs.Shape.{EquationShape}
 use Rattle.pr_expand_spec.specs.Programs.{Flattened}
 use Rattle.pr_net.specs.Shape.{NetShape}
-use Rattle.pr_cut_units.specs.Nets.{net_of, limit_passed}
+use Rattle.pr_cut_units.specs.Nets.{net_of}
 use Rattle.pr_place.specs.Placements.{HomeShape, PlacementShape}
 use Rattle.pr_place.proofs.OneAnswer.{one_placement, not_both}
 use Rattle.pr_place.proofs.Stuck.{one_no_fit}

@@ -10,7 +10,7 @@ use Rattle.pr_flat.specs.Shape.{EquationShape}
 use Rattle.pr_flat.specs.Widths.{operand_width}
 use Rattle.pr_flat.specs.Values.{input_widths, rows_of, operand_number}
 use Rattle.pr_flat.proofs.ValueLemmas.{length-rows_after}
-use Rattle.pr_net.specs.Shape.{OutputShape, NetShape}
+use Rattle.pr_net.specs.Shape.{OutputShape}
 use Rattle.pr_net.specs.Reading.{shown}
 use Rattle.pr_net.specs.Whole.{net_reading, output_row, widths_of}
 use Rattle.pr_cut_units.specs.Equations.{plan_of, cut_whole}

@@ -1,7 +1,6 @@
 -- Why a text has no configuration on N columns and P registers: the points up to the widths of its equations, then the limits
 -- of its net, and last what the greedy rule fits in no stripe. Each speaks of a text that no point before it refuses.
 use Rattle.std.specs.Prelude.{◌≡◌, ◌⊎◌, ℕ, List, None, Some, ⊤}
-use Rattle.pr_base.specs.declared.caps.Cap.{Cap}
 use Rattle.pr_lang.specs.declared.trees.Program.{Program}
 use Rattle.pr_net.specs.Shape.{NetShape}
 use Rattle.pr_cut_units.specs.Nets.{limit_passed}
