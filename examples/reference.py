@@ -1,6 +1,6 @@
 #!/usr/bin/env python3
-"""What the programs of the guide, the idioms and the kernels are to write, by other definitions: on whole lists, with numbers of any
-size.
+"""What the programs of the guide, the idioms and the kernels are to write, by other definitions: on whole lists, with
+numbers of any size.
 
 usage: reference.py FOLDER [SAMPLES], as reference.py kernels/fir; without a folder it compares each stored file
 """
