@@ -46,5 +46,5 @@ returns c =
     record {
       rows = c.deref-2.result.now;
       fed = subst (λ (ws : List ℕ). AreFed ws c.args.bytes.items c.deref-2.result.now c.in_ok-samples.samples.end) same (subst (λ (rows : List (List ℕ)). AreFed c.deref.result.now c.args.bytes.items rows c.in_ok-samples.samples.end) (sym c.deref-2.ensures.value) c.in_ok-samples.ensures);
-      lines = c.in_ok-text.ensures ∙ ap written (c.in_ok-rows.ensures ∙ means);
+      lines = c.in_ok-text.ensures ∙ ap written (c.deref-3.ensures.value ∙ (c.in_ok-rows.ensures ∙ means));
     }
