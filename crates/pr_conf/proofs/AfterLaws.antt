@@ -1,5 +1,6 @@
 -- A configuration after some samples works on as the first one does.
 use Rattle.std.proofs.Common.{◌≡◌, ℕ, zero, suc, ◌+◌, ◌-◌, ◌<◌, ◌≤◌, Bool, true, false, ◌&&◌, ◌==◌, eqb, List, [], ◌∷◌, ◌++◌, length, get_or, map, take, refl, sym, ap, ap₂, ◌∙◌, subst, arith, if◌then◌else◌, length-append}
+use Rattle.std.proofs.Math.ListN.{set}
 use Rattle.std.proofs.lemmas.Bool.{and_parts, eqb-true}
 use Rattle.std.proofs.lemmas.List.{length-map, take-length}
 use Rattle.std.specs.List.{flat_map}
@@ -209,3 +210,24 @@ further_stages N P c xs ys =
 pub further_after : (N P : ℕ) (c : Shape) (xs ys : List (List ℕ)) → conf_after N P (conf_after N P c xs) ys ≡ conf_after N P c (xs ++ ys)
 unfolding conf_after
 further_after N P c xs ys = ap (λ ss. record c { stages = ss }) (further_stages N P c xs ys)
+
+-- ---- one more byte, and one stage
+pub begun_none : (pes : List Pe) → begun pes [] ≡ pes
+begun_none [] = refl
+begun_none (pe ∷ pes) = refl
+
+pub begun_more : (pes : List Pe) (st : List ℕ) (i : ℕ) (d : Pe) → i < length pes → i < length st → set (begun pes (take i st)) i (record (get_or (begun pes (take i st)) i d) { init = get_or st i 0 }) ≡ begun pes (take (i + 1) st)
+begun_more [] st i d h l = absurd (omega arith)
+begun_more (pe ∷ pes) [] i d h l = absurd (omega arith)
+begun_more (pe ∷ pes) (b ∷ st) zero d h l = ap (λ ps. record pe { init = b } ∷ ps) (sym (begun_none pes))
+begun_more (pe ∷ pes) (b ∷ st) (suc i) d h l = ap (λ ps. record pe { init = b } ∷ ps) (begun_more pes st i d (omega arith) (omega arith))
+
+pub begun_turn : (pes now : List Pe) (st : List ℕ) (i : ℕ) (d : Pe) → now ≡ begun pes (take i st) → i < length st → length st ≡ length pes → set now i (record (get_or now i d) { init = get_or st i 0 }) ≡ begun pes (take (i + 1) st)
+begun_turn pes now st i d e h l =
+    ap (λ (ps : List Pe). set ps i (record (get_or ps i d) { init = get_or st i 0 })) e ∙ begun_more pes st i d (omega arith) h
+
+-- a stage changed at its place is changed in the shape, which stays lawful
+pub set_lawful : (N P bus k i : ℕ) (stages : List (List Pe)) (st : List ℕ) → are_lawful_stages N P bus k (set stages i (begun (get_or stages i []) st)) ≡ are_lawful_stages N P bus k stages
+set_lawful N P bus k i [] st = refl
+set_lawful N P bus k zero (pes ∷ stages) st = ap₂ (λ n b. (eqb n N && b) && are_lawful_stages N P bus (k + 1) stages) (length-begun pes st) (begun_lawful (site_of N P bus k) pes st)
+set_lawful N P bus k (suc i) (pes ∷ stages) st = ap (λ b. (eqb (length pes) N && are_lawful_pes (site_of N P bus k) pes) && b) (set_lawful N P bus (k + 1) i stages st)
