@@ -62,10 +62,10 @@ final_of {N} {P} m c p h xs stands t =
     record {
       still = record {
         left = entered ∙ sym gone;
-        input = stands.parts.input ∙ drop_all (length a.entries) a.offered (omega (arith, size, t.entered));
-        output = stands.parts.output
-        ∙ (ap (λ (ys : List (List ℕ)). drop a.taken ys) (take_all (left v a) rows (omega (arith, many, size, t.left)))
-        ∙ drop_all a.taken rows (omega (arith, many, size, t.taken)));
+        input = ap length (stands.parts.input ∙ drop_all (length a.entries) a.offered (omega (arith, size, t.entered)));
+        output = ap length (stands.parts.output
+            ∙ (ap (λ (ys : List (List ℕ)). drop a.taken ys) (take_all (left v a) rows (omega (arith, many, size, t.left)))
+            ∙ drop_all a.taken rows (omega (arith, many, size, t.taken))));
       };
       left = gone;
     }

@@ -3,6 +3,9 @@
 #![tactic(auto)]
 
 mod finishing;
+pub mod laws;
+mod marking;
 mod nowhere;
 
 pub use finishing::finish;
+pub use marking::mark_of;
