@@ -222,7 +222,9 @@ pub begun_more : (pes : List Pe) (st : List ℕ) (i : ℕ) (d : Pe) → i < leng
 begun_more [] st i d h l = absurd (omega arith)
 begun_more (pe ∷ pes) [] i d h l = absurd (omega arith)
 begun_more (pe ∷ pes) (b ∷ st) zero d h l = ap (λ ps. record pe { init = b } ∷ ps) (sym (begun_none pes))
-begun_more (pe ∷ pes) (b ∷ st) (suc i) d h l = ap (λ ps. record pe { init = b } ∷ ps) (begun_more pes st i d (omega arith) (omega arith))
+begun_more (pe ∷ pes) (b ∷ st) (suc i) d h l =
+    let e : suc (i + 1) ≡ suc i + 1 = omega arith in
+    ap (λ ps. record pe { init = b } ∷ ps) (begun_more pes st i d (omega arith) (omega arith)) ∙ ap (λ n. begun (pe ∷ pes) (take n (b ∷ st))) e
 
 pub begun_turn : (pes now : List Pe) (st : List ℕ) (i : ℕ) (d : Pe) → now ≡ begun pes (take i st) → i < length st → length st ≡ length pes → set now i (record (get_or now i d) { init = get_or st i 0 }) ≡ begun pes (take (i + 1) st)
 begun_turn pes now st i d e h l =
@@ -242,8 +244,8 @@ with_states_after N P c now states xs e h =
     ∙ ap (λ ss. record c { stages = ss }) (all_begun_alike states (state_rows N P c xs) 0 c.stages (λ s k. let z : 0 + s ≡ s = omega arith in subst (λ n. states n ≡ state_rows N P c xs n) (sym z) (h s k)))
 
 -- the shape of stages of which one was made to begin in another state
-pub stages_begun : {N : ℕ} (stages : List (Stage N)) (i : ℕ) (old new : Stage N) (st : List ℕ) (pes : List Pe) → i < length stages → old ≡ get_or stages i old → pes ≡ old.pes.items → new.pes.items ≡ begun pes st
+pub stages_begun : {N : ℕ} (stages : List (Stage N)) (i : ℕ) (old new : Stage N) (st : List ℕ) → i < length stages → old ≡ get_or stages i old → new.pes.items ≡ begun old.pes.items st
     → map (pes_of {N = N}) (set stages i new) ≡ set (map (pes_of {N = N}) stages) i (begun (get_or (map (pes_of {N = N}) stages) i []) st)
-stages_begun {N = N} stages i old new st pes h e f n =
+stages_begun {N = N} stages i old new st h e n =
     map-set (pes_of {N = N}) stages i new
-    ∙ ap (set (map (pes_of {N = N}) stages) i) (n ∙ ap (λ ps. begun ps st) (f ∙ (ap (pes_of {N = N}) e ∙ sym (get_or-map (pes_of {N = N}) stages i old [] h))))
+    ∙ ap (set (map (pes_of {N = N}) stages) i) (n ∙ ap (λ ps. begun ps st) (ap (pes_of {N = N}) e ∙ sym (get_or-map (pes_of {N = N}) stages i old [] h)))

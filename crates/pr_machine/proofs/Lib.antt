@@ -6,5 +6,5 @@ pub mod Cycles
 pub mod Outputs
 pub mod FirstStates
 pub mod Starting
-pub mod Emptying
+pub mod Emptied
 pub mod Begun

@@ -1,7 +1,7 @@
 use Rattle.std.proofs.Common.{◌≡◌, ℕ, ◌+◌, ◌<◌, true, length, refl, ap, ◌∙◌, subst, arith, inl, below_more}
 use Rattle.pr_machine_refines.specs.Spots.{saved}
 use Rattle.pr_machine.specs.Places.{seen, place_at, spots_of, rows_of, is_bare}
-use Rattle.pr_machine.proofs.Emptying.{emptied_more}
+use Rattle.pr_machine.proofs.Emptied.{emptied_more}
 use Rattle.pr_machine.proofs.emptying.empty_all.Goals as goal
 
 pub loop-at-init : goal.loop-at-init

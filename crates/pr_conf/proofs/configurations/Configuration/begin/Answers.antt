@@ -20,7 +20,7 @@ invariant_of-self g c =
       lawful_inputs = conf.lawful_inputs;
       lawful_outputs = conf.lawful_outputs;
       lawful_stages =
-          ap (are_lawful_stages g.row.N g.row.P bus 0) (stages_begun conf.stages.items c.args.stage c.index_mut.result.now _ c.args.state.now c.deref_mut.result.now here c.index_mut.ensures.value c.deref_mut.ensures.value c.begin_each.ensures)
+          ap (are_lawful_stages g.row.N g.row.P bus 0) (stages_begun conf.stages.items c.args.stage c.index_mut.result.now c.begin.new.self c.args.state.now here c.index_mut.ensures.value c.begin.ensures)
           ∙ (set_lawful g.row.N g.row.P bus 0 c.args.stage (map (pes_of {N = g.row.N}) conf.stages.items) c.args.state.now ∙ conf.lawful_stages);
     }
 
@@ -28,4 +28,4 @@ pub returns-clause-stages : goal.returns-clause-stages
 returns-clause-stages g c =
     let conf = c.args.self.now in
     let here : c.args.stage < length conf.stages.items = omega (arith, c.requires.stage, conf.stages.ok.0) in
-    stages_begun conf.stages.items c.args.stage c.index_mut.result.now _ c.args.state.now c.deref_mut.result.now here c.index_mut.ensures.value c.deref_mut.ensures.value c.begin_each.ensures
+    stages_begun conf.stages.items c.args.stage c.index_mut.result.now c.begin.new.self c.args.state.now here c.index_mut.ensures.value c.begin.ensures
