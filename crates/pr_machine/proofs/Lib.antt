@@ -6,3 +6,4 @@ pub mod Cycles
 pub mod Outputs
 pub mod FirstStates
 pub mod Starting
+pub mod ReadyLaws
