@@ -9,3 +9,4 @@ pub mod Starting
 pub mod Emptied
 pub mod Begun
 pub mod Drained
+pub mod ReadyLaws

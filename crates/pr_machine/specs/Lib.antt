@@ -1,4 +1,5 @@
 pub mod Places
+pub mod Ready
 pub mod Schedules
 pub mod Stands
 pub mod Results

@@ -10,6 +10,7 @@ ghost use Rattle.pr_conf.specs.Through.{output_widths, steps_of};
 ghost use Rattle.pr_machine_refines.specs.Cycle.{will_enter, bus_of, rest_of, pushed, HasRoom};
 ghost use Rattle.pr_stripe.specs.Rows.{entering as row_if};
 ghost use Rattle.pr_machine.specs.Places.{AreHere, AreBare, rows_of};
+ghost use Rattle.pr_machine.specs.Ready.{AreReady};
 ghost use Rattle.pr_machine.specs.Schedules.{IsScheduled};
 
 use crate::buffers::Buffers;
@@ -32,6 +33,8 @@ pub struct Loaded<const N: usize, const P: usize> {
     ghost plan_stripes: { plan.stripes ≡ vec_len places },
     ghost here: { AreHere (vec_len conf.stages) places.items },
     ghost rows: { length buffers.store ≡ vec_len conf.stages },
+    ghost ready: { AreReady (P - 1) (shape_of conf).stages buffers.prepared.items },
+    ghost count: { vec_len buffers.prepared ≡ vec_len conf.stages },
     ghost input: { buffers.input.size ≡ bytes_in (shape_of conf).inputs },
     ghost output: { buffers.output.size ≡ bytes_in (output_widths (shape_of conf)) },
     ghost sample: { vec_len buffers.sample ≡ bytes_in (shape_of conf).inputs },
@@ -47,7 +50,7 @@ fn enter<const N: usize>(buffers: &mut Buffers<N>, first: Option<usize>) -> bool
     ensures rest { buffers.new.input.waiting ≡ rest_of buffers.old.input.waiting first }
     ensures size { buffers.new.input.size ≡ buffers.old.input.size }
     ensures length { vec_len buffers.new.sample ≡ vec_len buffers.old.sample }
-    ensures others { (buffers.new.store ≡ buffers.old.store) × (buffers.new.output ≡ buffers.old.output) × (buffers.new.result ≡ buffers.old.result) }
+    ensures others { (buffers.new.store ≡ buffers.old.store) × (buffers.new.output ≡ buffers.old.output) × (buffers.new.result ≡ buffers.old.result) × (buffers.new.prepared ≡ buffers.old.prepared) }
 {
     buffers.sample.fill(0);
     match first {
@@ -61,7 +64,7 @@ fn put_result<const N: usize>(buffers: &mut Buffers<N>, left: bool)
     requires { left ≡ true → length buffers.old.result.items ≡ buffers.old.output.size }
     ensures put { HasRoom buffers.old.output.waiting (row_if left buffers.old.result.items) → buffers.new.output.waiting ≡ pushed buffers.old.output.waiting (row_if left buffers.old.result.items) }
     ensures size { buffers.new.output.size ≡ buffers.old.output.size }
-    ensures others { (buffers.new.store ≡ buffers.old.store) × (buffers.new.input ≡ buffers.old.input) × (buffers.new.result ≡ buffers.old.result) × (buffers.new.sample ≡ buffers.old.sample) }
+    ensures others { (buffers.new.store ≡ buffers.old.store) × (buffers.new.input ≡ buffers.old.input) × (buffers.new.result ≡ buffers.old.result) × (buffers.new.sample ≡ buffers.old.sample) × (buffers.new.prepared ≡ buffers.old.prepared) }
 {
     if left {
         let _told = buffers.output.put(&buffers.result);
@@ -107,6 +110,8 @@ impl<const N: usize, const P: usize> Loaded<N, P> {
         requires bare { AreBare places.items }
         requires states { (s : ℕ) → s < vec_len conf.stages → rows_of buffers.store s ≡ (steps_of N P (shape_of conf) s).init }
         requires rows { length buffers.store ≡ vec_len conf.stages }
+        requires ready { AreReady (P - 1) (shape_of conf).stages buffers.prepared.items }
+        requires count { vec_len buffers.prepared ≡ vec_len conf.stages }
         requires input { buffers.input ≡ record { size = bytes_in (shape_of conf).inputs; waiting = [] } }
         requires output { buffers.output ≡ record { size = bytes_in (output_widths (shape_of conf)); waiting = [] } }
         requires sample { vec_len buffers.sample ≡ bytes_in (shape_of conf).inputs }

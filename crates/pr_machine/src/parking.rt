@@ -1,6 +1,6 @@
 //! Configurations that wait beside a machine, with the states that their samples left.
 
-ghost use Rattle.std.specs.Prelude.{ℕ, ◌≡◌, ◌<◌, ◌≤◌, [], List, IfOk, IfErr, length, vec_len, vec_capacity};
+ghost use Rattle.std.specs.Prelude.{ℕ, ◌≡◌, ◌<◌, ◌≤◌, ◌-◌, [], List, IfOk, IfErr, length, vec_len, vec_capacity};
 ghost use Rattle.pr_machine_account.specs.Account.{left as left_of};
 ghost use Rattle.pr_conf.specs.Shape.{Shape};
 ghost use Rattle.pr_conf.specs.Configuration.{shape_of};
@@ -8,6 +8,7 @@ ghost use Rattle.pr_conf.specs.Rules.{bytes_in};
 ghost use Rattle.pr_conf.specs.Through.{output_widths, steps_of};
 ghost use Rattle.pr_conf.specs.After.{conf_after};
 ghost use Rattle.pr_machine.specs.Places.{rows_of};
+ghost use Rattle.pr_machine.specs.Ready.{AreReady};
 
 use crate::buffers::{Buffers, buffers_for};
 use crate::emptying::{begin_from, empty_all};
@@ -23,6 +24,8 @@ pub struct Parked<const N: usize, const P: usize> {
     buffers: Buffers<N>,
     ghost states: { (s : ℕ) → s < vec_len conf.stages → rows_of buffers.store s ≡ (steps_of N P (shape_of conf) s).init },
     ghost rows: { length buffers.store ≡ vec_len conf.stages },
+    ghost ready: { AreReady (P - 1) (shape_of conf).stages buffers.prepared.items },
+    ghost count: { vec_len buffers.prepared ≡ vec_len conf.stages },
     ghost input: { buffers.input ≡ record { size = bytes_in (shape_of conf).inputs; waiting = [] } },
     ghost output: { buffers.output ≡ record { size = bytes_in (output_widths (shape_of conf)); waiting = [] } },
     ghost sample: { vec_len buffers.sample ≡ bytes_in (shape_of conf).inputs },
