@@ -1,8 +1,8 @@
 -- The stages of a configuration that are made to begin in other states, one after the other.
-use Rattle.std.proofs.Common.{◌≡◌, ℕ, zero, suc, ◌+◌, ◌<◌, ◌≤◌, List, [], ◌∷◌, length, get_or, map, refl, sym, ap, ◌∙◌, arith, Option, Some, slice_get, inl, inr}
+use Rattle.std.proofs.Common.{◌≡◌, ℕ, zero, suc, ◌+◌, ◌<◌, ◌≤◌, List, [], ◌∷◌, length, get_or, map, refl, sym, ap, ◌∙◌, arith, Some, slice_get, inl, inr}
 use Rattle.std.proofs.Math.ListN.{set}
 use Rattle.std.proofs.lemmas.Bool.{cases_lt}
-use Rattle.std.proofs.lemmas.List.{same_lists, get_or_default, get_or-set_same, get_or-set_other, length-set, length-map}
+use Rattle.std.proofs.lemmas.List.{same_lists, get_or_default, get_or-set_same, get_or-set_other, length-set}
 use Rattle.std.proofs.lemmas.Option.{get_or_from_slice_get}
 use Rattle.pr_conf.specs.declared.pes.Pe.{Pe}
 use Rattle.pr_conf.specs.declared.stages.Stage.{Stage}
@@ -46,13 +46,16 @@ begun_next N i store old now next row b h got long es ei eo = record {
   where
     got_row : rows_of store i ≡ row
     got_row = get_or_from_slice_get store i row [] got
+
     before : (s : ℕ) → s < i → get_or next.stages s [] ≡ begun (get_or old.stages s []) (rows_of store s)
     before s k = ap (λ xs. get_or xs s []) es ∙ (get_or-set_other now.stages i s (begun (get_or now.stages i []) row) [] (λ e. absurd (omega arith)) ∙ b.first s k)
+
     at_i : get_or next.stages i [] ≡ begun (get_or old.stages i []) (rows_of store i)
     at_i =
         let n = b.count in
         ap (λ xs. get_or xs i []) es ∙ (get_or-set_same now.stages i (begun (get_or now.stages i []) row) [] (omega arith)
         ∙ (ap (λ pes. begun pes row) (b.later i (omega arith)) ∙ ap (begun (get_or old.stages i [])) (sym got_row)))
+
     this : (s : ℕ) → s ≡ i → get_or next.stages s [] ≡ begun (get_or old.stages s []) (rows_of store s)
     this s e = ap (λ n. get_or next.stages n []) e ∙ (at_i ∙ ap (λ n. begun (get_or old.stages n []) (rows_of store n)) (sym e))
 
@@ -67,6 +70,7 @@ begun_whole N n states old now b e = λ i. record { inputs = b.inputs i; outputs
         let l = length-all_begun states 0 old.stages in
         get_or_default now.stages k d [] h ∙ (b.first k (omega arith) ∙ (ap (λ s. begun (get_or old.stages k []) (states s)) (sym z)
         ∙ (sym (all_begun_at states 0 k old.stages (omega arith)) ∙ get_or_default (all_begun states 0 old.stages) k [] d (omega arith))))
+
     stages : now.stages ≡ all_begun states 0 old.stages
     stages = same_lists now.stages (all_begun states 0 old.stages) (b.count ∙ sym (length-all_begun states 0 old.stages)) each
 

@@ -1,5 +1,5 @@
 -- What is parked of a machine in which nothing is in flight.
-use Rattle.std.proofs.Common.{◌≡◌, ℕ, ◌<◌, List, length, ◌∙◌, ap, subst, arith, vec_len}
+use Rattle.std.proofs.Common.{◌≡◌, ℕ, ◌<◌, List, length, ◌∙◌, ap, subst, arith}
 use Rattle.std.proofs.lemmas.List.{length-map}
 use Rattle.pr_machine_account.specs.Account.{IsLawful, left}
 use Rattle.pr_machine_account.proofs.AccountLaws.{lawful}

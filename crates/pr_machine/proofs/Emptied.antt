@@ -1,5 +1,5 @@
 -- Stripes that are emptied into the store of a machine in which nothing is in flight: the store then has each stage's state after all samples.
-use Rattle.std.proofs.Common.{◌≡◌, ℕ, zero, suc, ◌+◌, ◌-◌, ◌<◌, ◌≤◌, cond, Bool, true, false, eqb, if◌then◌else◌, List, [], length, drop, refl, sym, ap, ◌∙◌, subst, arith, inl, inr, Option, Some, None, slice_get, below_more, eq-eqb, ap₂}
+use Rattle.std.proofs.Common.{◌≡◌, ℕ, zero, suc, ◌+◌, ◌-◌, ◌<◌, ◌≤◌, cond, Bool, true, false, eqb, List, [], length, refl, sym, ap, ◌∙◌, subst, arith, inl, inr, Option, Some, None, slice_get, below_more, eq-eqb, ap₂}
 use Rattle.std.proofs.Math.ListN.{set}
 use Rattle.std.proofs.lemmas.Bool.{eqb-true}
 use Rattle.std.proofs.lemmas.List.{length-drop, set-get_or}
@@ -54,7 +54,7 @@ below_up v p t x (suc d) es e =
     omega arith
 
 module _ {S R B : Type 0} (M : ℕ → Step S R) (tap : R → B) (v p : ℕ) (spots : ℕ → Spot S R) (store : ℕ → S) (now came went : ℕ) (waiting : List R) (ready : List B) (a : Account R)
-  (hp : 0 < p) (l : IsLawful v p a) (st : IsStanding M tap v p spots store now came went waiting ready a) (even : came ≡ went) (none : length waiting ≡ 0) where
+    (hp : 0 < p) (l : IsLawful v p a) (st : IsStanding M tap v p spots store now came went waiting ready a) (even : came ≡ went) (none : length waiting ≡ 0) where
   all_entered : length a.entries ≡ length a.offered
   all_entered = let k = ap length st.input ∙ length-drop (length a.entries) a.offered in omega (arith, l.few)
 

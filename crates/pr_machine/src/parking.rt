@@ -45,10 +45,7 @@ impl<const N: usize, const P: usize> Parked<N, P> {
     /// # Errors
     ///
     /// `ParkRefused` where there is no memory: the configuration as it was.
-    pub fn make(
-        alloc: Global,
-        conf: Configuration<N, P>,
-    ) -> Result<Parked<N, P>, ParkRefused<N, P>>
+    pub fn make(alloc: Global, conf: Configuration<N, P>) -> Result<Parked<N, P>, ParkRefused<N, P>>
         ensures conf { IfOk result (λ p. p.conf ≡ conf.entry) }
         ensures refused { IfErr result (λ r. r.conf ≡ conf.entry) }
     {

@@ -53,8 +53,16 @@ fn a_parked_sum_goes_on_from_its_state(rt: HostRuntime) -> Result<(), Fail> {
     let machine = complemented_sum(&rt, alloc)?;
     let (bare, sum) = run_and_park(&rt, alloc, machine, &[[5]], &[0])?;
     assert_eq!(rt; first_state(&sum), Some(255));
-    let other = Parked::make(alloc, complement(&rt, alloc)?).ok().expect(&rt, "memory");
-    let (bare, other) = run_and_park(&rt, alloc, bare.resume(other), &[[1], [2], [3]], &[254, 253, 252])?;
+    let other = Parked::make(alloc, complement(&rt, alloc)?)
+        .ok()
+        .expect(&rt, "memory");
+    let (bare, other) = run_and_park(
+        &rt,
+        alloc,
+        bare.resume(other),
+        &[[1], [2], [3]],
+        &[254, 253, 252],
+    )?;
     assert_eq!(rt; first_state(&other), Some(0));
     let (_bare, sum) = run_and_park(&rt, alloc, bare.resume(sum), &[[1], [1]], &[255, 254])?;
     assert_eq!(rt; first_state(&sum), Some(1));

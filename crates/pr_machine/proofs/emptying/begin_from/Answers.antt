@@ -1,4 +1,4 @@
-use Rattle.std.proofs.Common.{◌≡◌, ◌<◌, ◌≤◌, arith, length}
+use Rattle.std.proofs.Common.{arith}
 use Rattle.std.proofs.lemmas.List.{length-map}
 use Rattle.pr_conf.specs.Configuration.{shape_of, pes_of}
 use Rattle.pr_machine.specs.Places.{rows_of}
