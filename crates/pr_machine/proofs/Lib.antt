@@ -7,3 +7,4 @@ pub mod Outputs
 pub mod FirstStates
 pub mod Starting
 pub mod ReadyLaws
+pub mod IdleLaws
