@@ -10,3 +10,4 @@ pub mod Emptied
 pub mod Begun
 pub mod Drained
 pub mod ReadyLaws
+pub mod IdleLaws

@@ -1,6 +1,6 @@
 //! What a running machine is made of, and one cycle of it.
 
-ghost use Rattle.std.specs.Prelude.{ℕ, ◌≡◌, ◌≢◌, ◌++◌, ◌∷◌, [], ◌<◌, ◌≤◌, ◌-◌, ◌+◌, ◌^◌, Option, Some, None, List, is_some, length, vec_len, vec_capacity, true, false, if◌then◌else◌};
+ghost use Rattle.std.specs.Prelude.{ℕ, ◌≡◌, ◌≢◌, ◌++◌, ◌∷◌, [], ◌<◌, ◌≤◌, ◌-◌, ◌+◌, ◌^◌, Option, Some, None, IfSome, List, is_some, length, vec_len, vec_capacity, true, false, if◌then◌else◌};
 ghost use Rattle.pr_machine_account.specs.Account.{Cycle, stalled};
 ghost use Rattle.pr_control.specs.Time.{turned};
 ghost use Rattle.pr_conf.specs.Shape.{Shape};
@@ -9,7 +9,7 @@ ghost use Rattle.pr_conf.specs.Rules.{bytes_in};
 ghost use Rattle.pr_conf.specs.Through.{output_widths, steps_of};
 ghost use Rattle.pr_machine_refines.specs.Cycle.{will_enter, bus_of, rest_of, pushed, HasRoom};
 ghost use Rattle.pr_stripe.specs.Rows.{entering as row_if};
-ghost use Rattle.pr_machine.specs.Places.{AreHere, AreBare, rows_of};
+ghost use Rattle.pr_machine.specs.Places.{AreHere, AreBare, AreIdle, rows_of, spots_of};
 ghost use Rattle.pr_machine.specs.Ready.{AreReady};
 ghost use Rattle.pr_machine.specs.Schedules.{IsScheduled};
 
@@ -25,6 +25,7 @@ pub struct Loaded<const N: usize, const P: usize> {
     pub(crate) places: Vec<Place<N, P>>,
     pub(crate) buffers: Buffers<N>,
     pub(crate) plan: Plan,
+    pub(crate) live: usize,
     pub(crate) entered: u64,
     pub(crate) left: u64,
     ghost two: { 2 ≤ vec_len places },
@@ -32,6 +33,8 @@ pub struct Loaded<const N: usize, const P: usize> {
     ghost plan_stages: { plan.stages ≡ vec_len conf.stages },
     ghost plan_stripes: { plan.stripes ≡ vec_len places },
     ghost here: { AreHere (vec_len conf.stages) places.items },
+    ghost live_in: { live ≤ vec_len places },
+    ghost idle: { AreIdle live (spots_of places.items) },
     ghost rows: { length buffers.store ≡ vec_len conf.stages },
     ghost ready: { AreReady (P - 1) (shape_of conf).stages buffers.prepared.items },
     ghost count: { vec_len buffers.prepared ≡ vec_len conf.stages },
@@ -86,6 +89,21 @@ fn counted(holds: bool) -> u64
     if holds { 1 } else { 0 }
 }
 
+/// The place from which on no stripe has a stage, after an event.
+fn live_after(live: usize, event: Option<(u32, u32)>) -> usize
+    ensures more { live ≤ result }
+    ensures event { IfSome event (λ e. e.0 < result) }
+    ensures most { (p : ℕ) → live ≤ p → IfSome event (λ e. e.0 < p) → result ≤ p }
+{
+    match event {
+        None => live,
+        Some((stripe, _)) => {
+            let next = stripe as usize + 1;
+            if live < next { next } else { live }
+        }
+    }
+}
+
 /// An event as (stage, stripe).
 fn configured(event: Option<(u32, u32)>) -> Option<(u32, u32)>
     ensures { result ≡ turned event }
@@ -125,6 +143,7 @@ impl<const N: usize, const P: usize> Loaded<N, P> {
             places,
             buffers,
             plan,
+            live: 0,
             entered: 0,
             left: 0,
         }
@@ -132,12 +151,14 @@ impl<const N: usize, const P: usize> Loaded<N, P> {
 
     /// What the next cycle is to do.
     pub(crate) fn schedule(&self) -> Schedule
-        ensures { IsScheduled (vec_len self.now.conf.stages) (vec_len self.now.places) self.now.plan.time result }
+        ensures scheduled { IsScheduled (vec_len self.now.conf.stages) (vec_len self.now.places) self.now.plan.time result }
+        ensures live { result.live ≡ self.now.live }
     {
         Schedule {
             ring: self.plan.ring(),
             first: self.plan.active(0),
             last: self.plan.active(self.conf.stages() as u32 - 1),
+            live: self.live,
         }
     }
 
@@ -159,6 +180,7 @@ impl<const N: usize, const P: usize> Loaded<N, P> {
     /// A cycle that is not stalled.
     pub(crate) fn advance(&mut self, schedule: &Schedule) -> Turn
         requires schedule { IsScheduled (vec_len self.old.conf.stages) (vec_len self.old.places) self.old.plan.time schedule.now }
+        requires live { schedule.now.live ≡ self.old.live }
         requires time { self.old.plan.time < 2 ^ 63 }
         ensures stands { (c : Shape) (p : ℕ) (h : History) → PartsStand self.old c p h → stalled (length c.stages) p (account_of c p h) ≡ false → PartsStand self.new c p (h ++ Cycle ∷ []) }
         ensures turn { (c : Shape) (p : ℕ) (h : History) → PartsStand self.old c p h → result ≡ next_turn (length c.stages) p (account_of c p h) }
@@ -185,6 +207,7 @@ impl<const N: usize, const P: usize> Loaded<N, P> {
             entered: numbered(entering, self.entered),
             left: numbered(passed.left, self.left),
         };
+        self.live = live_after(self.live, event);
         self.entered += counted(entering);
         self.left += counted(passed.left);
         turn

@@ -10,7 +10,7 @@ ghost use Rattle.pr_machine_refines.specs.Spots.{Spot, Held, shows, stage_in, st
 ghost use Rattle.pr_machine_refines.specs.Cycle.{will_leave as leaving_by, leaves, AreStepped, IsRingStep, IsLineStep, IsTurned, IsPass, saved_by};
 ghost use Rattle.pr_stripe.specs.Rows.{shown};
 ghost use Rattle.pr_stripe.specs.Rows.{entering as row_if};
-ghost use Rattle.pr_machine.specs.Places.{seen, place_at, spots_of, rows_of, is_there, IsHere, AreHere};
+ghost use Rattle.pr_machine.specs.Places.{seen, place_at, spots_of, rows_of, is_there, IsHere, AreHere, AreIdle};
 ghost use Rattle.pr_machine.specs.Ready.{AreReady};
 
 use crate::buffers::Buffers;
@@ -168,7 +168,6 @@ fn step_ring<const N: usize, const P: usize>(
     valid: bool,
 )
     requires at { q < length places.old }
-    requires two { 2 ≤ length places.old }
     requires small { length places.old ≤ 256 }
     requires here { AreHere (vec_len conf.now.stages) places.old }
     requires sample { vec_len buffers.now.sample ≡ bytes_in (shape_of conf.now).inputs }
@@ -184,15 +183,19 @@ fn step_ring<const N: usize, const P: usize>(
     }
 }
 
-/// Each place computes, and the first one last: it holds stage 0, which reads no other place, or no stage.
+/// Each place computes, and the first one last: it holds stage 0, which reads no other place, or no stage. From place
+/// `live` on there is no stage, so that nothing is to be done.
 fn step_line<const N: usize, const P: usize>(
     places: &mut [Place<N, P>],
     conf: &Configuration<N, P>,
+    live: usize,
     buffers: &Buffers<N>,
     valid: bool,
 )
     requires two { 2 ≤ length places.old }
     requires small { length places.old ≤ 256 }
+    requires live { live ≤ length places.old }
+    requires idle { AreIdle live (spots_of places.old) }
     requires here { AreHere (vec_len conf.now.stages) places.old }
     requires sample { vec_len buffers.now.sample ≡ bytes_in (shape_of conf.now).inputs }
     requires ready { AreReady (P - 1) (shape_of conf.now).stages buffers.now.prepared.items }
@@ -200,7 +203,10 @@ fn step_line<const N: usize, const P: usize>(
     ensures line { IsLineStep (steps_of N P (shape_of conf.now)) (row_if valid buffers.now.sample.items) (length places.old) (spots_of places.old) (spots_of places.new) }
     ensures here { AreHere (vec_len conf.now.stages) places.new }
 {
-    step_ring(places, conf, 0, buffers, valid);
+    if live == 0 {
+        return;
+    }
+    step_ring(&mut places[..live], conf, 0, buffers, valid);
     step_at(places, conf, 0, places.len() - 1, buffers, valid);
 }
 
@@ -208,22 +214,24 @@ fn step_line<const N: usize, const P: usize>(
 fn compute<const N: usize, const P: usize>(
     places: &mut [Place<N, P>],
     conf: &Configuration<N, P>,
-    ring: Option<usize>,
+    schedule: &Schedule,
     buffers: &Buffers<N>,
     valid: bool,
 )
     requires two { 2 ≤ length places.old }
     requires small { length places.old ≤ 256 }
+    requires live { schedule.now.live ≤ length places.old }
+    requires idle { AreIdle schedule.now.live (spots_of places.old) }
     requires here { AreHere (vec_len conf.now.stages) places.old }
     requires sample { vec_len buffers.now.sample ≡ bytes_in (shape_of conf.now).inputs }
     requires ready { AreReady (P - 1) (shape_of conf.now).stages buffers.now.prepared.items }
     requires count { vec_len buffers.now.prepared ≡ vec_len conf.now.stages }
-    requires ring { IfSome ring (λ q. q < length places.old) }
-    ensures stepped { AreStepped (steps_of N P (shape_of conf.now)) (row_if valid buffers.now.sample.items) (length places.old) ring (spots_of places.old) (spots_of places.new) }
+    requires ring { IfSome schedule.now.ring (λ q. q < length places.old) }
+    ensures stepped { AreStepped (steps_of N P (shape_of conf.now)) (row_if valid buffers.now.sample.items) (length places.old) schedule.now.ring (spots_of places.old) (spots_of places.new) }
     ensures here { AreHere (vec_len conf.now.stages) places.new }
 {
-    match ring {
-        None => step_line(places, conf, buffers, valid),
+    match schedule.ring {
+        None => step_line(places, conf, schedule.live, buffers, valid),
         Some(q) => step_ring(places, conf, q, buffers, valid),
     }
 }
@@ -261,13 +269,14 @@ fn replace_stage<const N: usize, const P: usize>(
     }
 }
 
-/// What one cycle is to do: the stripe of the event, where every cycle has one, and the stripes in which the first and
-/// the last stage compute.
+/// What one cycle is to do: the stripe of the event, where every cycle has one, the stripes in which the first and the
+/// last stage compute, and the place from which on no stripe has a stage.
 #[derive(Clone, Copy)]
 pub struct Schedule {
     pub(crate) ring: Option<usize>,
     pub(crate) first: Option<usize>,
     pub(crate) last: Option<usize>,
+    pub(crate) live: usize,
 }
 
 /// What a cycle of the stripes did: whether a result left, and the stage that was saved.
@@ -362,6 +371,8 @@ pub(crate) fn pass<const N: usize, const P: usize>(
     requires ready { AreReady (P - 1) (shape_of conf.now).stages buffers.old.prepared.items }
     requires count { vec_len buffers.old.prepared ≡ vec_len conf.now.stages }
     requires buffer { bytes_in (output_widths (shape_of conf.now)) ≤ vec_capacity buffers.old.result }
+    requires live { schedule.now.live ≤ length places.old }
+    requires idle { AreIdle schedule.now.live (spots_of places.old) }
     requires ring { IfSome schedule.now.ring (λ q. q < length places.old) }
     requires last { IfSome schedule.now.last (λ i. i < length places.old) }
     requires inside { IsInside (vec_len conf.now.stages) (length places.old) event }
@@ -373,7 +384,7 @@ pub(crate) fn pass<const N: usize, const P: usize>(
     ensures others { (buffers.new.input ≡ buffers.old.input) × (buffers.new.output ≡ buffers.old.output) × (buffers.new.sample ≡ buffers.old.sample) × (buffers.new.prepared ≡ buffers.old.prepared) }
     ensures here { AreHere (vec_len conf.now.stages) places.new }
 {
-    compute(places, conf, schedule.ring, buffers, entering);
+    compute(places, conf, schedule, buffers, entering);
     let left = leaving(places, conf, schedule.last, &mut buffers.result);
     let saved = replace_stage(places, &mut buffers.store, event);
     Passed { left, saved }

@@ -1,9 +1,10 @@
-use Rattle.std.proofs.Common.{◌≡◌, ◌+◌, ◌-◌, ◌++◌, length, take, drop, refl, sym, ap, rules, vec_len, vec_capacity, ◌∙◌, subst, arith}
+use Rattle.std.proofs.Common.{◌≡◌, ◌+◌, ◌-◌, ◌≤◌, ◌++◌, length, take, drop, refl, sym, ap, rules, vec_len, vec_capacity, ◌∙◌, subst, arith}
 use Rattle.pr_queue.specs.Pieces.{Pieces}
 use Rattle.pr_machine_refines.specs.Cycle.{HasRoom, pushed}
 use Rattle.pr_stripe.specs.Rows.{entering as row_if}
 use Rattle.pr_conf.specs.Configuration.{shape_of}
-use Rattle.pr_machine.specs.Places.{AreHere}
+use Rattle.pr_machine.specs.Places.{AreHere, AreIdle, spots_of}
+use Rattle.pr_machine.proofs.IdleLaws.{idle_after, inside_first}
 use Rattle.pr_machine.proofs.ReadyLaws.{same_ready}
 use Rattle.pr_machine.proofs.Cycles.{next_machine, turn_told, written}
 use Rattle.pr_machine.proofs.loaded.Loaded.advance.Goals as goal
@@ -62,3 +63,18 @@ invariant_of-self-clause-buffer g c =
     let put = ap (λ v. vec_capacity v) c.put_result.ensures.others.2 in
     let read = ap (λ v. vec_capacity v) c.enter-entering.ensures.others.2 in
     omega (arith, s.buffer, put, read, c.pass-passed.ensures.buffer)
+
+pub invariant_of-self-clause-live_in : goal.invariant_of-self-clause-live_in
+invariant_of-self-clause-live_in g c =
+    let s = c.args.self.now in
+    let below : s.live ≤ s.plan.stripes = omega (arith, s.live_in, s.plan_stripes) in
+    omega (arith, s.plan_stripes, c.live_after-self.ensures.most s.plan.stripes below (inside_first s.plan.stages s.plan.stripes c.next-event.result c.next-event.ensures.inside))
+
+pub invariant_of-self-clause-idle : goal.invariant_of-self-clause-idle
+invariant_of-self-clause-idle g c =
+    let s = c.args.self.now in
+    let went = c.pass-passed.new.places in
+    let same : length went ≡ length s.places.items = omega arith in
+    let was = subst (λ xs. AreIdle s.live (spots_of xs)) (sym c.deref_mut.ensures.value) s.idle in
+    subst (λ xs. AreIdle c.live_after-self.result (spots_of xs)) (sym (written s.places.len went s.places.items (omega (arith, s.places.ok.0, same))))
+    (idle_after _ _ _ (length c.deref_mut.result.now) _ _ c.next-event.result _ c.deref_mut.result.now went _ _ _ _ s.live c.live_after-self.result c.pass-passed.ensures.pass (omega arith) was c.live_after-self.ensures.more c.live_after-self.ensures.event)
