@@ -3,6 +3,7 @@ pub mod WordLemmas
 pub mod FedLemmas
 pub mod ReadingLemmas
 pub mod Reading
+pub mod SeenLemmas
 pub mod StallLemmas
 pub mod ResultLemmas
 pub mod CutLaw
