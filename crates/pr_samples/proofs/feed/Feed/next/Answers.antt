@@ -1,10 +1,11 @@
 use Rattle.std.proofs.Common.{◌≡◌, [], ap, sym, ◌∙◌, arith, append-nil, inl, inr}
 use Rattle.pr_samples.specs.declared.tails.Tail.{Tail}
 use Rattle.pr_samples.specs.Feed.{pending_of, widths_of}
-use Rattle.pr_samples.specs.Scan.{taken_of, fresh, first_line}
+use Rattle.pr_samples.specs.Scan.{taken_of, fresh, first_line, scan_of}
 use Rattle.pr_samples.proofs.FedLemmas.{first_line-none, found_is_met, line_found}
 use Rattle.pr_samples.proofs.ReadingLemmas.{window-none, window-empty}
-use Rattle.pr_samples.proofs.Reading.{found_step}
+use Rattle.pr_samples.proofs.Reading.{found_step, move_step, wrong_step}
+use Rattle.pr_samples.proofs.WrongLines.{nothing-read, gap≢wrong}
 use Rattle.pr_samples.proofs.feed.Feed.next.Goals as goal
 
 pub returns-in-Some-clause-told : goal.returns-in-Some-clause-told
@@ -32,3 +33,19 @@ returns-then-is_open-clause-quiet g c = λ ready.
       | inl line ↦ absurd (line_found (widths_of f) f.passed (pending_of f) _ _ line (ap (first_line (widths_of f) (fresh (widths_of f)) f.passed) (sym (append-nil (pending_of f))) ∙ sym is))
       | inr tail ↦ absurd (tail is_open)
     ]
+
+pub returns-then-is_wrong-clause-told : goal.returns-then-is_wrong-clause-told
+returns-then-is_wrong-clause-told g c = λ file tells reads.
+    let f = c.args.self.now in
+    let f' = c.meet-met.new.self in
+    let moved = move_step f f' _ (scan_of (widths_of f) f'.numbers.items c.meet-met.result.0) file reads c.meet-met.ensures.file c.meet-met.ensures.bytes (λ more. rw c.in_default.is at (c.meet-met.ensures.first more)) in
+    wrong_step f' _ file moved (rw c.in_default.is at c.meet-met.ensures.all) (c.is_wrong.ensures.0 c.if-is_wrong.true)
+
+pub returns-then-is_wrong-clause-missing : goal.returns-then-is_wrong-clause-missing
+returns-then-is_wrong-clause-missing g c = λ missing nothing.
+    let f = c.args.self.now in
+    let f' = c.meet-met.new.self in
+    let none : pending_of f ≡ [] = window-empty f.start f.end f.buffer.items (omega (arith, f.lines, nothing.0)) in
+    let none' : pending_of f' ≡ [] = window-none f'.start f'.end f'.buffer.items (rw c.in_default.is at c.meet-met.ensures.all) in
+    let same = nothing-read (widths_of f) _ _ _ _ _ _ none' none (rw c.in_default.is at (c.meet-met.ensures.first [])) in
+    absurd (gap≢wrong (sym same ∙ c.is_wrong.ensures.0 c.if-is_wrong.true))
