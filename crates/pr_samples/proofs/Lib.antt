@@ -4,6 +4,7 @@ pub mod FedLemmas
 pub mod ReadingLemmas
 pub mod WrongLines
 pub mod Reading
+pub mod SeenLemmas
 pub mod StallLemmas
 pub mod ResultLemmas
 pub mod CutLaw

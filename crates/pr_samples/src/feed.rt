@@ -1,5 +1,5 @@
 //! Samples that are read one after the other from a file of any size.
-ghost use Rattle.std.specs.Prelude.{◌≡◌, ◌≢◌, ◌↔◌, ℕ, ◌+◌, ◌-◌, ◌*◌, ◌^◌, ◌<◌, ◌≤◌, ◌⊎◌, ◌++◌, List, All, false, take, length, vec_len, Option, Some, None, IfOk, IfSome, IfNone, IsErr, IsTrue, string_bytes};
+ghost use Rattle.std.specs.Prelude.{◌≡◌, ◌≢◌, ◌↔◌, ℕ, ◌+◌, ◌-◌, ◌*◌, ◌^◌, ◌<◌, ◌≤◌, ◌⊎◌, ◌++◌, List, All, false, take, length, nat_lt, vec_len, Option, Some, None, IfOk, IfSome, IfNone, IsErr, IsTrue, OnErr, string_bytes};
 ghost use Rattle.pr_edge.specs.Files.{IsMissing, HasReadCause, IsPart};
 ghost use Rattle.pr_samples.specs.declared.tails.Tail.{Tail};
 ghost use Rattle.pr_samples.specs.declared.scan.Met.{Met};
@@ -10,7 +10,7 @@ ghost use Rattle.pr_samples.specs.Got.{is_sample, given_by};
 use crate::scan::{Cursor, Met, Phase, START, met_cut, met_whole, read_part};
 use crate::tails::Tail;
 use pr_base::{Cap, Num};
-use pr_edge::Shelf;
+use pr_edge::{Failed, Shelf};
 use std::alloc::{AllocError, Global};
 
 /// The bytes of the buffer of a feed.
@@ -62,6 +62,7 @@ pub struct Feed {
     ghost low: { limit ≤ 2 ^ 44 },
     ghost few: { given ≤ most },
     ghost open: { tail ≡ Tail.Open → place ≤ limit },
+    ghost cut: { tail ≡ Tail.Cut → limit < place },
 }
 
 /// Whether no lawful line begins as the line that was read so far.
@@ -75,7 +76,7 @@ fn is_wrong(cursor: Cursor) -> bool
 }
 
 impl Feed {
-    ghost use Rattle.pr_samples.specs.Feed.{name_of, widths_of, limit_of, most_of, given_of, place_of, pending_of, reads_nothing, has_line, IsReady, SameFile, SameBytes, StandsFor, IsReadBy, IsMet, Tells, Gives, tail_after};
+    ghost use Rattle.pr_samples.specs.Feed.{name_of, widths_of, limit_of, most_of, given_of, place_of, pending_of, reads_nothing, has_line, IsReady, SameFile, SameBytes, StandsFor, IsReadBy, IsMet, Tells, Gives, IsSeen, ReadsOn, tail_after};
 
     /// A feed over the file of this name, with an input of each of these widths.
     pub fn make(alloc: Global, name: &str, widths: &[u8]) -> Result<Feed, AllocError>
@@ -110,7 +111,7 @@ impl Feed {
     }
 
     /// A feed that gives at most so many samples from so many bytes.
-    fn make_bounded(
+    pub fn make_bounded(
         alloc: Global,
         name: &str,
         widths: &[u8],
@@ -207,6 +208,7 @@ impl Feed {
         ensures fault { result ≢ Got.ReadFault }
         ensures file { SameFile self.old self.new }
         ensures place { place_of self.new ≡ place_of self.old }
+        ensures tail { self.new.tail ≡ self.old.tail }
     {
         match met {
             Met::Skipped => Got::End,
@@ -235,6 +237,7 @@ impl Feed {
         ensures fault { result ≢ Got.ReadFault }
         ensures file { SameFile self.old self.new }
         ensures place { place_of self.new ≡ place_of self.old }
+        ensures tail { self.new.tail ≡ self.old.tail }
     {
         match self.tail {
             Tail::Cut => {
@@ -255,7 +258,8 @@ impl Feed {
         requires spent { self.old.start ≡ self.old.end }
         requires open { self.old.tail ≡ Tail.Open }
         requires fresh { cursor.phase ≢ Phase.Wrong }
-        ensures told { (file : List ℕ) → Tells (S.told shelf.old) (name_of self.old) file → IsReadBy self.old (scan_of (widths_of self.old) self.old.numbers.items cursor) file → Gives result (given_of self.old) self.new into.new file }
+        ensures seen { (bytes : List ℕ) → IsSeen (S.told shelf.old) bytes self.old → ReadsOn (S.told shelf.old) bytes self.old self.new
+            (λ file. IsReadBy self.old (scan_of (widths_of self.old) self.old.numbers.items cursor) file → Gives result (given_of self.old) self.new into.new file) }
         ensures given { given_of self.new ≡ given_of self.old + given_by result }
         ensures into { (is_sample result ≡ false) → into.new ≡ into.old }
         ensures file { SameFile self.old self.new }
@@ -295,6 +299,11 @@ impl Feed {
 
         // Where the bytes of the file are told, and the feed has given its first samples.
         ensures told { (file : List ℕ) → Tells (S.told shelf.old) (name_of self.old) file → StandsFor self.old file → Gives result (given_of self.old) self.new into.new file }
+
+        // Where they are not told too, they are bytes of some file, and the sample is that of every file that begins so.
+        ensures seen { (bytes : List ℕ) → IsSeen (S.told shelf.old) bytes self.old → ReadsOn (S.told shelf.old) bytes self.old self.new
+            (λ file. StandsFor self.old file → Gives result (given_of self.old) self.new into.new file) }
+
         ensures given { given_of self.new ≡ given_of self.old + given_by result }
         ensures into { (is_sample result ≡ false) → into.new ≡ into.old }
         ensures file { SameFile self.old self.new }
@@ -321,6 +330,27 @@ impl Feed {
             return self.read_on(shelf, cursor, into);
         }
         self.finish(cursor, into)
+    }
+
+    /// Reads on to the end of the file, or past the limit of bytes: whether the file has more bytes than that.
+    ///
+    /// The lines that it reads are given no more.
+    pub fn is_too_long<S: Shelf>(&mut self, shelf: &mut S) -> Result<bool, Failed>
+        ensures seen { (bytes : List ℕ) → IsSeen (S.told shelf.old) bytes self.old → ReadsOn (S.told shelf.old) bytes self.old self.new
+            (λ file. IfOk result (λ long. long ≡ nat_lt (limit_of self.old) (length file))) }
+        ensures file { SameFile self.old self.new }
+        ensures cause { OnErr result (HasReadCause (S.told shelf.old) (name_of self.old) (S.faults shelf.old) (S.faults shelf.new)) }
+        ensures later { S.faults shelf.old ≤ S.faults shelf.new }
+        ensures same { S.told shelf.new ≡ S.told shelf.old }
+        ensures others { (q : List ℕ) → q ≢ name_of self.old → S.reach shelf.new q ≡ S.reach shelf.old q }
+    {
+        self.start = self.end;
+        while self.tail.is_open() {
+            let count = shelf.read_at(self.name.as_str(), self.place, &mut self.buffer)?;
+            self.advance(count);
+            self.start = self.end;
+        }
+        Ok(self.place > self.limit)
     }
 }
 

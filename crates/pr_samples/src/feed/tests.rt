@@ -232,6 +232,24 @@ fn table_of_bounds(rt: HostRuntime) -> Result<(), Fail> {
 }
 
 #[test]
+fn files_past_the_limit(rt: HostRuntime) -> Result<(), Fail> {
+    for (limit, long) in [(8, true), (9, false), (10, false)] {
+        let mut files = Vec::new(rt.alloc());
+        let name = String::from_str(rt.alloc(), "s")?;
+        files.push((name, Vec::from_slice(rt.alloc(), b"x\n1 2\n3 4")?))?;
+        let mut shelf = MemShelf::make(rt.alloc(), files, Vec::new(rt.alloc()))?;
+        let mut feed = Feed::make_bounded(rt.alloc(), "s", &[8, 8], 9, limit)?;
+        let mut into = [0; 2];
+        assert_eq!(rt;
+            feed.next(&mut shelf, &mut into),
+            Got::BadSample { line: 1 }
+        );
+        assert_eq!(rt; feed.is_too_long(&mut shelf)?, long);
+    }
+    Ok(())
+}
+
+#[test]
 fn within_counts_what_was_given(rt: HostRuntime) -> Result<(), Fail> {
     let mut files = Vec::new(rt.alloc());
     let name = String::from_str(rt.alloc(), "s")?;

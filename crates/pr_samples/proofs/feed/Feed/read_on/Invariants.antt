@@ -1,7 +1,7 @@
 use Rattle.std.proofs.Common.{◌≡◌, ◌≢◌, ℕ, ◌+◌, ◌-◌, ◌*◌, ◌≤◌, List, length, Some}
 use Rattle.pr_edge.specs.Files.{IsMissing}
 use Rattle.pr_samples.specs.Scan.{begun, scan_of}
-use Rattle.pr_samples.specs.Feed.{SameFile, IsReadBy, Tells, name_of, widths_of, place_of, given_of}
+use Rattle.pr_samples.specs.Feed.{SameFile, IsReadBy, IsSeen, ReadsOn, name_of, widths_of, place_of, given_of}
 use Rattle.pr_samples.specs.declared.tails.Tail.{Tail}
 use Rattle.pr_samples.specs.declared.scan.Phase.{Phase}
 use Rattle.pr_samples.proofs.Reading.{tail_weight}
@@ -9,9 +9,8 @@ use Rattle.pr_samples.proofs.feed.Feed.read_on.Given as goal
 
 abbrev pub invariant-loop-cursor : goal.invariant-loop-cursor
 invariant-loop-cursor g l = record {
-  told : (file : List ℕ) → Tells (g.S.Shelf.told l.initial.shelf) (name_of l.initial.self) file
-      → IsReadBy l.initial.self (scan_of (widths_of l.initial.self) l.initial.self.numbers.items l.initial.cursor) file
-      → IsReadBy l.self (scan_of (widths_of l.initial.self) l.self.numbers.items l.cursor) file;
+  seen : (bytes : List ℕ) → IsSeen (g.S.Shelf.told l.initial.shelf) bytes l.initial.self → ReadsOn (g.S.Shelf.told l.initial.shelf) bytes l.initial.self l.self
+      (λ file. IsReadBy l.initial.self (scan_of (widths_of l.initial.self) l.initial.self.numbers.items l.initial.cursor) file → IsReadBy l.self (scan_of (widths_of l.initial.self) l.self.numbers.items l.cursor) file);
   file : SameFile l.initial.self l.self;
   given : given_of l.self ≡ given_of l.initial.self;
   room : l.cursor.done + begun l.cursor.phase ≤ length (widths_of l.initial.self);
