@@ -63,7 +63,7 @@ fn operand(shape: u8, width: u8) -> u128 {
         0 => ones,
         1 => ones ^ (ones >> 1),
         2 => ones >> 1,
-        _ => match NUMBERS.get(usize::from(shape - 3)) {
+        _ => match NUMBERS.get(usize::from(shape).saturating_sub(3)) {
             Some(number) => cut(*number, width),
             None => 0,
         },
