@@ -2,8 +2,13 @@
 use Rattle.std.proofs.Common.{◌≡◌, ℕ, zero, suc, ◌+◌, ◌-◌, ◌<◌, ◌≤◌, cond, Bool, true, false, eqb, List, [], length, refl, sym, ap, ◌∙◌, subst, arith, inl, inr, Option, Some, None, slice_get, below_more, eq-eqb, ap₂}
 use Rattle.std.proofs.Math.ListN.{set}
 use Rattle.std.proofs.lemmas.Bool.{eqb-true}
-use Rattle.std.proofs.lemmas.List.{length-drop, set-get_or}
+use Rattle.std.proofs.lemmas.List.{length-drop, nil_from_length, set-get_or}
 use Rattle.std.proofs.lemmas.Option.{get_or_from_slice_get}
+use Rattle.pr_conf.specs.Shape.{Shape}
+use Rattle.pr_conf.specs.Rules.{bytes_in}
+use Rattle.pr_conf.specs.Through.{output_widths}
+use Rattle.pr_conf.specs.After.{with_states}
+use Rattle.pr_queue.specs.Pieces.{Pieces}
 use Rattle.pr_control.specs.Time.{occupant}
 use Rattle.pr_control.specs.Residents.{Resides}
 use Rattle.pr_control.proofs.ResidentLaws.{occupant_resides, resides_occupant, resides_inside}
@@ -96,3 +101,10 @@ module _ {S R B : Type 0} (M : ℕ → Step S R) (tap : R → B) (v p : ℕ) (sp
   emptied_row s row hs (inl h) =
       h.0 ∙ (st.away s hs (λ i (q : Resides v p a.time s i). h.1 i (resides_inside v p a.time s i hp q).1 (ap stage_in (st.resident s i q))) ∙ state_is s hs)
   emptied_row s row hs (inr h) = in_place s h.0 row (occupant v p h.0 a.time) hs h.1 h.2 refl
+
+-- ---- what waits and what is written
+pub nothing_waits : (queue : Pieces) (n m : ℕ) → queue.size ≡ n → length queue.waiting ≡ 0 → n ≡ m → queue ≡ record { size = m; waiting = [] }
+nothing_waits queue n m size none same = λ i. record { size = (size ∙ same) i; waiting = nil_from_length queue.waiting none i }
+
+pub bytes_stay : (old new : Shape) (states : ℕ → List ℕ) → new ≡ with_states old states → bytes_in (output_widths old) ≡ bytes_in (output_widths new)
+bytes_stay old new states e = ap (λ (c : Shape). bytes_in (output_widths c)) (sym e)
