@@ -38,7 +38,9 @@ fn call<R: Files + Print + AllocGlobal>(
     ensures { IfOk result (λ r. GainsNote (record { bytes = Some []; keeps = 128 }) (told_of r.1) 0 0 (note_of (bounds_in (asked_by words.now)) r.0)) }
 {
     let alloc = rt.alloc();
-    let mut note = SureSink::make(alloc, NOTE).map_err(|_| Answer::Memory)?;
+    let Ok(mut note) = SureSink::make(alloc, NOTE) else {
+        return Err(Answer::Memory);
+    };
     let gathering = Gathering::new(alloc, io::writer(rt)).map_err(|_| Answer::Memory)?;
     let results = RefCell::new(gathering);
     let mut bench = Bench::Nothing;
