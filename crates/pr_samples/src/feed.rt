@@ -1,12 +1,13 @@
 //! Samples that are read one after the other from a file of any size.
-ghost use Rattle.std.specs.Prelude.{◌≡◌, ◌≢◌, ℕ, ◌+◌, ◌-◌, ◌*◌, ◌^◌, ◌<◌, ◌≤◌, ◌⊎◌, ◌++◌, List, All, false, take, length, nat_lt, vec_len, Option, Some, None, IfOk, IfSome, IfNone, IsErr, OnErr, string_bytes};
+ghost use Rattle.std.specs.Prelude.{◌≡◌, ◌≢◌, ◌↔◌, ℕ, ◌+◌, ◌-◌, ◌*◌, ◌^◌, ◌<◌, ◌≤◌, ◌⊎◌, ◌++◌, List, All, false, take, length, nat_lt, vec_len, Option, Some, None, IfOk, IfSome, IfNone, IsErr, IsTrue, OnErr, string_bytes};
 ghost use Rattle.pr_edge.specs.Files.{IsMissing, HasReadCause, IsPart};
 ghost use Rattle.pr_samples.specs.declared.tails.Tail.{Tail};
 ghost use Rattle.pr_samples.specs.declared.scan.Met.{Met};
+ghost use Rattle.pr_samples.specs.declared.scan.Phase.{Phase};
 ghost use Rattle.pr_samples.specs.Scan.{scan_of, first_line, begun, taken_of, met_first, whole_end, cut_end};
 ghost use Rattle.pr_samples.specs.Got.{is_sample, given_by};
 
-use crate::scan::{Cursor, Met, START, met_cut, met_whole, read_part};
+use crate::scan::{Cursor, Met, Phase, START, met_cut, met_whole, read_part};
 use crate::tails::Tail;
 use pr_base::{Cap, Num};
 use pr_edge::{Failed, Shelf};
@@ -62,6 +63,16 @@ pub struct Feed {
     ghost few: { given ≤ most },
     ghost open: { tail ≡ Tail.Open → place ≤ limit },
     ghost cut: { tail ≡ Tail.Cut → limit < place },
+}
+
+/// Whether no lawful line begins as the line that was read so far.
+fn is_wrong(cursor: Cursor) -> bool
+    ensures { IsTrue result ↔ (cursor.phase ≡ Phase.Wrong) }
+{
+    match cursor.phase {
+        Phase::Wrong => true,
+        Phase::Gap | Phase::Number(_) | Phase::Closed => false,
+    }
 }
 
 impl Feed {
@@ -240,12 +251,13 @@ impl Feed {
         }
     }
 
-    /// Reads on until a line is over that is not blank, and answers it.
+    /// Reads on until a line that is not blank is over, or bad, and answers it.
     fn read_on<S: Shelf>(&mut self, shelf: &mut S, cursor: Cursor, into: &mut [Num]) -> Got
         requires into { length into.old ≡ length (widths_of self.old) }
         requires room { cursor.done + begun cursor.phase ≤ length (widths_of self.old) }
         requires spent { self.old.start ≡ self.old.end }
         requires open { self.old.tail ≡ Tail.Open }
+        requires fresh { cursor.phase ≢ Phase.Wrong }
         ensures seen { (bytes : List ℕ) → IsSeen (S.told shelf.old) bytes self.old → ReadsOn (S.told shelf.old) bytes self.old self.new
             (λ file. IsReadBy self.old (scan_of (widths_of self.old) self.old.numbers.items cursor) file → Gives result (given_of self.old) self.new into.new file) }
         ensures given { given_of self.new ≡ given_of self.old + given_by result }
@@ -260,6 +272,11 @@ impl Feed {
     {
         let mut cursor = cursor;
         while self.tail.is_open() {
+            if is_wrong(cursor) {
+                return Got::BadSample {
+                    line: self.passed + 1,
+                };
+            }
             match shelf.read_at(self.name.as_str(), self.place, &mut self.buffer) {
                 Err(_) => return Got::ReadFault,
                 Ok(count) => self.advance(count),
@@ -275,8 +292,8 @@ impl Feed {
 
     /// Gives the next sample: the numbers of the next line that is not blank, one for each input.
     ///
-    /// It reads the file only where no such line stands whole in the bytes that it read before. `into` is left as it
-    /// was where no sample is given. A feed that answered otherwise than with a sample has nothing more to give.
+    /// It reads the file only where no such line stands whole in the bytes that it read before, and no further than up to a
+    /// byte at which a line is bad. `into` is left as it was where no sample is given. A feed that answered otherwise than with a sample has nothing more to give.
     pub fn next<S: Shelf>(&mut self, shelf: &mut S, into: &mut [Num]) -> Got
         requires { length into.old ≡ length (widths_of self.old) }
 
@@ -303,6 +320,11 @@ impl Feed {
         let (cursor, met) = self.meet(START);
         if let Some(met) = met {
             return self.settle(met, self.passed, into);
+        }
+        if is_wrong(cursor) {
+            return Got::BadSample {
+                line: self.passed + 1,
+            };
         }
         if self.tail.is_open() {
             return self.read_on(shelf, cursor, into);

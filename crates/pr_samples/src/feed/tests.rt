@@ -114,6 +114,10 @@ fn bad_line(rt: HostRuntime) -> Result<(), Fail> {
     let (pairs, got) = fed(rt.alloc(), b"5 3\n255 1\n7 x\n1 1\n2 2\n")?;
     assert_eq!(rt; pairs.as_slice(), [(5, 3), (255, 1)].as_slice());
     assert_eq!(rt; got, Got::BadSample { line: 3 });
+    // Nothing is read after the byte at which a line is bad: a second read would fail.
+    let (pairs, got) = fed_slowly(rt.alloc(), b"5 3\nx", 65_536, 2)?;
+    assert_eq!(rt; pairs.as_slice(), [(5, 3)].as_slice());
+    assert_eq!(rt; got, Got::BadSample { line: 2 });
     Ok(())
 }
 

@@ -4,7 +4,8 @@ use Rattle.pr_samples.specs.Feed.{pending_of, widths_of, given_of, IsReadBy}
 use Rattle.pr_samples.specs.Scan.{taken_of, fresh, scan_of, first_line}
 use Rattle.pr_samples.proofs.FedLemmas.{first_line-none, found_is_met, line_found}
 use Rattle.pr_samples.proofs.ReadingLemmas.{window-none, window-empty}
-use Rattle.pr_samples.proofs.Reading.{found_step, move_step}
+use Rattle.pr_samples.proofs.Reading.{found_step, move_step, wrong_step}
+use Rattle.pr_samples.proofs.WrongLines.{nothing-read, gap≢wrong}
 use Rattle.pr_samples.proofs.SeenLemmas.{seen_same, holds_told}
 use Rattle.pr_samples.proofs.feed.Feed.next.Goals as goal
 
@@ -80,3 +81,33 @@ returns-clause-seen g c = λ bytes seen.
           (let read = move_step f f' _ (scan_of (widths_of f) f'.numbers.items c.meet-met.result.0) file reads c.meet-met.ensures.file c.meet-met.ensures.bytes (λ more. rw c.in_default.is at (c.meet-met.ensures.first more)) in
           rw c.meet-met.ensures.bytes.given at (c.finish.ensures.told file (subst (λ (ws : List ℕ). IsReadBy f' (scan_of ws f'.numbers.items c.meet-met.result.0) file) (sym c.meet-met.ensures.file.widths) read)));
     }
+
+pub returns-then-is_wrong-clause-seen : goal.returns-then-is_wrong-clause-seen
+returns-then-is_wrong-clause-seen g c = λ bytes seen.
+    let f = c.args.self.now in
+    let f' = c.meet-met.new.self in
+    let tail = c.meet-met.ensures.bytes.tail in
+    record {
+      bytes = bytes;
+      seen = seen_same (g.S.Shelf.told c.args.shelf.now) bytes f f' seen c.meet-met.ensures.file.name c.meet-met.ensures.bytes.place tail;
+      began = λ file begins. rw tail at begins;
+      holds = λ file begins reads.
+          (let moved = move_step f f' _ (scan_of (widths_of f) f'.numbers.items c.meet-met.result.0) file reads c.meet-met.ensures.file c.meet-met.ensures.bytes (λ more. rw c.in_default.is at (c.meet-met.ensures.first more)) in
+          wrong_step f' _ file moved (rw c.in_default.is at c.meet-met.ensures.all) (c.is_wrong.ensures.0 c.if-is_wrong.true));
+    }
+
+pub returns-then-is_wrong-clause-told : goal.returns-then-is_wrong-clause-told
+returns-then-is_wrong-clause-told g c = λ file tells reads.
+    let f = c.args.self.now in
+    let f' = c.meet-met.new.self in
+    let moved = move_step f f' _ (scan_of (widths_of f) f'.numbers.items c.meet-met.result.0) file reads c.meet-met.ensures.file c.meet-met.ensures.bytes (λ more. rw c.in_default.is at (c.meet-met.ensures.first more)) in
+    wrong_step f' _ file moved (rw c.in_default.is at c.meet-met.ensures.all) (c.is_wrong.ensures.0 c.if-is_wrong.true)
+
+pub returns-then-is_wrong-clause-missing : goal.returns-then-is_wrong-clause-missing
+returns-then-is_wrong-clause-missing g c = λ missing nothing.
+    let f = c.args.self.now in
+    let f' = c.meet-met.new.self in
+    let none : pending_of f ≡ [] = window-empty f.start f.end f.buffer.items (omega (arith, f.lines, nothing.0)) in
+    let none' : pending_of f' ≡ [] = window-none f'.start f'.end f'.buffer.items (rw c.in_default.is at c.meet-met.ensures.all) in
+    let same = nothing-read (widths_of f) _ _ _ _ _ _ none' none (rw c.in_default.is at (c.meet-met.ensures.first [])) in
+    absurd (gap≢wrong (sym same ∙ c.is_wrong.ensures.0 c.if-is_wrong.true))

@@ -1,0 +1,2 @@
+pub mod StillLemmas
+pub mod MovingLemmas
