@@ -1,7 +1,8 @@
 -- A configuration after some samples works on as the first one does.
 use Rattle.std.proofs.Common.{◌≡◌, ℕ, zero, suc, ◌+◌, ◌-◌, ◌<◌, ◌≤◌, Bool, true, false, ◌&&◌, ◌==◌, eqb, List, [], ◌∷◌, ◌++◌, length, get_or, map, take, refl, sym, ap, ap₂, ◌∙◌, subst, arith, if◌then◌else◌, length-append}
+use Rattle.std.proofs.Math.ListN.{set}
 use Rattle.std.proofs.lemmas.Bool.{and_parts, eqb-true}
-use Rattle.std.proofs.lemmas.List.{length-map}
+use Rattle.std.proofs.lemmas.List.{length-map, get_or-map, map-set}
 use Rattle.std.specs.List.{flat_map}
 use Rattle.pr_base.specs.Pe.{Made, next_state}
 use Rattle.pr_conf_pipeline.specs.Rows.{Step, state_over, rows, state_after, through, resumed}
@@ -9,6 +10,8 @@ use Rattle.pr_conf_pipeline.proofs.RowLaws.{state_first}
 use Rattle.pr_conf_pipeline.proofs.ResumeLaws.{rows_alike, state_alike, through-append, state_after-append}
 use Rattle.pr_conf.specs.declared.pes.Pe.{Pe}
 use Rattle.pr_conf.specs.declared.stages.Site.{Site}
+use Rattle.pr_conf.specs.declared.stages.Stage.{Stage}
+use Rattle.pr_conf.specs.Configuration.{pes_of}
 use Rattle.pr_conf.specs.Shape.{Shape}
 use Rattle.pr_conf.specs.Rules.{is_lawful_pe, are_lawful_pes, are_lawful_stages, site_of, IsLawful, bytes_in}
 use Rattle.pr_conf.specs.StageMap.{Sight, source_byte, made_from, pe_made, states_from, passed, passed_bytes, registers_to, state_map, row_map, step_of, whole_sight}
@@ -124,7 +127,7 @@ all_begun_twice old new k (pes ∷ stages) h =
     ap₂ (λ a b. a ∷ b) (begun_twice pes (old k) (new k) first.0 first.1)
     (all_begun_twice old new (k + 1) stages (λ s l. let e : k + suc s ≡ k + 1 + s = omega arith in subst (λ n. (length (old n) ≡ length (get_or stages s [])) × (length (new n) ≡ length (get_or stages s []))) e (h (suc s) (omega arith))))
 
-all_begun_alike : (old new : ℕ → List ℕ) (k : ℕ) (stages : List (List Pe)) → ((s : ℕ) → s < length stages → old (k + s) ≡ new (k + s)) → all_begun old k stages ≡ all_begun new k stages
+pub all_begun_alike : (old new : ℕ → List ℕ) (k : ℕ) (stages : List (List Pe)) → ((s : ℕ) → s < length stages → old (k + s) ≡ new (k + s)) → all_begun old k stages ≡ all_begun new k stages
 all_begun_alike old new k [] h = refl
 all_begun_alike old new k (pes ∷ stages) h =
     let z : k + 0 ≡ k = omega arith in
@@ -209,3 +212,40 @@ further_stages N P c xs ys =
 pub further_after : (N P : ℕ) (c : Shape) (xs ys : List (List ℕ)) → conf_after N P (conf_after N P c xs) ys ≡ conf_after N P c (xs ++ ys)
 unfolding conf_after
 further_after N P c xs ys = ap (λ ss. record c { stages = ss }) (further_stages N P c xs ys)
+
+-- ---- one more byte, and one stage
+pub begun_none : (pes : List Pe) → begun pes [] ≡ pes
+begun_none [] = refl
+begun_none (pe ∷ pes) = refl
+
+pub begun_more : (pes : List Pe) (st : List ℕ) (i : ℕ) (d : Pe) → i < length pes → i < length st → set (begun pes (take i st)) i (record (get_or (begun pes (take i st)) i d) { init = get_or st i 0 }) ≡ begun pes (take (i + 1) st)
+begun_more [] st i d h l = absurd (omega arith)
+begun_more (pe ∷ pes) [] i d h l = absurd (omega arith)
+begun_more (pe ∷ pes) (b ∷ st) zero d h l = ap (λ ps. record pe { init = b } ∷ ps) (sym (begun_none pes))
+begun_more (pe ∷ pes) (b ∷ st) (suc i) d h l =
+    let e : suc (i + 1) ≡ suc i + 1 = omega arith in
+    ap (λ ps. record pe { init = b } ∷ ps) (begun_more pes st i d (omega arith) (omega arith)) ∙ ap (λ n. begun (pe ∷ pes) (take n (b ∷ st))) e
+
+pub begun_turn : (pes now : List Pe) (st : List ℕ) (i : ℕ) (d : Pe) → now ≡ begun pes (take i st) → i < length st → length st ≡ length pes → set now i (record (get_or now i d) { init = get_or st i 0 }) ≡ begun pes (take (i + 1) st)
+begun_turn pes now st i d e h l =
+    ap (λ (ps : List Pe). set ps i (record (get_or ps i d) { init = get_or st i 0 })) e ∙ begun_more pes st i d (omega arith) h
+
+-- a stage changed at its place is changed in the shape, which stays lawful
+pub set_lawful : (N P bus k i : ℕ) (stages : List (List Pe)) (st : List ℕ) → are_lawful_stages N P bus k (set stages i (begun (get_or stages i []) st)) ≡ are_lawful_stages N P bus k stages
+set_lawful N P bus k i [] st = refl
+set_lawful N P bus k zero (pes ∷ stages) st = ap₂ (λ n b. (eqb n N && b) && are_lawful_stages N P bus (k + 1) stages) (length-begun pes st) (begun_lawful (site_of N P bus k) pes st)
+set_lawful N P bus k (suc i) (pes ∷ stages) st = ap (λ b. (eqb (length pes) N && are_lawful_pes (site_of N P bus k) pes) && b) (set_lawful N P bus (k + 1) i stages st)
+
+-- a configuration whose stages begin with the states after these samples
+pub with_states_after : (N P : ℕ) (c now : Shape) (states : ℕ → List ℕ) (xs : List (List ℕ)) → now ≡ c → ((s : ℕ) → s < length c.stages → states s ≡ state_rows N P c xs s) → with_states now states ≡ conf_after N P c xs
+unfolding conf_after
+with_states_after N P c now states xs e h =
+    ap (λ (k : Shape). with_states k states) e
+    ∙ ap (λ ss. record c { stages = ss }) (all_begun_alike states (state_rows N P c xs) 0 c.stages (λ s k. let z : 0 + s ≡ s = omega arith in subst (λ n. states n ≡ state_rows N P c xs n) (sym z) (h s k)))
+
+-- the shape of stages of which one was made to begin in another state
+pub stages_begun : {N : ℕ} (stages : List (Stage N)) (i : ℕ) (old new : Stage N) (st : List ℕ) → i < length stages → old ≡ get_or stages i old → new.pes.items ≡ begun old.pes.items st
+    → map (pes_of {N = N}) (set stages i new) ≡ set (map (pes_of {N = N}) stages) i (begun (get_or (map (pes_of {N = N}) stages) i []) st)
+stages_begun {N = N} stages i old new st h e n =
+    map-set (pes_of {N = N}) stages i new
+    ∙ ap (set (map (pes_of {N = N}) stages) i) (n ∙ ap (λ ps. begun ps st) (ap (pes_of {N = N}) e ∙ sym (get_or-map (pes_of {N = N}) stages i old [] h)))

@@ -6,3 +6,5 @@ pub mod Cycles
 pub mod Outputs
 pub mod FirstStates
 pub mod Starting
+pub mod Emptied
+pub mod Begun

@@ -2,3 +2,5 @@ pub mod Places
 pub mod Schedules
 pub mod Stands
 pub mod Results
+pub mod Parking
+pub mod Emptying
