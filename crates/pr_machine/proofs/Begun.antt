@@ -57,7 +57,7 @@ begun_next N i store old now next row b h got long es ei eo = record {
     this s e = ap (λ n. get_or next.stages n []) e ∙ (at_i ∙ ap (λ n. begun (get_or old.stages n []) (rows_of store n)) (sym e))
 
 -- all of them
-pub begun_whole : (N n : ℕ) (states : ℕ → List ℕ) (old now : Shape) → IsBegun N n states old now → length old.stages ≡ n → now ≡ with_states old states
+pub begun_whole : (N n : ℕ) (states : ℕ → List ℕ) (old now : Shape) → IsBegun N n states old now → length old.stages ≤ n → now ≡ with_states old states
 begun_whole N n states old now b e = λ i. record { inputs = b.inputs i; outputs = b.outputs i; stages = stages i }
   where
     each : (k : ℕ) (d : List Pe) → k < length now.stages → get_or now.stages k d ≡ get_or (all_begun states 0 old.stages) k d

@@ -1,7 +1,9 @@
 -- Stripes that are emptied into the store of a machine in which nothing is in flight: the store then has each stage's state after all samples.
-use Rattle.std.proofs.Common.{◌≡◌, ℕ, zero, suc, ◌+◌, ◌-◌, ◌<◌, ◌≤◌, cond, Bool, true, false, eqb, if◌then◌else◌, List, [], length, drop, refl, sym, ap, ◌∙◌, subst, arith, ⊎, inl, inr, Option, Some, None, below_more}
+use Rattle.std.proofs.Common.{◌≡◌, ℕ, zero, suc, ◌+◌, ◌-◌, ◌<◌, ◌≤◌, cond, Bool, true, false, eqb, if◌then◌else◌, List, [], length, drop, refl, sym, ap, ◌∙◌, subst, arith, inl, inr, Option, Some, None, slice_get, below_more, eq-eqb, ap₂}
+use Rattle.std.proofs.Math.ListN.{set}
 use Rattle.std.proofs.lemmas.Bool.{eqb-true}
-use Rattle.std.proofs.lemmas.List.{length-drop}
+use Rattle.std.proofs.lemmas.List.{length-drop, set-get_or}
+use Rattle.std.proofs.lemmas.Option.{get_or_from_slice_get}
 use Rattle.pr_control.specs.Time.{occupant}
 use Rattle.pr_control.specs.Residents.{Resides}
 use Rattle.pr_control.proofs.ResidentLaws.{occupant_resides, resides_occupant, resides_inside}
@@ -11,6 +13,11 @@ use Rattle.pr_machine_account.proofs.AccountLaws.{done_below}
 use Rattle.pr_machine_refines.specs.Spots.{Spot, Bare, Held, Gone, shows, stage_in, saved}
 use Rattle.pr_machine_refines.specs.Stands.{IsStanding}
 use Rattle.pr_machine.specs.Emptying.{IsEmptied}
+
+-- a state that is put back where it was
+pub stays : (store new : List (List ℕ)) (i j : ℕ) (st su : List ℕ) → slice_get store i ≡ Some st → new ≡ set store j su → j ≡ i → su ≡ st → new ≡ store
+stays store new i j st su got put at same =
+    put ∙ (ap₂ (set store) at (same ∙ sym (get_or_from_slice_get store i st [] got)) ∙ set-get_or store i [])
 
 -- ---- one stripe more
 module _ {S R : Type 0} (n : ℕ) (spots : ℕ → Spot S R) (s : ℕ) (was : S) (store : ℕ → S) (now : S) where
@@ -26,10 +33,7 @@ module _ {S R : Type 0} (n : ℕ) (spots : ℕ → Spot S R) (s : ℕ) (was : S)
       inr (n, omega arith, e ∙ (ap (λ k. Held k st row) same ∙ (ap (λ x. Held s x row) (sym f) ∙ ap (λ r. Held s now r) (sym shown))))
   holding m st row false e t f h =
       let held : stage_in (spots n) ≡ Some m = ap stage_in e in
-      others f (λ (is : stage_in (spots n) ≡ Some s). let k : m ≡ s = cc in let z = t in absurd (let y : eqb s s ≡ false = subst (λ x. eqb s x ≡ false) k t in false_self y)) h
-    where
-      false_self : eqb s s ≡ false → ⊥
-      false_self y = let z = y in absurd (let w = Rattle.std.proofs.Common.eq-eqb s s refl in cc)
+      others f (λ (is : stage_in (spots n) ≡ Some s). let same : s ≡ m = cc in let z = eq-eqb s m same in absurd (cc)) h
 
   by_spot : (spot : Spot S R) → spots n ≡ spot → now ≡ saved store spot s → IsEmptied n spots s was (store s) → IsEmptied (n + 1) spots s was now
   by_spot (Bare row) e f h = others f (λ (is : stage_in (spots n) ≡ Some s). let k : stage_in (spots n) ≡ None = ap stage_in e in cc) h

@@ -8,3 +8,4 @@ pub mod FirstStates
 pub mod Starting
 pub mod Emptied
 pub mod Begun
+pub mod Drained

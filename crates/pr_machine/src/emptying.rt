@@ -11,11 +11,25 @@ ghost use Rattle.pr_machine.specs.Emptying.{IsEmptied};
 use crate::places::Place;
 use pr_conf::Configuration;
 use pr_control::Store;
+use pr_stripe::{Blank, Stripe};
 use std::mem;
+
+/// Arms a stripe with a stage and saves that again, so that the stripe shows a bubble and the store is as it was.
+fn blanked<const N: usize, const P: usize>(
+    stripe: Stripe<N, P, Blank>,
+    store: &mut Store<N>,
+    stage: u32,
+) -> Place<N, P>
+    requires { stage < length store.old }
+    ensures same { store.new ≡ store.old }
+    ensures bare { is_bare result ≡ true }
+{
+    Place::Blank(stripe.arm(stage, store).retire().save(store))
+}
 
 /// What a place becomes when its stripe is emptied: its stage is saved, and then the stripe is armed once more with the
 /// same stage and saved again, so that it is blank and shows a bubble. A stripe without a stage goes the same way with
-/// the first stage, whose state then stays as it is.
+/// the first stage.
 fn emptied<const N: usize, const P: usize>(was: Place<N, P>, store: &mut Store<N>) -> Place<N, P>
     requires here { IsHere (length store.old) was }
     requires some { 0 < length store.old }
@@ -23,15 +37,15 @@ fn emptied<const N: usize, const P: usize>(was: Place<N, P>, store: &mut Store<N
     ensures bare { is_bare result ≡ true }
     ensures size { length store.new ≡ length store.old }
 {
-    let (blank, stage) = match was {
-        Place::Blank(stripe) => (stripe, 0),
+    match was {
+        Place::Blank(stripe) => blanked(stripe, store, 0),
         Place::Live(stripe) => {
             let stage = stripe.stage_number();
-            (stripe.retire().save(store), stage)
+            let blank = stripe.retire().save(store);
+            blanked(blank, store, stage)
         }
         Place::Away => unreachable!(),
-    };
-    Place::Blank(blank.arm(stage, store).retire().save(store))
+    }
 }
 
 /// The stripe of one place is emptied.
