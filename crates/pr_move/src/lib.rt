@@ -4,8 +4,8 @@
 
 mod finishing;
 pub mod laws;
-// mod marking;
+mod marking;
 mod nowhere;
 
 pub use finishing::finish;
-// pub use marking::mark_of;
+pub use marking::mark_of;
