@@ -46,7 +46,7 @@ pub struct Loaded<const N: usize, const P: usize> {
     ghost left_in: { left ≤ plan.time },
 }
 
-/// Takes the sample that enters into its buffer, and says whether one does. On a bubble the buffer is zero.
+/// Takes the sample that enters into its buffer, and says whether one does. On a bubble the buffer is as it was.
 fn enter<const N: usize>(buffers: &mut Buffers<N>, first: Option<usize>) -> bool
     requires { vec_len buffers.old.sample ≡ buffers.old.input.size }
     ensures bus { row_if result buffers.new.sample.items ≡ bus_of buffers.old.input.waiting first }
@@ -55,7 +55,6 @@ fn enter<const N: usize>(buffers: &mut Buffers<N>, first: Option<usize>) -> bool
     ensures length { vec_len buffers.new.sample ≡ vec_len buffers.old.sample }
     ensures others { (buffers.new.store ≡ buffers.old.store) × (buffers.new.output ≡ buffers.old.output) × (buffers.new.result ≡ buffers.old.result) × (buffers.new.prepared ≡ buffers.old.prepared) }
 {
-    buffers.sample.fill(0);
     match first {
         None => false,
         Some(_) => buffers.input.get(&mut buffers.sample).is_ok(),
