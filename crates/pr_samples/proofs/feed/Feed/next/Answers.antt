@@ -1,6 +1,6 @@
 use Rattle.std.proofs.Common.{◌≡◌, List, ℕ, [], refl, ap, sym, subst, ◌∙◌, arith, append-nil, inl, inr}
 use Rattle.pr_samples.specs.declared.tails.Tail.{Tail}
-use Rattle.pr_samples.specs.Feed.{pending_of, widths_of, given_of, IsReadBy}
+use Rattle.pr_samples.specs.Feed.{pending_of, widths_of, IsReadBy}
 use Rattle.pr_samples.specs.Scan.{taken_of, fresh, scan_of, first_line}
 use Rattle.pr_samples.proofs.FedLemmas.{first_line-none, found_is_met, line_found}
 use Rattle.pr_samples.proofs.ReadingLemmas.{window-none, window-empty}
