@@ -1,2 +1,3 @@
 pub mod StillLemmas
 pub mod MovingLemmas
+pub mod MarkLemmas

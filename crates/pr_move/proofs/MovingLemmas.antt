@@ -1,5 +1,5 @@
 -- What goes on from a checkpoint is the rest.
-use Rattle.std.proofs.Common.{◌≡◌, ◌+◌, ◌<◌, ◌≤◌, ◌∙◌, ℕ, Bool, false, List, ◌++◌, length, map, refl, sym, ap, ap₂, subst, arith}
+use Rattle.std.proofs.Common.{◌≡◌, ◌+◌, ◌<◌, ◌≤◌, ◌∙◌, ℕ, Bool, false, List, ◌++◌, length, map, sym, ap, ap₂, arith}
 use Rattle.std.proofs.lemmas.List.{map-append, length-append}
 use Rattle.std.proofs.lemmas.Grind.{flat_map-append}
 use Rattle.pr_base.specs.Rows.{row_line, row_numbers, written}

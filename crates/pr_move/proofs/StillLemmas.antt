@@ -1,10 +1,10 @@
 -- After the script of a run nothing is under way.
-use Rattle.std.proofs.Common.{◌≡◌, ◌≢◌, ◌<◌, ◌≤◌, ◌-◌, ◌+◌, ℕ, List, [], length, take, drop, refl, sym, ap, ap₂, ◌∙◌, arith, subst}
+use Rattle.std.proofs.Common.{◌≡◌, ◌≢◌, ◌<◌, ◌≤◌, ◌-◌, ℕ, List, length, drop, refl, sym, ap, ◌∙◌, arith, subst}
 use Rattle.std.proofs.lemmas.List.{take_all, drop_all, length-map}
 use Rattle.pr_edge.specs.Tape.{Tape}
 use Rattle.pr_samples.specs.declared.feed.Feed.{Feed}
 use Rattle.pr_samples.specs.Feed.{given_of, widths_of}
-use Rattle.pr_machine_account.specs.Account.{Account, account, left, done, below}
+use Rattle.pr_machine_account.specs.Account.{Account, account, left, below}
 use Rattle.pr_machine_account.proofs.AccountLaws.{lawful, done_below}
 use Rattle.pr_machine_account.proofs.ReplyLaws.{left_inside, length-through}
 use Rattle.pr_machine_account.proofs.FlowLaws.{below_few}
@@ -72,7 +72,7 @@ final_of {N} {P} m c p h xs stands t =
 
 -- at every answer but a write fault the script is over
 script_of : {N P : ℕ} (s : Setting) (m : Going N P) (f : Feed) (now : View) (t : Tape) (end : RunEnd) (r : Ran s m f now t end) → end ≢ RunEnd.WriteFault → r.history ≡ events_of s (pieces s r.rows)
-script_of s m f now t (RunEnd.Done cycles stalls results) r h = r.answer.1.0.events
+script_of s m f now t (RunEnd.Done cycles stalls results) r h = r.answer.1.events
 script_of s m f now t (RunEnd.BadSample line) r h = r.answer.1.events
 script_of s m f now t RunEnd.ReadFault r h = r.answer.1.events
 script_of s m f now t RunEnd.WriteFault r h = absurd (h refl)

@@ -1,5 +1,5 @@
 -- Machines in which nothing is under way.
-use Rattle.std.specs.Prelude.{◌≡◌, length}
+use Rattle.std.specs.Prelude.{◌≡◌, ℕ, length}
 use Rattle.pr_machine.specs.Stands.{waiting_samples, waiting_results}
 use Rattle.pr_run.specs.Turns.{Going}
 

@@ -14,6 +14,7 @@ use std::alloc::{AllocError, Global};
 /// its configuration with each stage beginning in the state in which they left it. The machine is parked for it, and is given up.
 ///
 /// The checkpoint is a lawful one, from which a run can go on.
+#[tactic(auto, using(crate::proofs::MarkLemmas::marked))]
 pub fn mark_of<const N: usize, const P: usize>(
     alloc: Global,
     machine: Machine<N, P, Running>,
@@ -21,8 +22,8 @@ pub fn mark_of<const N: usize, const P: usize>(
 ) -> Result<Vec<u8>, AllocError>
     requires still { IsStill machine }
     requires few { count + machine.parts.left ≤ 2 ^ 40 }
-    ensures mark { (c : Shape) (p : ℕ) (h : History) → Stands machine.entry c p h
-        → IfOk result (λ v. IsMark N P (count + machine.entry.parts.left) (conf_after N P c (account_of c p h).offered) v.items) }
+    ensures mark { IfOk result (λ v. (c : Shape) (p : ℕ) (h : History) → Stands machine.entry c p h
+        → IsMark N P (count + machine.entry.parts.left) (conf_after N P c (account_of c p h).offered) v.items) }
     ensures lawful { IfOk result (λ v. bad_mark N P v.items ≡ None) }
 {
     let left = machine.left();

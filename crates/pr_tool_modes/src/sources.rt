@@ -22,6 +22,9 @@ pub fn load<S: Shelf>(alloc: Global, source: &Source<'_>, shelf: &mut S) -> Resu
 {
     match *source {
         Source::File { name } => read_configuration(alloc, shelf, name),
-        Source::Program { name, fabric } => compile_file(alloc, shelf, name, fabric),
+        Source::Program { name, fabric } => match compile_file(alloc, shelf, name, fabric) {
+            Ok(made) => Ok(made.loaded),
+            Err(answer) => Err(answer),
+        },
     }
 }
