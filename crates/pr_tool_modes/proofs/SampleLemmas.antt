@@ -1,5 +1,5 @@
 -- The samples that a feed gave, and what is evaluated on them.
-use Rattle.std.proofs.Common.{◌≡◌, ◌≢◌, ◌+◌, ◌<◌, ◌≤◌, ◌^◌, ℕ, false, true, Bool, List, [], ◌∷◌, ◌++◌, length, map, reverse, take, Option, Some, None, IfSome, slice_get, nat_lt, refl, sym, ap, ap₂, ◌∙◌, subst, arith}
+use Rattle.std.proofs.Common.{◌≡◌, ◌≢◌, ◌+◌, ◌≤◌, ◌^◌, ℕ, false, true, Bool, List, [], ◌∷◌, ◌++◌, length, map, reverse, take, Option, Some, None, IfSome, slice_get, nat_lt, refl, sym, ap, ap₂, ◌∙◌, subst, arith}
 use Rattle.std.specs.List.{All}
 use Rattle.std.proofs.lemmas.Bool.Decides.{nat_tests}
 use Rattle.std.proofs.lemmas.Grind.{flat_map-append}

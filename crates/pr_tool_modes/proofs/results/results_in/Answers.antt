@@ -1,6 +1,5 @@
-use Rattle.std.proofs.Common.{◌≡◌, ◌≢◌, ℕ, List, [], length, refl, sym, ap, subst, ◌∙◌, arith, rules}
-use Rattle.std.specs.List.{All}
-use Rattle.pr_base.specs.Rows.{IsRow, written}
+use Rattle.std.proofs.Common.{◌≡◌, ℕ, List, length, refl, sym, ap, subst, ◌∙◌, arith}
+use Rattle.pr_base.specs.Rows.{written}
 use Rattle.pr_edge.specs.Files.{Told}
 use Rattle.pr_flat.specs.Shape.{EquationShape, shapes_of}
 use Rattle.pr_flat.specs.Values.{input_widths}

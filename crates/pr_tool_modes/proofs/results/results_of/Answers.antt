@@ -1,6 +1,6 @@
-use Rattle.std.proofs.Common.{All, ◌≡◌, ◌≢◌, ◌≤◌, ◌^◌, ℕ, List, Bool, length, nat_lt, refl, sym, ap, subst, ◌∙◌, inl, arith}
+use Rattle.std.proofs.Common.{All, ◌≡◌, ◌≢◌, ℕ, List, length, nat_lt, refl, sym, subst, ◌∙◌, inl, arith}
 use Rattle.std.proofs.lemmas.Bool.{false≢true}
-use Rattle.pr_edge.specs.Files.{Told, IsMissing}
+use Rattle.pr_edge.specs.Files.{Told}
 use Rattle.pr_samples.specs.declared.feed.Got.{Got}
 use Rattle.pr_samples.specs.Feed.{name_of, limit_of, IsSeen, ReadsOn}
 use Rattle.pr_tool_modes.specs.Programs.{inputs_of}
