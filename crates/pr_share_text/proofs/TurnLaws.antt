@@ -6,6 +6,7 @@ use Rattle.std.proofs.Math.Nat.{mul-le-mul_left, mul-le-mul_right}
 use Rattle.std.proofs.lemmas.Bool.{cases_lt}
 use Rattle.std.proofs.lemmas.List.{take_all, take_at, take-append-le, length-drop, length-set, drop_at}
 use Rattle.pr_share_text.specs.Text.{Part, marked, rows_in, round_from, rounds, share_text, HaveQuotas}
+use Rattle.pr_share_text.specs.Turns.{so_far}
 use Rattle.pr_share_text.proofs.RoundLaws.{rounds_none as rounds_zero, rounds_more, quota_of, few_rows}
 
 -- ---- the rows of a turn
@@ -88,10 +89,6 @@ length_take : (k : ℕ) (parts : List Part) (part : Part) → slice_get parts k 
 length_take k [] part e = absurd (let z = e in cc)
 length_take zero (first ∷ parts) part e = refl
 length_take (suc k) (first ∷ parts) part e = ap suc (length_take k parts part e)
-
--- the first r rounds, and of round r the turns of the programs before number k
-abbrev pub so_far : ℕ → ℕ → List Part → List ℕ
-so_far r k parts = rounds r parts ++ round_from r 0 (take k parts)
 
 one_round : (r k : ℕ) (parts : List Part) (part : Part) → slice_get parts k ≡ Some part → (xs : List Part) → length xs ≡ k → (last : Part) → round_from r 0 (xs ++ last ∷ []) ≡ round_from r 0 xs ++ marked k (rows_in r last)
 one_round r k parts part e xs l last =
