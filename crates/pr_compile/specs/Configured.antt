@@ -1,5 +1,5 @@
 -- The configuration of equations, of a program and of a text.
-use Rattle.std.specs.Prelude.{◌≡◌, ℕ, List, length, None}
+use Rattle.std.specs.Prelude.{◌≡◌, ℕ, List, None}
 use Rattle.pr_lang.specs.declared.trees.Program.{Program}
 use Rattle.pr_flat.specs.declared.equations.Operand.{Operand}
 use Rattle.pr_flat.specs.Shape.{EquationShape}
@@ -38,10 +38,3 @@ pub record IsCompiled (N P : ℕ) (text : List ℕ) (conf : Shape) : Type 0 wher
   pub widths : List ℕ
   pub has : HasWidths text program widths
   pub configured : IsConfiguredBy N P program widths conf
-
--- the net of its program has so many units
-pub record HasUnits (text : List ℕ) (units : ℕ) : Type 0 where
-  pub program : Program
-  pub widths : List ℕ
-  pub has : HasWidths text program widths
-  pub are : units ≡ length (net_by program widths).units

@@ -7,7 +7,7 @@ ghost use Rattle.pr_expand_spec.specs.Programs.{equations_of};
 ghost use Rattle.pr_cut_units.specs.Nets.{net_of};
 ghost use Rattle.pr_conf.specs.Configuration.{shape_of};
 ghost use Rattle.pr_compile_front.specs.Passed.{HasEquations};
-ghost use Rattle.pr_compile.specs.Configured.{net_by, IsConfigured, IsConfiguredBy, IsCompiled, HasUnits};
+ghost use Rattle.pr_compile.specs.Configured.{net_by, IsConfigured, IsConfiguredBy, IsCompiled};
 ghost use Rattle.pr_compile.specs.Refusals.{IsNetAnswer, IsCompileAnswer};
 
 use crate::faults::CompileFault;
@@ -72,29 +72,9 @@ pub fn compile_front<const N: usize, const P: usize>(
     configure(alloc, &front.flat, &front.widths)
 }
 
-/// The configuration of the program of a text, on N columns and P registers, and how many units it was made of; else the
-/// first point that refuses the text: a token that is nested too deep or breaks the grammar, a broken rule of scope or too
-/// many turns, too many equations, an equation without a width, too many bytes of input, outputs or units, or a group that
-/// fits in no stripe.
-pub fn compile_counted<const N: usize, const P: usize>(
-    alloc: Global,
-    text: &[u8],
-) -> Result<Compiled<N, P>, CompileFault>
-    requires short { length text.now ≤ 1048576 }
-    requires columns { 1 ≤ N }
-    requires most_columns { N ≤ 64 }
-    requires registers { 2 ≤ P }
-    requires most_registers { P ≤ 16 }
-    ensures compiled { IfOk result (λ c. IsCompiled N P text.now (shape_of c.conf)) }
-    ensures units { IfOk result (λ c. HasUnits text.now c.units) }
-    ensures refused { IfErr result (IsCompileAnswer N P text.now) }
-{
-    let front = read_program(alloc, text)?;
-    let compiled = compile_front::<N, P>(alloc, &front)?;
-    Ok(compiled)
-}
-
-/// The configuration of the program of a text alone; else the first point that refuses the text, as `compile_counted`.
+/// The configuration of the program of a text, on N columns and P registers; else the first point that refuses the text: a
+/// token that is nested too deep or breaks the grammar, a broken rule of scope or too many turns, too many equations, an
+/// equation without a width, too many bytes of input, outputs or units, or a group that fits in no stripe.
 pub fn compile<const N: usize, const P: usize>(
     alloc: Global,
     text: &[u8],
@@ -107,6 +87,7 @@ pub fn compile<const N: usize, const P: usize>(
     ensures compiled { IfOk result (λ c. IsCompiled N P text.now (shape_of c)) }
     ensures refused { IfErr result (IsCompileAnswer N P text.now) }
 {
-    let compiled = compile_counted::<N, P>(alloc, text)?;
+    let front = read_program(alloc, text)?;
+    let compiled = compile_front::<N, P>(alloc, &front)?;
     Ok(compiled.conf)
 }

@@ -15,9 +15,8 @@ use Rattle.pr_tool_modes.specs.Sources.{Source, File, Text}
 use Rattle.pr_tool_modes.proofs.TextVerdicts.{text_owed, one_text, text_fault, text_memory, text_write, text_usage, text_bytes}
 use Rattle.pr_tool_modes.proofs.EvalVerdicts.{eval_owed, unbuilt_owed, one_eval, one_unbuilt, eval_fault, eval_memory, eval_write, eval_usage, unbuilt_fault, unbuilt_write, unbuilt_usage}
 use Rattle.pr_tool_modes.proofs.RunVerdicts.{run_owed, one_run, run_fault, run_memory, run_write, run_usage}
-use Rattle.pr_tool_modes.proofs.GenVerdicts.{gen_owed, one_gen, gen_fault, gen_memory, gen_write, gen_usage}
 use Rattle.pr_tool_modes.proofs.LinesLemmas.{eval_lines, configuration_lines, program_lines}
-use Rattle.pr_tool.specs.Plans.{Plan, Texts, Runs, Evaluates, Generates, Refuses, Nothing, plan_of}
+use Rattle.pr_tool.specs.Plans.{Plan, Texts, Runs, Evaluates, Refuses, Nothing, plan_of}
 use Rattle.pr_tool.specs.Words.{Asked}
 use Rattle.pr_tool.specs.Calls.{IsUnchanged, IsDone, IsCalled, AreLines, HasGained, IsPlanVerdict, IsVerdict, IsToldVerdict}
 
@@ -27,7 +26,6 @@ done_owed : (files : List ℕ → Option (List ℕ)) (plan : Plan) (k : Call) (w
 done_owed files (Texts form source) k was bench a told done = text_owed files form source k a told done.0
 done_owed files (Runs j) k was bench a told done = run_owed files j k was bench a told done
 done_owed files (Evaluates first second) k was bench a told done = eval_owed files first second k a told done.0
-done_owed files (Generates g) k was bench a told done = gen_owed g k.old k.new k.before.faults k.now.faults k.out_before k.out_now was bench a done
 done_owed files (Refuses name) k was bench a told done = unbuilt_owed files name k.before.told k.before.faults k.now.faults k.out_before k.out_now a told done.ended
 done_owed files Nothing k was bench a told done = inl done.0
 
@@ -35,7 +33,6 @@ done_fault : (plan : Plan) (k : Call) (was bench : Bench) (a : Answer) → IsDon
 done_fault (Texts form source) k was bench a done is untold = text_fault form source k a done.0 is untold
 done_fault (Runs j) k was bench a done is untold = run_fault j k was bench a done is untold
 done_fault (Evaluates first second) k was bench a done is untold = eval_fault first second k a done.0 is untold
-done_fault (Generates g) k was bench a done is untold = absurd (gen_fault g k.old k.new k.out_before k.out_now was bench a done is)
 done_fault (Refuses name) k was bench a done is untold = unbuilt_fault k.before.told name k.before.faults k.now.faults a done.ended is untold
 done_fault Nothing k was bench a done is untold = absurd (let no : Answer.ReadFault ≡ Answer.NotYet = sym is ∙ done.0 in cc)
 
@@ -43,7 +40,6 @@ done_write : (plan : Plan) (k : Call) (was bench : Bench) (a : Answer) → IsDon
 done_write (Texts form source) k was bench a done is = text_write form source k a done.0 is
 done_write (Runs j) k was bench a done is = run_write j k was bench a done is
 done_write (Evaluates first second) k was bench a done is = eval_write first second k a done.0 is
-done_write (Generates g) k was bench a done is = gen_write g k.old k.new k.out_before k.out_now was bench a done is
 done_write (Refuses name) k was bench a done is = absurd (unbuilt_write k.before.told name k.before.faults k.now.faults a done.ended is)
 done_write Nothing k was bench a done is = absurd (let no : Answer.WriteFault ≡ Answer.NotYet = sym is ∙ done.0 in cc)
 
@@ -51,7 +47,6 @@ done_memory : (plan : Plan) (k : Call) (was bench : Bench) (a : Answer) → IsDo
 done_memory (Texts form source) k was bench a done is = (text_memory form source k a done.0 is, done.1)
 done_memory (Runs j) k was bench a done is = run_memory j k was bench a done is
 done_memory (Evaluates first second) k was bench a done is = (eval_memory first second k a done.0 is, done.1)
-done_memory (Generates g) k was bench a done is = gen_memory g k.old k.new k.out_before k.out_now was bench a done is
 done_memory (Refuses name) k was bench a done is = (done.unchanged.unwritten, done.unchanged.kept)
 done_memory Nothing k was bench a done is = (done.1.unwritten, done.1.kept)
 
@@ -59,7 +54,6 @@ done_usage : (plan : Plan) (k : Call) (was bench : Bench) (a : Answer) → IsDon
 done_usage (Texts form source) k was bench a done is = text_usage form source k a done.0 is
 done_usage (Runs j) k was bench a done is = run_usage j k was bench a done is
 done_usage (Evaluates first second) k was bench a done is = eval_usage first second k a done.0 is
-done_usage (Generates g) k was bench a done is = gen_usage g k.old k.new k.out_before k.out_now was bench a done is
 done_usage (Refuses name) k was bench a done is = unbuilt_usage k.before.told name k.before.faults k.now.faults a done.ended is
 done_usage Nothing k was bench a done is = (let no : Answer.Usage ≡ Answer.NotYet = sym is ∙ done.0 in cc)
 
@@ -72,7 +66,6 @@ memory_gained : (files : List ℕ → Option (List ℕ)) (plan : Plan) (k : Call
 memory_gained files (Texts form source) k was bench same = (same.unwritten, same.kept)
 memory_gained files (Runs j) k was bench same = memory_lines files j j.source k was bench same
 memory_gained files (Evaluates first second) k was bench same = (same.unwritten, same.kept)
-memory_gained files (Generates g) k was bench same = record { unwritten = same.unwritten; kept = same.kept }
 memory_gained files (Refuses name) k was bench same = same
 memory_gained files Nothing k was bench same = same
 
@@ -84,7 +77,6 @@ done_gained : (files : List ℕ → Option (List ℕ)) (plan : Plan) (k : Call) 
 done_gained files (Texts form source) k was bench a told done = (text_bytes files form source k a told done.0, done.1)
 done_gained files (Runs j) k was bench a told done = source_lines files j j.source k was bench a refl told done
 done_gained files (Evaluates first second) k was bench a told done = (eval_lines files first second k a told done.0, done.1)
-done_gained files (Generates g) k was bench a told done = done
 done_gained files (Refuses name) k was bench a told done = done.unchanged
 done_gained files Nothing k was bench a told done = done.1
 
@@ -152,7 +144,6 @@ one_plan : (files : List ℕ → Option (List ℕ)) (plan : Plan) (a b : Answer)
 one_plan files (Texts form source) a b is by = one_text files source a b is by
 one_plan files (Runs j) a b is by = one_run files j a b is by
 one_plan files (Evaluates first second) a b is by = one_eval files first second a b is by
-one_plan files (Generates g) a b is by = one_gen g a b is by
 one_plan files (Refuses name) a b is by = one_unbuilt files name a b is by
 one_plan files Nothing a b is by = is ∙ sym by
 

@@ -2,10 +2,10 @@
 ghost use Rattle.std.specs.Prelude.{◌≡◌, option_map};
 ghost use Rattle.pr_tool_words.specs.Orders.{order_of};
 ghost use Rattle.pr_tool_modes.specs.Jobs.{job, source_of};
-ghost use Rattle.pr_tool.specs.Plans.{Runs, unless, generates, plan_of, plan_in};
+ghost use Rattle.pr_tool.specs.Plans.{Runs, unless, plan_of, plan_in};
 
-use pr_tool_modes::{Form, Generation, Job, Source};
-use pr_tool_words::{GenSize, Mode, Options, Words};
+use pr_tool_modes::{Form, Job, Source};
+use pr_tool_words::{Mode, Options, Words};
 
 /// What is done for a command line.
 #[derive(Clone, Copy, PartialEq, Eq, Debug)]
@@ -16,8 +16,6 @@ pub enum Plan<'a> {
     Runs(Job<'a>),
     /// A program is evaluated on samples.
     Evaluates { program: &'a str, samples: &'a str },
-    /// A generated program is run.
-    Generates(Generation),
     /// A program is read for what is not built.
     Refuses { program: &'a str },
     /// Nothing is built of it.
@@ -45,20 +43,6 @@ fn plain<'a>(options: &Options<'a>, program: &'a str, plan: Plan<'a>) -> Plan<'a
         return Plan::Refuses { program };
     }
     plan
-}
-
-/// A run of a generated program, unless it is to be narrowed, which is not built.
-fn generates<'a>(options: &Options<'a>, size: GenSize) -> Plan<'a>
-    ensures { plan_in result ≡ generates options.now.narrow (record { turns = size.turns; fabric = options.now.fabric; stripes = options.now.stripes }) }
-{
-    if options.narrow {
-        return Plan::Nothing;
-    }
-    Plan::Generates(Generation {
-        turns: size.turns,
-        fabric: options.fabric,
-        stripes: options.stripes,
-    })
 }
 
 /// What is done for a lawful command line.
@@ -104,8 +88,7 @@ pub fn plan_of<'a>(words: &Words<'a>) -> Plan<'a>
             let source = Source::Program { name, fabric };
             plain(options, name, runs(options, source, samples, true))
         }
-        Mode::Gen { size } => generates(options, size),
-        Mode::Share { .. } | Mode::Checkpoint { .. } => Plan::Nothing,
+        Mode::Gen { .. } | Mode::Share { .. } | Mode::Checkpoint { .. } => Plan::Nothing,
         Mode::Move { .. } | Mode::Extend { .. } => Plan::Nothing,
     }
 }

@@ -8,8 +8,6 @@ use Rattle.pr_compile.specs.Configured.{IsCompiled}
 use Rattle.pr_compile.specs.Meant.{IsMeant}
 use Rattle.pr_compile.specs.Refusals.{IsRefused}
 use Rattle.pr_compile.proofs.Programs.{text_meant}
-use Rattle.pr_compile.proofs.Shown.{configured_lawful}
-use Rattle.pr_conf.specs.Rules.{IsLawful}
 use Rattle.pr_compile.proofs.OneAnswer.{one_answer, no_answer}
 use Rattle.pr_compile.proofs.OneAnswer.{one_compiled as one_configuration}
 
@@ -24,7 +22,3 @@ one_compiled = one_configuration
 
 pub is_meant : (N P : ℕ) (text : List ℕ) (program : Program) (widths : List ℕ) (conf : Shape) → 2 ≤ P → HasWidths text program widths → IsCompiled N P text conf → IsMeant N P program conf
 is_meant = text_meant
-
-pub is_lawful : (N P : ℕ) (text : List ℕ) (conf : Shape) → 1 ≤ N → N ≤ 64 → 2 ≤ P → P ≤ 16 → IsCompiled N P text conf → IsLawful N P conf
-is_lawful N P text conf columns most_columns registers most_registers c =
-    configured_lawful N P _ c.widths _ conf c.configured columns most_columns registers most_registers

@@ -12,7 +12,7 @@ use Rattle.pr_compile_front.specs.Refusals.{HasWidths, IsRefusal}
 use Rattle.pr_compile_front.specs.Passed.{IsPassed}
 use Rattle.pr_compile.specs.declared.faults.CompileFault.{CompileFault}
 use Rattle.pr_compile.specs.declared.faults.CompileFault.TheVariants as fault
-use Rattle.pr_compile.specs.Configured.{IsCompiled, HasUnits}
+use Rattle.pr_compile.specs.Configured.{IsCompiled}
 use Rattle.pr_compile.specs.Refusals.{IsRefused}
 use Rattle.pr_tool_answers.specs.declared.answers.Answer.{Answer}
 use Rattle.pr_tool_modes.specs.Files.{IsText, IsFileRefusal, IsRefusedFile}
@@ -87,9 +87,3 @@ pub record HasCompiled (told : Told) (name : List ℕ) (N P : ℕ) (conf : Shape
   pub file : IsText told name text
   pub short : length text ≤ 1048576
   pub is : IsCompiled N P text conf
-
--- the net of the program in a file has so many units
-pub record IsCounted (told : Told) (name : List ℕ) (units : ℕ) : Type 0 where
-  pub text : List ℕ
-  pub file : IsText told name text
-  pub has : HasUnits text units

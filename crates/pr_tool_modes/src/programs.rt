@@ -2,17 +2,18 @@
 ghost use Rattle.std.specs.Prelude.{◌≡◌, ◌≢◌, ◌≤◌, ◌⊎◌, ℕ, List, length, IfOk, IfErr};
 ghost use Rattle.pr_base.specs.declared.caps.Cap.{Cap};
 ghost use Rattle.pr_conf.specs.Configuration.{shape_of};
-ghost use Rattle.pr_compile.specs.Configured.{IsCompiled, HasUnits};
+ghost use Rattle.pr_compile.specs.Configured.{IsCompiled};
 ghost use Rattle.pr_tool_modes.specs.Files.{IsFileRefusal};
-ghost use Rattle.pr_tool_modes.specs.Programs.{front_answer, compile_answer, IsBadProgram, IsUncompiled, IsLoaded, IsUnbuilt, IsCounted};
+ghost use Rattle.pr_tool_modes.specs.Programs.{front_answer, compile_answer, IsBadProgram, IsUncompiled, IsLoaded, IsUnbuilt};
 ghost use Rattle.pr_tool_modes.specs.Sources.{columns, registers, columns_in, registers_in, shape_in, IsOnFabric, CompilesTo};
 
 use crate::files::read_file;
 use crate::loadables::Loadable;
 use pr_base::Cap;
 use pr_code::Fabric;
-use pr_compile::{CompileFault, Compiled, compile_counted};
+use pr_compile::{CompileFault, compile};
 use pr_compile_front::{Front, FrontFault, read_program};
+use pr_conf::Configuration;
 use pr_edge::Shelf;
 use pr_tool_answers::Answer;
 use std::alloc::Global;
@@ -65,53 +66,34 @@ pub fn load_program<S: Shelf>(alloc: Global, shelf: &mut S, name: &str) -> Resul
     }
 }
 
-/// A program that was compiled.
-#[derive(Drop)]
-pub struct Made {
-    /// Its configuration.
-    pub loaded: Loadable,
-    /// The units of its net.
-    pub units: usize,
-}
-
 /// The configuration of a text, on this fabric.
 fn compile_text<const N: usize, const P: usize>(
     alloc: Global,
     text: &[u8],
-) -> Result<Compiled<N, P>, Answer>
+) -> Result<Configuration<N, P>, Answer>
     requires short { length text.now ≤ 1048576 }
     requires columns { 1 ≤ N }
     requires most_columns { N ≤ 64 }
     requires registers { 2 ≤ P }
     requires most_registers { P ≤ 16 }
-    ensures compiled { IfOk result (λ c. IsCompiled N P text.now (shape_of c.conf)) }
-    ensures units { IfOk result (λ c. HasUnits text.now c.units) }
+    ensures compiled { IfOk result (λ c. IsCompiled N P text.now (shape_of c)) }
     ensures refused { IfErr result (λ a. IsUncompiled N P text.now a ⊎ (a ≡ Answer.Memory)) }
 {
-    match compile_counted::<N, P>(alloc, text) {
-        Ok(compiled) => Ok(compiled),
+    match compile::<N, P>(alloc, text) {
+        Ok(conf) => Ok(conf),
         Err(fault) => Err(answer_of(fault)),
     }
 }
 
 /// The configuration of a text, on the fabric that is named.
-fn compile_named(alloc: Global, text: &[u8], fabric: Fabric) -> Result<Made, Answer>
+fn compile_named(alloc: Global, text: &[u8], fabric: Fabric) -> Result<Loadable, Answer>
     requires short { length text.now ≤ 1048576 }
-    ensures compiled { IfOk result (λ m. CompilesTo fabric (columns_in m.loaded) (registers_in m.loaded) text.now (shape_in m.loaded)) }
-    ensures units { IfOk result (λ m. HasUnits text.now m.units) }
+    ensures compiled { IfOk result (λ l. CompilesTo fabric (columns_in l) (registers_in l) text.now (shape_in l)) }
     ensures refused { IfErr result (λ a. IsUncompiled (columns fabric) (registers fabric) text.now a ⊎ (a ≡ Answer.Memory)) }
 {
     match fabric {
-        Fabric::Base => {
-            let Compiled { conf, units } = compile_text::<16, 8>(alloc, text)?;
-            let loaded = Loadable::Base(conf);
-            Ok(Made { loaded, units })
-        }
-        Fabric::Wide => {
-            let Compiled { conf, units } = compile_text::<32, 16>(alloc, text)?;
-            let loaded = Loadable::Wide(conf);
-            Ok(Made { loaded, units })
-        }
+        Fabric::Base => Ok(Loadable::Base(compile_text::<16, 8>(alloc, text)?)),
+        Fabric::Wide => Ok(Loadable::Wide(compile_text::<32, 16>(alloc, text)?)),
     }
 }
 
@@ -121,9 +103,8 @@ pub fn compile_file<S: Shelf>(
     shelf: &mut S,
     name: &str,
     fabric: Fabric,
-) -> Result<Made, Answer>
-    ensures compiled { IfOk result (λ m. IsOnFabric (S.told shelf.old) name.now fabric (columns_in m.loaded) (registers_in m.loaded) (shape_in m.loaded)) }
-    ensures units { IfOk result (λ m. IsCounted (S.told shelf.old) name.now m.units) }
+) -> Result<Loadable, Answer>
+    ensures compiled { IfOk result (λ l. IsOnFabric (S.told shelf.old) name.now fabric (columns_in l) (registers_in l) (shape_in l)) }
     ensures refused { IfErr result (IsFileRefusal 1048576 Cap.ProgramBytes (IsUncompiled (columns fabric) (registers fabric)) (S.told shelf.old) name.now (S.faults shelf.old) (S.faults shelf.new)) }
     ensures later { S.faults shelf.old ≤ S.faults shelf.new }
     ensures same { S.told shelf.new ≡ S.told shelf.old }

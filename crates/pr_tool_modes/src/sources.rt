@@ -22,9 +22,6 @@ pub fn load<S: Shelf>(alloc: Global, source: &Source<'_>, shelf: &mut S) -> Resu
 {
     match *source {
         Source::File { name } => read_configuration(alloc, shelf, name),
-        Source::Program { name, fabric } => match compile_file(alloc, shelf, name, fabric) {
-            Ok(made) => Ok(made.loaded),
-            Err(answer) => Err(answer),
-        },
+        Source::Program { name, fabric } => compile_file(alloc, shelf, name, fabric),
     }
 }

@@ -1,7 +1,7 @@
 use Rattle.std.proofs.Common.{arith}
 use Rattle.std.proofs.lemmas.Result.{err_from_is_err_and}
 use Rattle.pr_compile.proofs.Steps.{front_answer, net_answer, at_exit}
-use Rattle.pr_compile.proofs.compiling.compile_counted.Goals as goal
+use Rattle.pr_compile.proofs.compiling.compile.Goals as goal
 
 pub compile_front-requires : goal.compile_front-requires
 compile_front-requires g c =
