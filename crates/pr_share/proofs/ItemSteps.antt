@@ -1,5 +1,5 @@
 -- One turn of a program, from the parked configuration to the parked configuration.
-use Rattle.std.proofs.Common.{◌≡◌, ℕ, ◌≤◌, Bool, true, false, cond, List, [], ◌++◌, length, map, Option, Some, None, is_some, refl, sym, ap, ap₂, ◌∙◌, subst, arith, true≢false}
+use Rattle.std.proofs.Common.{◌≡◌, ℕ, true, false, List, ◌++◌, length, map, Option, Some, None, is_some, refl, sym, ap, ◌∙◌, subst, arith, true≢false}
 use Rattle.pr_base.specs.Rows.{row_bytes}
 use Rattle.pr_edge.specs.Files.{Told}
 use Rattle.pr_edge.specs.Tape.{Tape, Appends}
@@ -17,7 +17,7 @@ use Rattle.pr_machine.specs.Parking.{parked_conf}
 use Rattle.pr_share_text.specs.Text.{marked}
 use Rattle.pr_share.specs.declared.items.ShareItem.{ShareItem}
 use Rattle.pr_share.specs.Fed.{HasFed}
-use Rattle.pr_share.specs.Turns.{Going, Setting, stages_of, pieces, IsTurned}
+use Rattle.pr_share.specs.Turns.{Going, Setting, pieces, IsTurned}
 use Rattle.pr_share.specs.Items.{conf_in, last_of, ended_after, HasTaken, IsTurn}
 use Rattle.pr_share.proofs.RoundSteps.{pieces-append}
 

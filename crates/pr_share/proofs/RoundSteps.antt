@@ -1,26 +1,25 @@
 -- Turns and rounds of programs.
-use Rattle.std.proofs.Common.{◌≡◌, ℕ, zero, suc, ◌+◌, ◌*◌, ◌<◌, ◌≤◌, ltb, eqb, cond, true, false, Bool, List, [], ◌∷◌, ◌++◌, length, get_or, map, take, Option, Some, None, is_some, slice_get, refl, sym, ap, ap₂, ◌∙◌, subst, arith, length-append, true≢false, inl, inr, ◌^◌}
+use Rattle.std.proofs.Common.{◌≡◌, ℕ, zero, suc, ◌+◌, ◌*◌, ◌<◌, ◌≤◌, ltb, cond, true, false, Bool, List, [], ◌∷◌, ◌++◌, length, get_or, map, take, Option, Some, None, is_some, slice_get, refl, sym, ap, ◌∙◌, subst, arith, length-append, true≢false, inl, inr, ◌^◌}
 use Rattle.std.proofs.Math.Nat.{mul-le-mul_left}
 use Rattle.std.proofs.Math.ListN.{set}
-use Rattle.std.proofs.lemmas.Bool.{cases_lt, cases_eq, lt-ltb, ltb-true, cond-true, cond-false}
+use Rattle.std.proofs.lemmas.Bool.{cases_lt, cases_eq, lt-ltb, ltb-true, cond-true}
 use Rattle.std.proofs.lemmas.List.{length-map, length-set, map-append}
 use Rattle.pr_base.specs.Rows.{row_bytes, row_numbers}
 use Rattle.pr_edge.specs.Files.{Told}
-use Rattle.pr_edge.specs.Tape.{Tape, Appends}
+use Rattle.pr_edge.specs.Tape.{Tape}
 use Rattle.pr_edge.proofs.Appending.{Appends-append}
 use Rattle.pr_samples.specs.declared.feed.Got.{Got}
-use Rattle.pr_samples.specs.Feed.{widths_of, fed}
+use Rattle.pr_samples.specs.Feed.{fed}
 use Rattle.pr_conf.specs.Shape.{Shape}
 use Rattle.pr_conf.specs.Through.{output_widths, results_of, result_numbers}
 use Rattle.pr_conf.specs.After.{conf_after}
 use Rattle.pr_conf.proofs.AfterLaws.{results_after, outputs_after, none_after}
-use Rattle.pr_share_text.specs.Text.{Part, HaveQuotas, marked, share_text}
-use Rattle.pr_share_text.specs.Turns.{so_far}
+use Rattle.pr_share_text.specs.Text.{Part, HaveQuotas}
 use Rattle.pr_share_text.proofs.TurnLaws.{turn_added, turn_skipped, round_over, nothing_yet, all_over}
 use Rattle.pr_share.specs.declared.items.ShareItem.{ShareItem}
 use Rattle.pr_share.specs.Turns.{pieces}
 use Rattle.pr_share.specs.Fed.{HasFed}
-use Rattle.pr_share.specs.Items.{conf_in, last_of, IsReady, AreReady, HasTaken, IsTurn, part_of, IsMember, IsSharing, IsShared, AreShared}
+use Rattle.pr_share.specs.Items.{conf_in, last_of, IsReady, AreReady, HasTaken, IsTurn, part_of, IsMember, IsSharing, AreShared}
 use Rattle.pr_run.proofs.Lines.{nothing_appended}
 use Rattle.pr_share.proofs.Shown.{length-results}
 

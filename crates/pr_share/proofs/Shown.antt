@@ -1,27 +1,24 @@
 -- The machine was asked one event more, and the lines of the results that were taken are written.
-use Rattle.std.proofs.Common.{◌≡◌, ℕ, ◌+◌, ◌-◌, ◌<◌, ◌≤◌, Bool, true, false, cond, ltb, List, [], ◌∷◌, ◌++◌, length, get_or, map, take, drop, replicate, Option, Some, None, slice_get, refl, sym, ap, ap₂, ◌∙◌, arith, append-nil, subst}
-use Rattle.std.specs.List.{flat_map}
-use Rattle.std.proofs.lemmas.Bool.{lt-ltb, ltb-true, cond-true, cond_both}
+use Rattle.std.proofs.Common.{◌≡◌, ℕ, ◌+◌, ◌-◌, ◌<◌, ◌≤◌, Bool, true, false, cond, ltb, List, [], ◌∷◌, ◌++◌, length, get_or, map, take, drop, Option, Some, None, slice_get, refl, sym, ap, ◌∙◌, arith, append-nil, subst}
+use Rattle.std.proofs.lemmas.Bool.{cond-true, cond_both}
 use Rattle.std.proofs.lemmas.Grind.{flat_map-append}
-use Rattle.std.proofs.lemmas.List.{take_more, take_all, take-append-drop, take-append-le, take-map, map-append, length-map, get_or-map}
+use Rattle.std.proofs.lemmas.List.{take_more, take_all, take-append-drop, take-append-le, take-map, length-map, get_or-map}
 use Rattle.std.proofs.lemmas.List.Concat.{flat_map-cons}
 use Rattle.std.proofs.lemmas.List.Sums.{count_by-le-length}
 use Rattle.std.proofs.lemmas.Option.{get_or_from_slice_get, slice_get_within}
 use Rattle.pr_base.specs.Rows.{row_line, row_numbers}
 use Rattle.pr_edge.specs.Tape.{Tape, Appends, AppendsFront}
 use Rattle.pr_edge.proofs.Appending.{Appends-append}
-use Rattle.pr_conf_pipeline.specs.Rows.{through}
 use Rattle.pr_conf_pipeline.proofs.RowLaws.{length-rows}
 use Rattle.pr_conf_pipeline.proofs.ResumeLaws.{take-through}
-use Rattle.pr_machine_account.specs.Account.{Account, Event, Offer, Take, Cycle, account, left, done, stalled, entered, IsLawful}
+use Rattle.pr_machine_account.specs.Account.{Account, Offer, Take, Cycle, account, left, done, stalled, entered}
 use Rattle.pr_machine_account.specs.Replies.{taken_now}
 use Rattle.pr_machine_account.proofs.AccountLaws.{account_push, lawful}
 use Rattle.pr_conf.specs.Shape.{Shape}
 use Rattle.pr_conf.specs.Through.{steps_of, tapped, output_widths, results_of, result_numbers}
 use Rattle.pr_machine.specs.Stands.{Stands, History}
 use Rattle.pr_run.proofs.Lines.{front_after, front_longer}
-use Rattle.pr_run_script.specs.Script.{waiting}
-use Rattle.pr_run_script.proofs.RunLaws.{offered_account, taken_account}
+use Rattle.pr_run_script.proofs.RunLaws.{offered_account}
 use Rattle.pr_share_text.specs.Text.{mark, marked}
 use Rattle.pr_share.specs.Turns.{Going, Setting, stages_of, taken_text, offered_text, HasShown}
 

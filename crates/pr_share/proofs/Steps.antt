@@ -1,6 +1,6 @@
 -- The steps of a turn: what each makes of where the turn is.
-use Rattle.std.proofs.Common.{◌≡◌, ℕ, ◌+◌, ◌-◌, ◌<◌, ◌≤◌, ◌==◌, ◌&&◌, not, nat_lt, nat_eq, ltb, eqb, Bool, true, false, cond, List, [], ◌∷◌, ◌++◌, length, map, drop, replicate, refl, sym, ap, ap₂, ◌∙◌, subst, arith, append_assoc, append-nil, eq-eqb, length-append, inl, inr, zero, suc, take, ◌*◌, ◌^◌}
-use Rattle.std.proofs.lemmas.Bool.{lt-ltb, ltb-true, eqb-true, ne_eqb, cond-true, cond-false, and_parts}
+use Rattle.std.proofs.Common.{◌≡◌, ℕ, ◌+◌, ◌-◌, ◌<◌, ◌≤◌, ◌&&◌, nat_lt, ltb, eqb, Bool, true, false, List, [], ◌∷◌, ◌++◌, length, replicate, refl, sym, ap, ap₂, ◌∙◌, subst, arith, append_assoc, append-nil, eq-eqb, length-append, inl, inr, zero, suc, take, ◌^◌}
+use Rattle.std.proofs.lemmas.Bool.{lt-ltb, ltb-true, eqb-true, cond-true, cond-false}
 use Rattle.std.proofs.lemmas.List.{length-drop, length-map, map-append}
 use Rattle.std.proofs.lemmas.List.Sums.{count_by-le-length}
 use Rattle.pr_base.specs.Rows.{row_bytes}
@@ -9,7 +9,7 @@ use Rattle.pr_samples.specs.declared.feed.Feed.{Feed}
 use Rattle.pr_samples.specs.declared.feed.Got.{Got}
 use Rattle.pr_samples.specs.Got.{is_sample}
 use Rattle.pr_edge.specs.Files.{Told, HasReadCause}
-use Rattle.pr_machine_account.specs.Account.{Account, Event, Offer, Take, Cycle, account, left, done, IsLawful}
+use Rattle.pr_machine_account.specs.Account.{Account, Offer, Take, Cycle, account, left, done}
 use Rattle.pr_machine_account.proofs.AccountLaws.{lawful}
 use Rattle.pr_conf.specs.Through.{result_numbers}
 use Rattle.pr_conf.specs.Shape.{Shape}
@@ -17,7 +17,7 @@ use Rattle.pr_conf.specs.Configuration.{pes_of}
 use Rattle.pr_machine.specs.Stands.{Stands, History, waiting_samples, conf_of, stripes_of, time_of, IsKept}
 use Rattle.pr_run.specs.Setting.{View}
 use Rattle.pr_run.proofs.NextSamples.{IsNext, rows_end, cause_earlier}
-use Rattle.pr_run_script.specs.Script.{Held, Run, free, held_at, waiting, reads, read_next, fed, emptied, is_finished, closed, begun, turns, turned}
+use Rattle.pr_run_script.specs.Script.{Run, free, held_at, waiting, reads, read_next, fed, emptied, is_finished, closed, begun, turns, turned}
 use Rattle.pr_run_script.proofs.RunLaws.{account_nil, offered_account, taken_account, offered_cycle, turns_none, turns_suc, turns_run}
 use Rattle.pr_run.proofs.Closing.{turned_steps}
 use Rattle.pr_run.proofs.Lines.{nothing_appended}
@@ -28,7 +28,7 @@ use Rattle.pr_run_script.proofs.WholeLaws.{over_done}
 use Rattle.pr_run_script.proofs.EndLaws.{going_few}
 use Rattle.pr_share.specs.declared.uses.Use.{Use}
 use Rattle.pr_share.specs.Fed.{HasFed}
-use Rattle.pr_share.specs.Turns.{Going, Setting, IsSet, stages_of, pieces, taken_text, offered_text, whole_text, gone_test, HasShown, turn_at, IsTurning, IsTurned, IsCut, Begins}
+use Rattle.pr_share.specs.Turns.{Going, Setting, IsSet, stages_of, pieces, offered_text, gone_test, HasShown, turn_at, IsTurning, IsTurned, IsCut, Begins}
 use Rattle.pr_share.proofs.Shown.{offer_text, cycle_text, all_taken_text}
 use Rattle.pr_share.proofs.Feeds.{next_fed}
 

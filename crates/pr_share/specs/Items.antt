@@ -1,5 +1,5 @@
 -- Programs that take turns.
-use Rattle.std.specs.Prelude.{◌≡◌, ◌<◌, ◌≤◌, ◌+◌, ◌*◌, ◌^◌, ℕ, true, false, nat_lt, List, [], ◌++◌, length, Option, Some, None, slice_get, is_some, if◌then◌else◌}
+use Rattle.std.specs.Prelude.{◌≡◌, ◌≤◌, ◌+◌, ◌*◌, ◌^◌, ℕ, true, false, nat_lt, List, [], ◌++◌, length, Option, Some, None, slice_get, is_some, if◌then◌else◌}
 use Rattle.pr_edge.specs.Files.{Told}
 use Rattle.pr_edge.specs.Tape.{Tape, Appends}
 use Rattle.pr_samples.specs.declared.feed.Got.{Got}

@@ -1,11 +1,10 @@
 -- One turn of one program: it begins with a machine that was just resumed, and ends when nothing is in flight.
-use Rattle.std.specs.Prelude.{◌≡◌, ◌<◌, ◌≤◌, ◌-◌, ◌==◌, ◌&&◌, ℕ, Bool, true, false, List, [], ◌++◌, length, map, take, Option, Some, None}
+use Rattle.std.specs.Prelude.{◌≡◌, ◌<◌, ◌≤◌, ◌-◌, ◌==◌, ◌&&◌, ℕ, Bool, true, false, List, [], ◌++◌, length, map, take}
 use Rattle.pr_base.specs.Rows.{row_bytes}
 use Rattle.pr_edge.specs.Files.{Told}
 use Rattle.pr_edge.specs.Tape.{Tape, Appends, AppendsFront}
 use Rattle.pr_samples.specs.declared.feed.Feed.{Feed}
 use Rattle.pr_samples.specs.declared.feed.Got.{Got}
-use Rattle.pr_samples.specs.Feed.{widths_of}
 use Rattle.pr_samples.specs.Got.{is_sample}
 use Rattle.pr_machine_account.specs.Account.{account, left}
 use Rattle.pr_conf.specs.Shape.{Shape}

@@ -1,4 +1,4 @@
-use Rattle.std.proofs.Common.{◌≡◌, sym, refl, arith, ◌∙◌}
+use Rattle.std.proofs.Common.{refl, arith, ◌∙◌}
 use Rattle.pr_share.proofs.RoundSteps.{sharing_round}
 use Rattle.pr_share.proofs.rounds.make_round.Goals as goal
 

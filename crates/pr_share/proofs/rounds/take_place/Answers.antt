@@ -1,4 +1,4 @@
-use Rattle.std.proofs.Common.{◌≡◌, ◌<◌, ◌+◌, Some, None, slice_get, slice_set, length, get_or, is_some, sym, ap, ◌∙◌, subst, arith}
+use Rattle.std.proofs.Common.{◌+◌, slice_set, get_or, is_some, sym, ap, ◌∙◌, subst, arith}
 use Rattle.std.proofs.lemmas.List.{get_or_default}
 use Rattle.pr_edge.specs.Files.{Told}
 use Rattle.pr_samples.proofs.ResultLemmas.{on_ok}

@@ -1,4 +1,4 @@
-use Rattle.std.proofs.Common.{◌≡◌, Some, Option, [], arith, refl, sym, ap, ◌∙◌, subst}
+use Rattle.std.proofs.Common.{Some, Option, [], arith, refl, sym, ap, ◌∙◌, subst}
 use Rattle.pr_edge.specs.Files.{Told}
 use Rattle.pr_samples.specs.declared.feed.Got.{Got}
 use Rattle.pr_conf.specs.declared.configurations.Configuration.{Configuration}
@@ -6,7 +6,7 @@ use Rattle.pr_conf.specs.Configuration.{shape_of}
 use Rattle.pr_conf.specs.Through.{output_widths}
 use Rattle.pr_machine.specs.Stands.{conf_of, stripes_of}
 use Rattle.pr_share.specs.Turns.{Begins}
-use Rattle.pr_share.specs.Items.{conf_in, HasTaken, IsTurn}
+use Rattle.pr_share.specs.Items.{HasTaken, IsTurn}
 use Rattle.pr_share.proofs.Steps.{stands_self}
 use Rattle.pr_share.proofs.ItemSteps.{parked_is, inputs_are, fed_yet, turn_setting, turn_item}
 use Rattle.pr_share.proofs.rounds.take_turn.Goals as goal

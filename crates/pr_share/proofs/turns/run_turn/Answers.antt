@@ -1,10 +1,8 @@
-use Rattle.std.proofs.Common.{◌≡◌, ◌+◌, ◌<◌, ◌≤◌, ◌^◌, true, false, List, [], ℕ, refl, sym, ap, ◌∙◌, arith, inl, inr}
-use Rattle.pr_samples.specs.declared.feed.Got.{Got}
+use Rattle.std.proofs.Common.{◌≡◌, List, [], ℕ, refl, sym, ap, ◌∙◌, arith, inl, inr}
 use Rattle.pr_samples.specs.Feed.{name_of}
 use Rattle.pr_conf.specs.declared.configurations.Configuration.{Configuration}
 use Rattle.pr_conf.specs.Configuration.{shape_of}
 use Rattle.pr_conf.specs.Through.{output_widths}
-use Rattle.pr_machine.specs.Stands.{conf_of, stripes_of, time_of}
 use Rattle.pr_run_script.specs.Script.{Run, free, fed, begun, turns}
 use Rattle.pr_run.proofs.NextSamples.{same_file}
 use Rattle.pr_share.specs.Turns.{stages_of}

@@ -1,4 +1,4 @@
-use Rattle.std.proofs.Common.{◌≡◌, ◌≤◌, true, [], zero}
+use Rattle.std.proofs.Common.{◌≡◌, ◌≤◌, true, []}
 use Rattle.pr_samples.specs.declared.feed.Got.{Got}
 use Rattle.pr_samples.specs.Feed.{name_of, widths_of, SameFile}
 use Rattle.pr_samples.specs.Got.{is_sample}

@@ -1,4 +1,4 @@
-use Rattle.std.proofs.Common.{◌≡◌, map, ap, sym, ◌∙◌}
+use Rattle.std.proofs.Common.{◌≡◌, map, ap, ◌∙◌}
 use Rattle.std.proofs.lemmas.Bool.{and_parts}
 use Rattle.pr_machine_account.specs.Replies.{taken_now}
 use Rattle.pr_conf.specs.Shape.{output_shape}
@@ -7,8 +7,8 @@ use Rattle.pr_machine.specs.Stands.{account_of}
 use Rattle.pr_run.proofs.Bytes.{lawful_widths}
 use Rattle.pr_run.proofs.Lines.{taken_bytes}
 use Rattle.pr_samples.proofs.ResultLemmas.{on_ok, on_err}
-use Rattle.pr_share.specs.Turns.{Setting, stages_of}
-use Rattle.pr_share.proofs.Shown.{marked_line, shown_take, front_take, take_offered, line_is, front_is}
+use Rattle.pr_share.specs.Turns.{stages_of}
+use Rattle.pr_share.proofs.Shown.{shown_take, front_take, take_offered, line_is, front_is}
 use Rattle.pr_share.proofs.writing.write_one.Goals as goal
 
 pub put_line-requires-clause-widths : goal.put_line-requires-clause-widths

@@ -1,4 +1,4 @@
-use Rattle.std.proofs.Common.{◌≡◌, ℕ, List, ◌+◌, ◌++◌, ◌∷◌, [], length, replicate, arith, ap, sym, ◌∙◌, subst, append-nil, refl}
+use Rattle.std.proofs.Common.{◌≡◌, ℕ, List, ◌++◌, replicate, arith, ap, sym, ◌∙◌, subst, append-nil, refl}
 use Rattle.pr_machine_account.specs.Account.{Take, account}
 use Rattle.pr_edge.specs.Tape.{AppendsFront}
 use Rattle.pr_conf.specs.declared.configurations.Configuration.{Configuration}
