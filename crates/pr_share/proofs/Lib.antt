@@ -1,5 +1,0 @@
-pub mod Shown
-pub mod Feeds
-pub mod Steps
-pub mod RoundSteps
-pub mod ItemSteps

@@ -1,3 +1,0 @@
-pub mod Fed
-pub mod Turns
-pub mod Items
