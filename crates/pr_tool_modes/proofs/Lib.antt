@@ -11,4 +11,7 @@ pub mod InputWidths
 pub mod SampleLemmas
 pub mod LineLemmas
 pub mod LinesLemmas
+pub mod MoveVerdicts
+pub mod FoldLemmas
+pub mod FoldVerdicts
 mod Examples

@@ -1,5 +1,5 @@
 -- The samples that a feed gave.
-use Rattle.std.proofs.Common.{◌≡◌, ◌+◌, ℕ, List, [], ◌∷◌, ◌++◌, length, take, Some, slice_get, refl, sym, ap, ◌∙◌, subst, arith, inl, inr}
+use Rattle.std.proofs.Common.{◌≡◌, ◌+◌, ◌^◌, ℕ, List, [], ◌∷◌, ◌++◌, length, take, Some, slice_get, refl, sym, ap, ◌∙◌, subst, arith, inl, inr}
 use Rattle.std.proofs.lemmas.List.{take_more, take_all}
 use Rattle.std.proofs.lemmas.Option.{get_or_from_slice_get, slice_get_within}
 use Rattle.pr_edge.specs.Files.{Told, HasReadCause}
@@ -39,16 +39,16 @@ all_given first f f' file rows ending same count has over =
     let all : given_of f ≡ length samples = omega (arith, count, over.all, ap (λ (k : Fed). length k.samples) (fed_same first f' file same)) in
     (has.samples ∙ take_all (given_of f) samples (omega (arith, all)), sym (ap (λ (k : Fed). k.ending) (fed_same first f' file same)) ∙ over.ends)
 
-are_fed : (widths name : List ℕ) (first : Feed) (file : List ℕ) (rows : List (List ℕ)) (ending : Ending) (end : Got) → IsFeedOf widths name first → EndsBy end ending → (rows ≡ (fed first file).samples) × ((fed first file).ending ≡ ending) → AreFed widths file rows end
+are_fed : (widths name : List ℕ) (first : Feed) (file : List ℕ) (rows : List (List ℕ)) (ending : Ending) (end : Got) → IsFeedOf (2 ^ 40) widths name first → EndsBy end ending → (rows ≡ (fed first file).samples) × ((fed first file).ending ≡ ending) → AreFed widths file rows end
 are_fed widths name first file rows ending end is ends all =
-    let same : fed first file ≡ fed_in widths file = fed_is widths first.widths.items first.limit first.most file is.inputs is.limit is.most in
+    let same : fed first file ≡ fed_in widths file = fed_is widths first.widths.items first.limit first.most (2 ^ 40) file is.inputs is.limit is.bound in
     record {
       all = all.0 ∙ ap (λ (k : Fed). k.samples) same;
       ends = (let last : ending ≡ (fed_in widths file).ending = sym all.1 ∙ ap (λ (k : Fed). k.ending) same in rw (← last) ends);
     }
 
 -- where the feed answers with no sample
-pub given_all : (widths name : List ℕ) (first f f' : Feed) (file : List ℕ) (rows : List (List ℕ)) (numbers : List ℕ) (end : Got) → IsFeedOf widths name first → SameFile first f' → given_of f' ≡ given_of f + given_by end
+pub given_all : (widths name : List ℕ) (first f f' : Feed) (file : List ℕ) (rows : List (List ℕ)) (numbers : List ℕ) (end : Got) → IsFeedOf (2 ^ 40) widths name first → SameFile first f' → given_of f' ≡ given_of f + given_by end
     → HasGiven first f file rows → Gives end (given_of f) f' numbers file → (end ≡ Got.Sample → ⊥) → (end ≡ Got.ReadFault → ⊥) → AreFed widths file rows end
 given_all widths name first f f' file rows numbers Got.Sample is same count has gives other no_fault = absurd (other refl)
 given_all widths name first f f' file rows numbers Got.ReadFault is same count has gives other no_fault = absurd (no_fault refl)

@@ -1,5 +1,6 @@
 pub mod Files
 pub mod Configurations
+pub mod Checkpoints
 pub mod Programs
 pub mod Sources
 pub mod Jobs
@@ -12,3 +13,5 @@ pub mod Runs
 pub mod Executions
 pub mod Evaluations
 pub mod Lines
+pub mod Resumptions
+pub mod Folds

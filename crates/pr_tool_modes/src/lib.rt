@@ -2,14 +2,17 @@
 #![tactic(auto)]
 
 mod benches;
+mod checkpoints;
 mod configurations;
 mod evaluations;
 mod executions;
 mod files;
+mod folds;
 mod jobs;
 mod laws;
 mod lines;
 mod loadables;
+mod moves;
 mod programs;
 mod ready;
 mod runs;
@@ -22,9 +25,11 @@ pub use benches::Bench;
 pub use evaluations::eval;
 pub use executions::execute;
 pub use files::read_file;
-pub use jobs::{Job, Source};
-pub use laws::verdict_law;
-pub use loadables::Loadable;
+pub use folds::{extend, fold};
+pub use jobs::{Job, Resumption, Run, Source};
+pub use laws::{moving_law, verdict_law};
+pub use loadables::{Loadable, Origin};
+pub use moves::move_on;
 pub use pr_base::Cap;
 pub use pr_code::Fabric;
 pub use pr_tool_answers::Answer;

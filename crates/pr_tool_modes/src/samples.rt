@@ -1,5 +1,5 @@
 //! Samples that are read from the bytes of a whole file.
-ghost use Rattle.std.specs.Prelude.{◌≡◌, ◌≤◌, ℕ, List, [], All, length, IfOk};
+ghost use Rattle.std.specs.Prelude.{◌≡◌, ◌≤◌, ◌^◌, ℕ, List, [], All, length, IfOk};
 ghost use Rattle.pr_samples.specs.Feed.{widths_of, Tells};
 ghost use Rattle.pr_edge.specs.SureShelf.{told_of};
 ghost use Rattle.pr_tool_modes.specs.Ready.{IsFeedOf};
@@ -43,7 +43,7 @@ fn all_samples(
     row: &mut [Num],
 ) -> Result<Samples, AllocError>
     requires row { length row.old ≡ length (widths_of feed) }
-    requires fresh { IsFeedOf (widths_of feed) [] feed }
+    requires fresh { IsFeedOf (2 ^ 40) (widths_of feed) [] feed }
     ensures { (file : List ℕ) → Tells (told_of shelf) [] file → IfOk result (λ s. AreFed (widths_of feed) file s.rows.items s.end) }
 {
     let mut rows = Vec::new(alloc);

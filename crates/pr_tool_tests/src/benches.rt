@@ -27,7 +27,7 @@ fn machine_on(bench: &Bench) -> Held {
 
 /// Words of calls that follow one another, the answer to each, and what the bench holds after it. Two samples take four
 /// cycles. A bad first line takes none.
-const CALLS: [(&[&str], Answer, Held); 11] = [
+const CALLS: [(&[&str], Answer, Held); 15] = [
     (&["show", "c"], Answer::Ok, Held::Nothing),
     (&["run", "n", "s"], Answer::ReadFault, Held::Nothing),
     (&["run", "p", "s"], Answer::Ok, Held::Base(4)),
@@ -58,6 +58,14 @@ const CALLS: [(&[&str], Answer, Held); 11] = [
         Held::Wide(4),
     ),
     (&["fly", "p", "s"], Answer::Usage, Held::Wide(4)),
+    (&["checkpoint", "p", "s"], Answer::Ok, Held::Wide(4)),
+    (&["extend", "m", "s"], Answer::Ok, Held::Wide(4)),
+    (
+        &["move", "c", "s"],
+        Answer::BadConfig { rule: 9, place: 0 },
+        Held::Wide(4),
+    ),
+    (&["move", "m", "e"], Answer::Ok, Held::Base(0)),
     (
         &["exec", "c", "s", "--fabric", "wide"],
         Answer::Ok,

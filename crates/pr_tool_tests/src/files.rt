@@ -39,7 +39,7 @@ const CONFIGURATION: [u32; 23] = [
 ];
 
 /// The bytes of words.
-fn spelled(alloc: Global, words: &[u32]) -> Result<Vec<u8>, AllocError> {
+pub(crate) fn spelled(alloc: Global, words: &[u32]) -> Result<Vec<u8>, AllocError> {
     let mut bytes = Vec::new(alloc);
     for word in words {
         bytes.extend_from_slice(&word.to_be_bytes())?;
@@ -69,6 +69,13 @@ fn older(alloc: Global, table: u32) -> Result<Vec<u8>, AllocError> {
 /// The configuration file.
 pub(crate) fn configuration(alloc: Global) -> Result<Vec<u8>, AllocError> {
     spelled(alloc, &CONFIGURATION)
+}
+
+/// The checkpoint of the same configuration after two samples.
+fn marked(alloc: Global) -> Result<Vec<u8>, AllocError> {
+    let mut bytes = spelled(alloc, &[0x5049_434b, 0, 2])?;
+    bytes.extend_from_slice(&configuration(alloc)?)?;
+    Ok(bytes)
 }
 
 /// A file without its last byte.
@@ -110,6 +117,7 @@ pub(crate) fn files(alloc: Global) -> Result<Vec<(String, Vec<u8>)>, AllocError>
     let xor = 0x66ff_0000;
     let configurations = vec![in alloc;
         ("c", newer(alloc, base, 3)?),
+        ("m", marked(alloc)?),
         ("wide", newer(alloc, 0x0020_0010, 3)?),
         ("old", older(alloc, xor)?),
         ("changed", older(alloc, 0x77ff_0000)?),

@@ -16,6 +16,8 @@ mod faults;
 #[cfg(test)]
 mod files;
 #[cfg(test)]
+mod moves;
+#[cfg(test)]
 mod run_faults;
 #[cfg(test)]
 mod streams;

@@ -1,4 +1,4 @@
-use Rattle.std.proofs.Common.{◌≡◌, sym, subst, ap, ◌∙◌, List, ℕ}
+use Rattle.std.proofs.Common.{◌≡◌, ◌^◌, sym, subst, ap, ◌∙◌, List, ℕ}
 use Rattle.std.specs.List.{All}
 use Rattle.pr_base.specs.Rows.{IsRow, written}
 use Rattle.pr_flat.specs.Shape.{EquationShape, shapes_of}
@@ -23,7 +23,7 @@ eval-requires-clause-widths c = subst (λ (es : List EquationShape). AreWidths e
 pub eval-requires-clause-samples : goal.eval-requires-clause-samples
 eval-requires-clause-samples c =
     let program = c.args.front.now.scoped.program in
-    let rows = subst (All (IsRow c.deref.result.now)) (sym (c.deref-2.ensures.value ∙ c.in_ok-samples.ensures.all)) (fed_rows c.deref.result.now c.args.bytes.items) in
+    let rows = subst (All (IsRow c.deref.result.now)) (sym (c.deref-2.ensures.value ∙ c.in_ok-samples.ensures.all)) (fed_rows (2 ^ 40) c.deref.result.now c.args.bytes.items) in
     let inputs : c.deref.result.now ≡ input_widths (shapes_of c.args.front.now.flat.equations.items) =
     c.deref.ensures.value ∙ (inputs-scoped program c.args.front.now.scoped c.requires.scoped ∙ (sym (inputs-of-equations program c.requires.scoped.0) ∙ sym (ap input_widths c.requires.flat.equations))) in
     subst (λ (ws : List ℕ). All (IsRow ws) c.deref-2.result.now) inputs rows
@@ -35,7 +35,7 @@ returns c =
     let same : c.deref.result.now ≡ inputs_of program = c.deref.ensures.value ∙ c.requires.scoped.2 in
     let inputs : c.deref.result.now ≡ input_widths (shapes_of flat.equations.items) =
     c.deref.ensures.value ∙ (inputs-scoped program c.args.front.now.scoped c.requires.scoped ∙ (sym (inputs-of-equations program c.requires.scoped.0) ∙ sym (ap input_widths c.requires.flat.equations))) in
-    let lawful = subst (All (IsRow c.deref.result.now)) (sym (c.deref-2.ensures.value ∙ c.in_ok-samples.ensures.all)) (fed_rows c.deref.result.now c.args.bytes.items) in
+    let lawful = subst (All (IsRow c.deref.result.now)) (sym (c.deref-2.ensures.value ∙ c.in_ok-samples.ensures.all)) (fed_rows (2 ^ 40) c.deref.result.now c.args.bytes.items) in
     let means = rows_mean program flat c.args.front.now.widths c.deref-2.result.now (record {
       lawful = c.requires.scoped.0;
       equations = c.requires.flat.equations;
