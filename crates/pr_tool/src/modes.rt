@@ -9,9 +9,7 @@ ghost use Rattle.pr_tool.specs.Calls.{IsDone};
 use crate::plans::Plan;
 use pr_edge::{Shelf, Sink};
 use pr_tool_answers::Answer;
-use pr_tool_modes::{
-    Bench, eval, execute, extend, fold, move_on, refuse_program, write_text,
-};
+use pr_tool_modes::{Bench, eval, execute, extend, fold, move_on, refuse_program, write_text};
 use std::alloc::Global;
 
 /// Carries out a plan.
