@@ -70,7 +70,7 @@ count_more rows numbers Got.ReadFault g g' e h = omega (arith, e, h)
 count_more rows numbers (Got.Limit cap) g g' e h = omega (arith, e, h)
 
 -- a cause of a later call is one of both together
-cause_earlier : (told : Told) (name : List ℕ) (a b n : ℕ) → a ≤ b → HasReadCause told name b n → HasReadCause told name a n
+pub cause_earlier : (told : Told) (name : List ℕ) (a b n : ℕ) → a ≤ b → HasReadCause told name b n → HasReadCause told name a n
 cause_earlier told name a b n h (inl missing) = inl missing
 cause_earlier told name a b n h (inr rose) = inr (omega (arith, h, rose))
 
