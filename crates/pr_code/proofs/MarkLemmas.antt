@@ -4,9 +4,10 @@ use Rattle.std.proofs.lemmas.Bool.{eqb-true, leb-true}
 use Rattle.std.proofs.lemmas.List.{drop_all}
 use Rattle.std.proofs.lemmas.Nat.{mod_low, shr_high}
 use Rattle.pr_conf.specs.Shape.{Shape}
+use Rattle.pr_conf.specs.Rules.{IsLawful}
 use Rattle.pr_code.specs.declared.faults.CodeFault.{CodeFault}
 use Rattle.pr_code.specs.declared.faults.CodeFault.TheVariants as CodeFault
-use Rattle.pr_code.specs.Spelling.{format_2, bytes_of_words, words_of, words_in}
+use Rattle.pr_code.specs.Spelling.{format_2, bytes_of_words, words_of, words_in, has_bytes}
 use Rattle.pr_code.specs.Reading.{words_of_bytes, shape_in, inputs_part, outputs_part, stages_part}
 use Rattle.pr_code.specs.Rules.{Broken, demand, first_broken, or_else, broken_end, rules_in, bad_from}
 use Rattle.pr_code.specs.Marks.{mark_rules, mark_words, mark_of, bad_mark, count_of, IsMark}
@@ -38,9 +39,15 @@ front_sound (a ∷ b ∷ c ∷ words) small h =
       count = leb-true _ _ (met 10 _ h2.0);
     }
 
-pub mark_sound : (N P : ℕ) (bytes : List ℕ) → 1 ≤ N → N ≤ 64 → 2 ≤ P → P ≤ 16 → AreBytes bytes → bad_mark N P bytes ≡ None → IsMark N P (count_of (words_of_bytes bytes)) (shape_in true N (drop 3 (words_of_bytes bytes))) bytes
+-- a checkpoint of which no word breaks a rule
+pub record MarkSound (N P : ℕ) (bytes : List ℕ) : Type 0 where
+  pub lawful : IsLawful N P (shape_in true N (drop 3 (words_of_bytes bytes)))
+  pub has : has_bytes (shape_in true N (drop 3 (words_of_bytes bytes))) ≡ true
+  pub mark : IsMark N P (count_of (words_of_bytes bytes)) (shape_in true N (drop 3 (words_of_bytes bytes))) bytes
+
+pub mark_whole : (N P : ℕ) (bytes : List ℕ) → 1 ≤ N → N ≤ 64 → 2 ≤ P → P ≤ 16 → AreBytes bytes → bad_mark N P bytes ≡ None → MarkSound N P bytes
 unfolding bad_mark
-mark_sound N P bytes n1 n64 p2 p16 fits h =
+mark_whole N P bytes n1 n64 p2 p16 fits h =
     let all = words_of_bytes bytes in
     let words = drop 3 all in
     let first = none_or (first_broken (mark_rules all) 0 all) (bad_from format_2 N P 3 bytes) h in
@@ -59,10 +66,17 @@ mark_sound N P bytes n1 n64 p2 p16 fits h =
     let ends = drop_all (stages_long format_2 N words) (stages_part words) last in
     let spelled = sound.spelled (words-drop 3 all back.small) ends in
     record {
-      count_fits = front.count;
-      widths = sound.within;
-      spelled = sym back.same ∙ ap bytes_of_words (front.spelled ∙ ap (λ t. mark_words (count_of all) ++ t) spelled);
+      lawful = sound.lawful (omega arith);
+      has = sound.bytes (words-drop 3 all back.small);
+      mark = record {
+        count_fits = front.count;
+        widths = sound.within;
+        spelled = sym back.same ∙ ap bytes_of_words (front.spelled ∙ ap (λ t. mark_words (count_of all) ++ t) spelled);
+      };
     }
+
+pub mark_sound : (N P : ℕ) (bytes : List ℕ) → 1 ≤ N → N ≤ 64 → 2 ≤ P → P ≤ 16 → AreBytes bytes → bad_mark N P bytes ≡ None → IsMark N P (count_of (words_of_bytes bytes)) (shape_in true N (drop 3 (words_of_bytes bytes))) bytes
+mark_sound N P bytes n1 n64 p2 p16 fits h = (mark_whole N P bytes n1 n64 p2 p16 fits h).mark
 
 pub count_refused : (N P : ℕ) (bytes : List ℕ) (x : Broken) → first_broken (mark_rules (words_of_bytes bytes)) 0 (words_of_bytes bytes) ≡ Some x → bad_mark N P bytes ≡ Some x
 unfolding bad_mark

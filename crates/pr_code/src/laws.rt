@@ -17,7 +17,8 @@ pub fn files_law()
 /// No word of a file breaks a rule of checkpoints exactly where it is the checkpoint of a count and a configuration,
 /// and of one pair alone.
 pub fn marks_law()
-    ensures accepted { (N P : ℕ) (bytes : List ℕ) → 1 ≤ N → N ≤ 64 → 2 ≤ P → P ≤ 16 → ((i : ℕ) → slice_index bytes i < 256) → bad_mark N P bytes ≡ None → (n : ℕ) × ((c : Shape) × IsMark N P n c bytes) }
+    ensures accepted { (N P : ℕ) (bytes : List ℕ) → 1 ≤ N → N ≤ 64 → 2 ≤ P → P ≤ 16 → ((i : ℕ) → slice_index bytes i < 256) → bad_mark N P bytes ≡ None
+        → (n : ℕ) × ((c : Shape) × IsLawful N P c × (has_bytes c ≡ true) × IsMark N P n c bytes) }
     ensures files { (N P n : ℕ) (c : Shape) (bytes : List ℕ) → IsLawful N P c → has_bytes c ≡ true → IsMark N P n c bytes → bad_mark N P bytes ≡ None }
     ensures one { (N P n m : ℕ) (c d : Shape) (bytes : List ℕ) → IsLawful N P c → has_bytes c ≡ true → IsLawful N P d → has_bytes d ≡ true → IsMark N P n c bytes → IsMark N P m d bytes → (n ≡ m) × (c ≡ d) }
 {}

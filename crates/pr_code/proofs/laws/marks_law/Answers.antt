@@ -1,13 +1,14 @@
 use Rattle.std.proofs.Common.{◌≡◌, ◌∙◌, sym, drop, true}
 use Rattle.pr_code.specs.Reading.{words_of_bytes, shape_in}
 use Rattle.pr_code.specs.Marks.{count_of}
-use Rattle.pr_code.proofs.MarkLemmas.{mark_sound}
+use Rattle.pr_code.proofs.MarkLemmas.{mark_whole}
 use Rattle.pr_code.proofs.AgainMarks.{mark_again}
 use Rattle.pr_code.proofs.laws.marks_law.Goals as goal
 
 pub returns-clause-accepted : goal.returns-clause-accepted
 returns-clause-accepted c = λ N P bytes n1 n64 p2 p16 fits h.
-    (count_of (words_of_bytes bytes), (shape_in true N (drop 3 (words_of_bytes bytes)), mark_sound N P bytes n1 n64 p2 p16 fits h))
+    let sound = mark_whole N P bytes n1 n64 p2 p16 fits h in
+    (count_of (words_of_bytes bytes), (shape_in true N (drop 3 (words_of_bytes bytes)), sound.lawful, sound.has, sound.mark))
 
 pub returns-clause-files : goal.returns-clause-files
 returns-clause-files c = λ N P n shape bytes lawful has file. (mark_again N P n shape bytes lawful has file).none
