@@ -1,9 +1,11 @@
 -- From a run over texts in memory to what is told of it.
-use Rattle.std.proofs.Common.{◌≡◌, ◌⊎◌, ◌≤◌, ◌<◌, ◌∙◌, ℕ, true, List, [], length, map, Option, Some, None, refl, sym, ap, subst, arith, inl, inr}
+use Rattle.std.proofs.Common.{◌≡◌, ◌⊎◌, ◌≤◌, ◌<◌, ◌∙◌, ℕ, true, List, [], length, map, vec_len, Option, Some, None, refl, sym, ap, subst, arith, inl, inr}
 use Rattle.std.proofs.lemmas.List.{length-map}
 use Rattle.pr_base.specs.declared.caps.Cap.{Cap}
 use Rattle.pr_base.specs.Rows.{row_bytes, written}
 use Rattle.pr_compile.specs.Configured.{HasUnits}
+use Rattle.pr_conf.specs.declared.configurations.Configuration.{Configuration}
+use Rattle.pr_conf.specs.Configuration.{shape_of, pes_of}
 use Rattle.pr_conf.specs.Shape.{Shape}
 use Rattle.pr_control.specs.Counts.{cycles_of}
 use Rattle.pr_edge.specs.Count.{Rose}
@@ -37,6 +39,13 @@ use Rattle.pr_tool_modes.proofs.RunVerdicts.{come_of, run_owed}
 use Rattle.pr_tool_modes.proofs.SourceLemmas.{source_owed}
 
 -- ---- the summary
+-- the stages that a machine tells are those of its configuration
+pub stages_are : {N P : ℕ} (conf : Configuration N P) (k : Shape) → shape_of conf ≡ k → vec_len conf.stages ≡ length k.stages
+stages_are {N = N} conf k e =
+    let n = ap (λ (x : Shape). length x.stages) e in
+    let m = length-map conf.stages.items (pes_of {N = N}) in
+    omega (arith, n, m, conf.stages.ok.0)
+
 -- the machine of a run without a stall text has advanced as long as its samples take
 time_is : (conf : Shape) (p : ℕ) (rows : List (List ℕ)) → 0 < length conf.stages → 2 ≤ p
     → (account_of conf p (script (length conf.stages) p (pieces conf rows) [])).time ≡ cycles_of (length conf.stages) p (length rows)

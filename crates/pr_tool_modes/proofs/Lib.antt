@@ -15,3 +15,4 @@ mod Examples
 pub mod GenVerdicts
 pub mod GenLemmas
 pub mod BehaviourLemmas
+pub mod GenTexts

@@ -17,7 +17,7 @@ use Rattle.pr_run_script.specs.Script.{script}
 use Rattle.pr_samples.specs.Fed.{End}
 use Rattle.pr_tool_answers.specs.declared.answers.Answer.{Answer}
 use Rattle.pr_tool_modes.specs.declared.benches.Bench.{Bench}
-use Rattle.pr_tool_modes.specs.declared.generations.Generation.{Generation as NamedGeneration}
+use Rattle.pr_tool_modes.specs.declared.jobs.Generation.{Generation as NamedGeneration}
 use Rattle.pr_tool_modes.specs.declared.targets.Target.{Target}
 use Rattle.pr_tool_modes.specs.Executions.{IsRunVerdict}
 use Rattle.pr_tool_modes.specs.Jobs.{Job, job}
@@ -72,8 +72,8 @@ summary turns units stages cycles lines =
     ++ (codes " units " ++ decimal units)
     ++ (codes " stages " ++ decimal stages)
     ++ (codes " samples 1000 cycles " ++ decimal cycles)
-    ++ (codes " first " ++ first_line lines)
-    ++ (codes " last " ++ last_line lines)
+    ++ codes " first " ++ first_line lines
+    ++ codes " last " ++ last_line lines
     ++ 10 ∷ []
 
 -- the text tells this of a machine, whatever history it stands for

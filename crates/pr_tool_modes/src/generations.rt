@@ -9,9 +9,8 @@ ghost use Rattle.pr_tool_modes.specs.Generations.{generation_of, job_for, genera
 
 use crate::benches::Bench;
 use crate::executions::run_loaded;
-use crate::jobs::{Job, Source};
+use crate::jobs::{Generation, Job, Source};
 use crate::programs::compile_file;
-use crate::targets::Target;
 use itoa::Buffer;
 use pr_edge::{MemSink, Sink, SureShelf, write_all};
 use pr_gen::{program_of, samples_of};
@@ -27,21 +26,6 @@ const SAMPLES: &str = "samples";
 
 /// Room for the lines of a thousand results.
 const ROOM: usize = 8_192;
-
-/// A program that is to be generated and run.
-#[derive(Clone, Copy, PartialEq, Eq, Debug)]
-pub struct Generation {
-    /// The turns of its loop.
-    pub turns: u32,
-    /// What it is compiled for.
-    pub target: Target,
-    /// The number of stripes.
-    pub stripes: usize,
-    ghost least_turns: { 1 ≤ turns },
-    ghost greatest_turns: { turns ≤ 1000 },
-    ghost least: { 2 ≤ stripes },
-    ghost greatest: { stripes ≤ 256 },
-}
 
 /// A run of a generated program: what is told of it, and its machine.
 #[derive(Drop)]

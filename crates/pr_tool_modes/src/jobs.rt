@@ -36,3 +36,18 @@ pub struct Job<'a> {
     ghost least: { 2 ≤ stripes },
     ghost greatest: { stripes ≤ 256 },
 }
+
+/// A program that is to be generated and run.
+#[derive(Clone, Copy, PartialEq, Eq, Debug)]
+pub struct Generation {
+    /// The turns of its loop.
+    pub turns: u32,
+    /// What it is compiled for.
+    pub target: Target,
+    /// The number of stripes.
+    pub stripes: usize,
+    ghost least_turns: { 1 ≤ turns },
+    ghost greatest_turns: { turns ≤ 1000 },
+    ghost least: { 2 ≤ stripes },
+    ghost greatest: { stripes ≤ 256 },
+}

@@ -54,11 +54,7 @@ const CALLS: [(&[&str], Answer, Held); 13] = [
     (&["exec", "wide", "s"], Answer::Ok, Held::Wide(4)),
     (&["compile", "p"], Answer::Ok, Held::Wide(4)),
     (&["fly", "p", "s"], Answer::Usage, Held::Wide(4)),
-    (
-        &["run", "p", "s", "--narrow"],
-        Answer::Ok,
-        Held::Base(4),
-    ),
+    (&["run", "p", "s", "--narrow"], Answer::Ok, Held::Base(4)),
     (
         &["gen", "1", "--fabric", "wide"],
         Answer::Ok,
