@@ -1,18 +1,20 @@
 //! The program: the system's words, files and streams, put through the tool.
 #![tactic(auto)]
 
-mod files;
-mod streams;
+ghost use Rattle.std.specs.Prelude.{◌≡◌, MatchResult, IfOk, Some, []};
+ghost use Rattle.pr_edge.specs.SureSink.{bytes_of, told_of};
+ghost use Rattle.pr_tool.specs.Noted.{GainsNote};
+ghost use Rattle.pr_tool.specs.Notes.{note_of};
+ghost use Rattle.pr_tool.specs.Words.{asked_by, bounds_in};
 
-use files::FileShelf;
 use pr_edge::{Sink, SureSink, write_all};
+use pr_system::{FileShelf, Gathered, Gathering, OutSink};
 use pr_tool::{Answer, Bench, Bounds, piperench, put_note};
 use std::cell::RefCell;
 use std::env;
 use std::io::{self, ErrorKind};
 use std::process::ExitCode;
 use std::rt::{Env, Files};
-use streams::{Gathered, Gathering, OutSink};
 
 /// The bytes of a note, at most.
 const NOTE: usize = 128;
@@ -31,19 +33,49 @@ fn words_of<R: Env + AllocGlobal>(rt: &R) -> Result<Vec<String>, Answer> {
 fn call<R: Files + Print + AllocGlobal>(
     rt: &R,
     words: &[String],
-) -> Result<(Answer, SureSink), Answer> {
+) -> Result<(Answer, SureSink), Answer>
+    // The note that is held back is the line of the answer.
+    ensures { IfOk result (λ r. GainsNote (record { bytes = Some []; keeps = 128 }) (told_of r.1) 0 0 (note_of (bounds_in (asked_by words.now)) r.0)) }
+{
     let alloc = rt.alloc();
-    let mut note = SureSink::make(alloc, NOTE).map_err(|_| Answer::Memory)?;
+    let Ok(mut note) = SureSink::make(alloc, NOTE) else {
+        return Err(Answer::Memory);
+    };
     let gathering = Gathering::new(alloc, io::writer(rt)).map_err(|_| Answer::Memory)?;
     let results = RefCell::new(gathering);
-    let mut shelf = FileShelf::new(rt, &results);
-    let mut out = OutSink::new(Gathered { results: &results });
     let mut bench = Bench::Nothing;
-    let answer = piperench(alloc, words, &mut shelf, &mut out, &mut note, &mut bench);
-    if answer != Answer::WriteFault && out.finish().is_err() {
+    let answer = {
+        let mut shelf = FileShelf::make(alloc, rt, &results).map_err(|_| Answer::Memory)?;
+        let mut out = OutSink::new(Gathered { results: &results });
+        piperench(alloc, words, &mut shelf, &mut out, &mut note, &mut bench)
+    };
+    if answer != Answer::WriteFault && results.into_inner().finish().is_err() {
         return Err(Answer::WriteFault);
     }
     Ok((answer, note))
+}
+
+/// Writes the note of a call, and says with which answer to end.
+fn report<E: Sink>(called: Result<(Answer, SureSink), Answer>, stderr: &mut E) -> Answer
+    ensures answer { MatchResult called (λ r. result ≡ r.0) (λ a. result ≡ a) }
+
+    // The line that was held back, or that of the answer, is written, up to a write that fails.
+    ensures note { MatchResult called
+        (λ r. GainsNote (E.told stderr.old) (E.told stderr.new) (E.faults stderr.old) (E.faults stderr.new) (bytes_of r.1))
+        (λ a. GainsNote (E.told stderr.old) (E.told stderr.new) (E.faults stderr.old) (E.faults stderr.new) (note_of (record { input_bytes = 16; sample_bytes = 17592186044416 }) a)) }
+{
+    match called {
+        Ok((answer, note)) => {
+            // Nobody can be told of a note that is not written.
+            match write_all(stderr, note.bytes()) {
+                Ok(()) | Err(_) => answer,
+            }
+        }
+        Err(answer) => {
+            put_note(stderr, &Bounds::BASE, &answer);
+            answer
+        }
+    }
 }
 
 /// Calls the tool with the words of the system, writes the note, and says with which answer to end.
@@ -52,17 +84,7 @@ fn answer_to<R: Env + Files + Print + AllocGlobal, E: Sink>(rt: &R, stderr: &mut
         Ok(words) => call(rt, &words),
         Err(answer) => Err(answer),
     };
-    match called {
-        Ok((answer, note)) => {
-            // Nobody can be told of a note that is not written.
-            let _ = write_all(stderr, note.bytes());
-            answer
-        }
-        Err(answer) => {
-            put_note(stderr, &Bounds::BASE, &answer);
-            answer
-        }
-    }
+    report(called, stderr)
 }
 
 fn main(rt: HostRuntime) -> ExitCode {

@@ -1,18 +1,17 @@
 -- The file of a configuration breaks no rule, and reads as that configuration.
-use Rattle.std.proofs.Common.{◌≡◌, ℕ, zero, suc, ◌+◌, ◌*◌, ◌/◌, ◌%◌, ◌^◌, ◌<◌, ◌≤◌, ◌==◌, ◌&&◌, Bool, true, false, List, [], ◌∷◌, ◌++◌, length, slice_index, refl, sym, ap, ◌∙◌, arith, Option, None, Some, cond, inl, inr, eq-eqb, nat_lt}
+use Rattle.std.proofs.Common.{◌≡◌, ℕ, ◌+◌, ◌*◌, ◌/◌, ◌%◌, ◌^◌, ◌<◌, ◌==◌, true, List, [], ◌∷◌, length, slice_index, refl, ap, ◌∙◌, arith, None, Some, cond, inl, inr, eq-eqb}
 use Rattle.std.specs.List.{list_all}
-use Rattle.std.specs.Int.{w32, to_be_bytes}
 use Rattle.std.proofs.lemmas.Bool.{ltb-true}
 use Rattle.pr_conf.specs.Shape.{Shape}
 use Rattle.pr_conf.specs.Rules.{IsLawful}
 use Rattle.pr_code.specs.declared.formats.Format.{Format}
 use Rattle.pr_code.specs.Spelling.{bytes_of_words, format_1, format_2, words_in, IsFileIn, IsFile, has_bytes}
 use Rattle.pr_code.specs.Reading.{words_of_bytes, shape_in}
-use Rattle.pr_code.specs.Rules.{Broken, first_broken, or_else, broken_end, rules_in, bad_from, format_of, bad_word}
+use Rattle.pr_code.specs.Rules.{first_broken, or_else, broken_end, rules_in, bad_from, format_of, bad_word}
 use Rattle.pr_code.proofs.WritingLemmas.{both}
 use Rattle.pr_code.proofs.FileLemmas.{cons_bytes, nil_bytes}
 use Rattle.pr_code.proofs.AgainStages.{is_small}
-use Rattle.pr_code.proofs.AgainShapes.{ShapeAgain, shape_again}
+use Rattle.pr_code.proofs.AgainShapes.{shape_again}
 
 -- small words come back from their bytes
 pub record WordsBack (words : List ℕ) : Type 0 where

@@ -1,24 +1,22 @@
 -- The words of a configuration break no rule, and read as that configuration.
-use Rattle.std.proofs.Common.{◌≡◌, ℕ, zero, suc, ◌+◌, ◌-◌, ◌*◌, ◌/◌, ◌%◌, ◌^◌, ◌<◌, ◌≤◌, ◌==◌, ◌&&◌, not, Bool, true, false, List, [], ◌∷◌, ◌++◌, length, take, drop, map, replicate, slice_index, refl, sym, ap, ◌∙◌, arith, Option, None, Some, cond, nat_lt, nat_le, append_assoc, fold, subst}
+use Rattle.std.proofs.Common.{◌≡◌, ℕ, suc, ◌+◌, ◌*◌, ◌/◌, ◌%◌, ◌^◌, ◌<◌, ◌≤◌, ◌==◌, ◌&&◌, true, List, [], ◌∷◌, ◌++◌, length, take, drop, map, replicate, slice_index, refl, sym, ap, ◌∙◌, arith, Option, None, nat_lt, nat_le, append_assoc, fold}
 use Rattle.std.specs.List.{flat_map, list_all}
 use Rattle.std.proofs.lemmas.Bool.{ltb-true, lt-ltb, eqb-true, eq-eqb, leb-true, le-leb}
 use Rattle.std.proofs.lemmas.List.{length-append, length-map, drop_at, take_at, append-nil}
 use Rattle.pr_base.specs.Numbers.{slices_of}
 use Rattle.pr_conf.specs.declared.outputs.Tap.{Tap}
-use Rattle.pr_conf.specs.declared.outputs.Tap.TheVariants as Tap
-use Rattle.pr_conf.specs.declared.pes.Pe.{Pe}
 use Rattle.pr_conf.specs.Shape.{OutputShape, Shape}
-use Rattle.pr_conf.specs.Rules.{is_lawful_tap, is_lawful_width, is_lawful_output, are_lawful_outputs, are_lawful_inputs, are_lawful_stages, bytes_in, IsLawful}
+use Rattle.pr_conf.specs.Rules.{is_lawful_tap, is_lawful_width, is_lawful_output, bytes_in, IsLawful}
 use Rattle.pr_code.specs.declared.formats.Format.{Format}
 use Rattle.pr_code.specs.Spelling.{tap_word, output_words, stage_words, words_in, head_words, has_tap_byte, have_tap_bytes, has_pe_bytes, has_bytes, are_widths_within}
-use Rattle.pr_code.specs.Reading.{tap_of, output_of, output_length, outputs_of, outputs_length, inputs_part, inputs_of, outputs_part, stages_part, shape_in, stages_of, stages_length}
-use Rattle.pr_code.specs.Rules.{Rule, Broken, demand, broken_at, first_broken, is_count, count_rule, is_tap, tap_rule, head_rules, width_rules, input_rules, output_rules, outputs_rules, all_output_rules, stages_rules, rules_in}
+use Rattle.pr_code.specs.Reading.{tap_of, output_of, output_length, outputs_of, outputs_length, inputs_of, outputs_part, stages_part, shape_in, stages_of, stages_length}
+use Rattle.pr_code.specs.Rules.{Rule, Broken, demand, broken_at, first_broken, is_count, count_rule, tap_rule, head_rules, width_rules, input_rules, output_rules, outputs_rules, all_output_rules, stages_rules, rules_in}
 use Rattle.pr_code.proofs.WritingLemmas.{both, inputs_few}
 use Rattle.pr_code.proofs.ReadLemmas.{length-output_rules}
 use Rattle.pr_code.proofs.SoundShapes.{length-input_rules, length-all_output_rules}
 use Rattle.pr_code.proofs.DecodeLemmas.{same_shape, length-rules_in, stages_long}
 use Rattle.pr_code.proofs.AgainLemmas.{and_true}
-use Rattle.pr_code.proofs.AgainStages.{Keeps, seq_keeps, StagesAgain, stages_again, is_small, small_append, small_stages}
+use Rattle.pr_code.proofs.AgainStages.{Keeps, seq_keeps, stages_again, is_small, small_append, small_stages}
 
 pub cons_none : (place w : ℕ) (r : Rule) (later : Option Broken) → r w ≡ None → later ≡ None → broken_at place (r w) later ≡ None
 cons_none place w r later h k = rw (h, k) refl

@@ -1,16 +1,16 @@
 -- The words of what the fabric allows break no rule, and read as what they spell: stages.
-use Rattle.std.proofs.Common.{◌≡◌, ℕ, zero, suc, ◌+◌, ◌-◌, ◌*◌, ◌/◌, ◌%◌, ◌^◌, ◌<◌, ◌≤◌, ◌==◌, ◌&&◌, not, Bool, true, false, List, [], ◌∷◌, ◌++◌, length, drop, map, replicate, get_or, slice_index, refl, sym, ap, ◌∙◌, arith, Option, None, Some, cond, nat_lt, nat_le, append_assoc, zero-add, subst, lit<}
+use Rattle.std.proofs.Common.{◌≡◌, ℕ, suc, ◌+◌, ◌-◌, ◌*◌, ◌/◌, ◌%◌, ◌^◌, ◌<◌, ◌≤◌, ◌==◌, ◌&&◌, not, Bool, true, false, List, [], ◌∷◌, ◌++◌, length, drop, map, replicate, refl, sym, ap, ◌∙◌, arith, None, cond, nat_lt, nat_le, append_assoc, zero-add, subst, lit<}
 use Rattle.std.specs.List.{flat_map, list_all}
-use Rattle.std.proofs.lemmas.Bool.{ltb-true, lt-ltb, eqb-true, eq-eqb, leb-true, leb-false}
-use Rattle.std.proofs.lemmas.Nat.{mod_low, shr_high, shr_below, pow-add}
+use Rattle.std.proofs.lemmas.Bool.{lt-ltb, eqb-true, leb-true, leb-false}
+use Rattle.std.proofs.lemmas.Nat.{shr_below}
 use Rattle.std.proofs.Math.Nat.{pow-le-pow_right}
-use Rattle.std.proofs.lemmas.List.{length-append, length-replicate, drop_at, length-map}
+use Rattle.std.proofs.lemmas.List.{length-append, drop_at, length-map}
 use Rattle.pr_conf.specs.declared.pes.Pe.{Pe}
 use Rattle.pr_conf.specs.declared.stages.Site.{Site}
 use Rattle.pr_conf.specs.Rules.{is_lawful_pe, are_lawful_pes, are_lawful_stages, site_of}
 use Rattle.pr_code.specs.Spelling.{pe_words, a_word, lo_word, table_word, write_word, is_set, set_words, has_pe_bytes, number_of_flags, map_words, stage_words}
-use Rattle.pr_code.specs.Reading.{pe_of, pe_from, flags_of, marks_of, map_length, column_of, column_length, pes_of, pes_length, before_pes, stage_flags, stage_of, stage_length, stages_of, stages_length}
-use Rattle.pr_code.specs.Rules.{Rule, Broken, demand, first_broken, pe_rules, column_rules, pes_rules, map_rules, before_rules, stage_rules, stages_rules}
+use Rattle.pr_code.specs.Reading.{pe_from, flags_of, marks_of, map_length, column_length, pes_of, pes_length, stage_of, stage_length, stages_of, stages_length}
+use Rattle.pr_code.specs.Rules.{Rule, first_broken, pe_rules, pes_rules, map_rules, stage_rules, stages_rules}
 use Rattle.pr_code.proofs.WritingLemmas.{both, flags_below}
 use Rattle.pr_code.proofs.BreakLemmas.{keeps_first}
 use Rattle.pr_code.proofs.StageLemmas.{length-before_rules, length-stage_rules}

@@ -1,17 +1,13 @@
 -- Checkpoints that are read.
-use Rattle.std.proofs.Common.{◌≡◌, ℕ, zero, suc, ◌+◌, ◌-◌, ◌*◌, ◌/◌, ◌%◌, ◌^◌, ◌<◌, ◌≤◌, ◌==◌, Bool, true, false, List, [], ◌∷◌, ◌++◌, length, drop, get_or, slice_index, refl, sym, ap, ◌∙◌, arith, Option, None, Some, Result, Ok, Err, cond, subst, length-drop, nat_le}
+use Rattle.std.proofs.Common.{◌≡◌, ℕ, ◌+◌, ◌*◌, ◌/◌, ◌%◌, ◌^◌, ◌<◌, ◌≤◌, ◌==◌, true, List, [], ◌∷◌, ◌++◌, length, drop, refl, sym, ap, ◌∙◌, arith, None, Some, length-drop, nat_le}
 use Rattle.std.proofs.lemmas.Bool.{eqb-true, leb-true}
 use Rattle.std.proofs.lemmas.List.{drop_all}
 use Rattle.std.proofs.lemmas.Nat.{mod_low, shr_high}
-use Rattle.pr_conf.specs.Shape.{Shape}
 use Rattle.pr_conf.specs.Rules.{IsLawful}
-use Rattle.pr_code.specs.declared.faults.CodeFault.{CodeFault}
-use Rattle.pr_code.specs.declared.faults.CodeFault.TheVariants as CodeFault
-use Rattle.pr_code.specs.Spelling.{format_2, bytes_of_words, words_of, words_in, has_bytes}
+use Rattle.pr_code.specs.Spelling.{format_2, bytes_of_words, has_bytes}
 use Rattle.pr_code.specs.Reading.{words_of_bytes, shape_in, inputs_part, outputs_part, stages_part}
 use Rattle.pr_code.specs.Rules.{Broken, demand, first_broken, or_else, broken_end, rules_in, bad_from}
-use Rattle.pr_code.specs.Marks.{mark_rules, mark_words, mark_of, bad_mark, count_of, IsMark}
-use Rattle.pr_code.specs.Outcome.{Reads}
+use Rattle.pr_code.specs.Marks.{mark_rules, mark_words, bad_mark, count_of, shape_marked, IsMark}
 use Rattle.pr_code.proofs.BreakLemmas.{met}
 use Rattle.pr_code.proofs.SoundLemmas.{none_both, none_or, enough}
 use Rattle.pr_code.proofs.SoundStages.{AreWords, words-drop}
@@ -38,6 +34,10 @@ front_sound (a ∷ b ∷ c ∷ words) small h =
       spelled = ap (λ x. x ∷ b ∷ c ∷ words) mark ∙ (ap (λ x. 0x5049434B ∷ x ∷ c ∷ words) (sym high) ∙ ap (λ x. 0x5049434B ∷ ((b * 2 ^ 32 + c) / 2 ^ 32) ∷ x ∷ words) (sym low));
       count = leb-true _ _ (met 10 _ h2.0);
     }
+
+pub marked_shape : (N : ℕ) (bytes : List ℕ) → shape_in format_2.packed N (drop 3 (words_of_bytes bytes)) ≡ shape_marked N bytes
+unfolding shape_marked
+marked_shape N bytes = refl
 
 -- a checkpoint of which no word breaks a rule
 pub record MarkSound (N P : ℕ) (bytes : List ℕ) : Type 0 where

@@ -1,8 +1,8 @@
 -- Checkpoints: a count of samples before a configuration in format 2.
-use Rattle.std.specs.Prelude.{◌≡◌, ◌≤◌, ℕ, ◌+◌, ◌*◌, ◌/◌, ◌%◌, ◌^◌, ◌==◌, true, nat_le, List, [], ◌∷◌, ◌++◌, slice_index, Option, None}
+use Rattle.std.specs.Prelude.{◌≡◌, ◌≤◌, ℕ, ◌+◌, ◌*◌, ◌/◌, ◌%◌, ◌^◌, ◌==◌, true, nat_le, List, [], ◌∷◌, ◌++◌, drop, slice_index, Option, None}
 use Rattle.pr_conf.specs.Shape.{Shape}
 use Rattle.pr_code.specs.Spelling.{format_2, bytes_of_words, words_of, are_widths_within}
-use Rattle.pr_code.specs.Reading.{words_of_bytes}
+use Rattle.pr_code.specs.Reading.{words_of_bytes, shape_in}
 use Rattle.pr_code.specs.Rules.{Rule, Broken, demand, first_broken, or_else, bad_from}
 
 -- the bytes `PICK`, and the count's high and low half
@@ -15,6 +15,13 @@ mark_of N P count c = bytes_of_words (mark_words count ++ words_of N P c)
 -- the count of the second and the third word
 abbrev pub count_of : List ℕ → ℕ
 count_of words = slice_index words 1 * 2 ^ 32 + slice_index words 2
+
+-- the count and the configuration that a checkpoint reads as, for so many columns
+abbrev pub count_read : List ℕ → ℕ
+count_read bytes = count_of (words_of_bytes bytes)
+
+unfoldable pub shape_marked : ℕ → List ℕ → Shape
+shape_marked N bytes = shape_in format_2.packed N (drop 3 (words_of_bytes bytes))
 
 -- rule 9 for the first word, and rule 10 for a count that is too high, which is found at the third
 abbrev pub mark_rules : List ℕ → List Rule

@@ -6,7 +6,7 @@ ghost use Rattle.pr_conf.specs.Rules.{bytes_in};
 ghost use Rattle.pr_code.specs.Spelling.{IsFile};
 ghost use Rattle.pr_code.specs.Reading.{words_of_bytes, shape_in};
 ghost use Rattle.pr_code.specs.Rules.{first_broken, head_rules, bad_from, bad_word, format_of, shape_read};
-ghost use Rattle.pr_code.specs.Marks.{mark_rules, bad_mark, count_of, IsMark};
+ghost use Rattle.pr_code.specs.Marks.{mark_rules, bad_mark, count_of, count_read, shape_marked, IsMark};
 ghost use Rattle.pr_code.specs.Outcome.{Reads};
 
 use crate::faults::{CodeFault, demand};
@@ -127,7 +127,9 @@ pub fn read_mark<const N: usize, const P: usize>(
     requires most_columns { N ≤ 64 }
     requires registers { 2 ≤ P }
     requires most_registers { P ≤ 16 }
-    ensures { Reads result (bad_mark N P bytes.now) (λ mark. IsMark N P mark.0 (shape_of mark.1) bytes.now) }
+    ensures reads { Reads result (bad_mark N P bytes.now) (λ mark. IsMark N P mark.0 (shape_of mark.1) bytes.now) }
+    ensures count { IfOk result (λ mark. mark.0 ≡ count_read bytes.now) }
+    ensures shape { IfOk result (λ mark. shape_of mark.1 ≡ shape_marked N bytes.now) }
 {
     let count = count_of_mark(bytes)?;
     let conf = configuration_at(alloc, bytes, 3, FORMAT_2)?;

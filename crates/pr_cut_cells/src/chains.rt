@@ -4,7 +4,7 @@ ghost use Rattle.std.specs.Prelude.{ℕ, ◌≡◌, ◌≤◌, ◌<◌, ◌+◌,
 ghost use Rattle.pr_net.specs.declared.cells.Cell.{Cell};
 ghost use Rattle.pr_cut_units.specs.declared.chains.Style.{Style};
 ghost use Rattle.pr_cut_units.specs.Chains.{linked, carried, entry_cell, entry_of, taking, segments, places, place_after, chain, closed_chain};
-ghost use Rattle.pr_cut_cells.specs.Fronts.{IsFront};
+ghost use Rattle.pr_cut_cells.specs.Prefixes.{IsPrefix};
 
 use crate::cells::plain;
 use pr_base::{Carry, Mode};
@@ -96,7 +96,7 @@ fn chain_step(
 }
 
 /// The units of a chain; the last one closes with more cells.
-#[tactic(auto, using(crate::proofs::FrontLemmas::front_of))]
+#[tactic(auto, using(crate::proofs::PrefixLemmas::prefix_of))]
 fn append_chain(
     alloc: Global,
     units: &mut Vec<Unit>,
@@ -108,7 +108,7 @@ fn append_chain(
     requires fits { length units.old.items + length cells.now + 1 < 2 ^ 32 }
     ensures grows { OnOk result (length units.new.items ≤ length units.old.items + length cells.now + 1) }
     ensures units { OnOk result (units.new.items ≡ units.old.items ++ segments style (length units.old.items) 4 [] close.now (linked first cells.now)) }
-    ensures part { OnErr result (IsFront units.new.items (units.old.items ++ segments style (length units.old.items) 4 [] close.now (linked first cells.now))) }
+    ensures part { OnErr result (IsPrefix units.new.items (units.old.items ++ segments style (length units.old.items) 4 [] close.now (linked first cells.now))) }
 {
     let mut open = Open {
         cells: Vec::new(alloc),
@@ -220,7 +220,7 @@ fn closing_slice(unit: u32, cells: &[Cell]) -> Slice
 }
 
 /// A chain whose cells are slices.
-#[tactic(auto, using(crate::proofs::FrontLemmas::front_of))]
+#[tactic(auto, using(crate::proofs::PrefixLemmas::prefix_of))]
 pub fn chain(
     alloc: Global,
     units: &mut Vec<Unit>,
@@ -231,7 +231,7 @@ pub fn chain(
     requires fits { length units.old.items + length cells.now + 1 < 2 ^ 32 }
     ensures grows { OnOk result (length units.new.items ≤ length units.old.items + length cells.now + 1) }
     ensures units { OnOk result (units.new.items ≡ units.old.items ++ (chain style first cells.now (length units.old.items)).units) }
-    ensures part { OnErr result (IsFront units.new.items (units.old.items ++ (chain style first cells.now (length units.old.items)).units)) }
+    ensures part { OnErr result (IsPrefix units.new.items (units.old.items ++ (chain style first cells.now (length units.old.items)).units)) }
     ensures slices { IfOk result (λ s. s.items ≡ (chain style first cells.now (length units.old.items)).slices) }
 {
     let slices = chain_slices(alloc, style, units.len() as u32, cells)?;

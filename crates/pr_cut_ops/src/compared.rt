@@ -18,7 +18,7 @@ ghost use Rattle.pr_cut_cells.specs.Arguments.{argument_of};
 use crate::operators::{bitwise, chosen};
 use crate::sums::{added, carried_equal, carried_less, sign_unit, subtracted};
 use pr_cut_cells::{Argument, widened};
-use pr_cutmul::product;
+use pr_cutmul::{Factors, product};
 use pr_net::{Slice, Unit};
 use std::alloc::{AllocError, Global};
 
@@ -174,18 +174,23 @@ fn both_multiplied(
     alloc: Global,
     units: &mut Vec<Unit>,
     e: u8,
-    wa: u8,
-    wb: u8,
+    widths: (u8, u8),
     a: &Argument,
     b: &Argument,
 ) -> Result<Vec<Slice>, AllocError>
     requires fits { length units.old.items + 20000 < 2 ^ 32 }
     ensures grows { OnOk result (length units.new.items ≤ length units.old.items + 20000) }
-    ensures units { IfOk result (λ s. units.new.items ≡ units.old.items ++ (both_widened e (argument_of a.now) (argument_of b.now) (λ x y. product e x wa y wb) (length units.old.items)).units) }
-    ensures slices { IfOk result (λ s. s.items ≡ (both_widened e (argument_of a.now) (argument_of b.now) (λ x y. product e x wa y wb) (length units.old.items)).slices) }
+    ensures units { IfOk result (λ s. units.new.items ≡ units.old.items ++ (both_widened e (argument_of a.now) (argument_of b.now) (λ x y. product e x widths.0 y widths.1) (length units.old.items)).units) }
+    ensures slices { IfOk result (λ s. s.items ≡ (both_widened e (argument_of a.now) (argument_of b.now) (λ x y. product e x widths.0 y widths.1) (length units.old.items)).slices) }
 {
     let both = both_widened(alloc, units, e, a, b)?;
-    let all = product(alloc, units, e, &both.a, wa, &both.b, wb)?;
+    let factors = Factors {
+        a: &both.a,
+        wa: widths.0,
+        b: &both.b,
+        wb: widths.1,
+    };
+    let all = product(alloc, units, &factors, e)?;
     Ok(all)
 }
 
@@ -244,7 +249,7 @@ pub fn multiplied(
     let any = is_any_signed(a, b);
     let wa = factor_width(any, e, a);
     let wb = factor_width(any, e, b);
-    both_multiplied(alloc, units, e, wa, wb, a, b)
+    both_multiplied(alloc, units, e, (wa, wb), a, b)
 }
 
 /// Less and GreaterEqual where one operand is signed, by their tables.

@@ -319,7 +319,6 @@ pub fn extracted(
 fn joined_slices(
     alloc: Global,
     e: u8,
-    wa: u8,
     wb: u8,
     x: &[Slice],
     y: &[Slice],
@@ -339,7 +338,6 @@ fn joined_slices(
 fn joined_cells(
     alloc: Global,
     e: u8,
-    wa: u8,
     wb: u8,
     x: &[Slice],
     y: &[Slice],
@@ -364,25 +362,25 @@ fn joined_cells(
     Ok(all)
 }
 
-/// A concatenation.
+/// A concatenation of a value and of a lower one, of these widths.
 pub fn joined(
     alloc: Global,
     units: &mut Vec<Unit>,
     e: u8,
-    wa: u8,
-    wb: u8,
+    widths: (u8, u8),
     x: &[Slice],
     y: &[Slice],
 ) -> Result<Vec<Slice>, AllocError>
     requires fits { length units.old.items < 2 ^ 32 }
     ensures grows { OnOk result (length units.new.items ≤ length units.old.items + 1) }
-    ensures units { IfOk result (λ s. units.new.items ≡ units.old.items ++ (concatenated e (record { slices = x.now; form = record { signed = false; width = wa } }) (record { slices = y.now; form = record { signed = false; width = wb } }) (length units.old.items)).units) }
-    ensures slices { IfOk result (λ s. s.items ≡ (concatenated e (record { slices = x.now; form = record { signed = false; width = wa } }) (record { slices = y.now; form = record { signed = false; width = wb } }) (length units.old.items)).slices) }
+    ensures units { IfOk result (λ s. units.new.items ≡ units.old.items ++ (concatenated e (record { slices = x.now; form = record { signed = false; width = widths.0 } }) (record { slices = y.now; form = record { signed = false; width = widths.1 } }) (length units.old.items)).units) }
+    ensures slices { IfOk result (λ s. s.items ≡ (concatenated e (record { slices = x.now; form = record { signed = false; width = widths.0 } }) (record { slices = y.now; form = record { signed = false; width = widths.1 } }) (length units.old.items)).slices) }
 {
+    let (wa, wb) = widths;
     if wb % 8 == 0 && ends_whole(u64::from(e), u64::from(wa) + u64::from(wb)) {
-        return joined_slices(alloc, e, wa, wb, x, y);
+        return joined_slices(alloc, e, wb, x, y);
     }
-    let cells = joined_cells(alloc, e, wa, wb, x, y)?;
+    let cells = joined_cells(alloc, e, wb, x, y)?;
     push_unit(alloc, units, cells)
 }
 

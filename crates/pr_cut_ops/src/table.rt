@@ -16,7 +16,7 @@ use crate::compared::{
 };
 use crate::operators::{extracted, filled_slices, inverted, joined, moved_left};
 use pr_cut_cells::{Argument, flipped, widened};
-use pr_cutmul::shifted_by;
+use pr_cutmul::{Shift, shifted_by};
 use pr_flat::Op;
 use pr_net::{Slice, Unit};
 use std::alloc::{AllocError, Global};
@@ -67,7 +67,13 @@ fn moved_by(
     ensures units { IfOk result (λ s. units.new.items ≡ units.old.items ++ (moved_by left e (argument_of a.now) (argument_of by.now) (length units.old.items)).units) }
     ensures slices { IfOk result (λ s. s.items ≡ (moved_by left e (argument_of a.now) (argument_of by.now) (length units.old.items)).slices) }
 {
-    let all = shifted_by(alloc, units, left, a.width, &by.slices, by.width, &a.slices)?;
+    let shift = Shift {
+        left,
+        w: a.width,
+        by: &by.slices,
+        bits: by.width,
+    };
+    let all = shifted_by(alloc, units, &shift, &a.slices)?;
     let low = extracted(alloc, units, e, a.width, 0, &all)?;
     Ok(low)
 }
@@ -130,7 +136,13 @@ fn shifted_back(
     ensures units { IfOk result (λ s. units.new.items ≡ units.old.items ++ (followed_by (shifted_by false a.now.width by.now.slices.items by.now.width x.now) (λ y. followed_by (flipped (argument_of a.now) y) (λ z. extracted e a.now.width 0 z)) (length units.old.items)).units) }
     ensures slices { IfOk result (λ s. s.items ≡ (followed_by (shifted_by false a.now.width by.now.slices.items by.now.width x.now) (λ y. followed_by (flipped (argument_of a.now) y) (λ z. extracted e a.now.width 0 z)) (length units.old.items)).slices) }
 {
-    let y = shifted_by(alloc, units, false, a.width, &by.slices, by.width, x)?;
+    let shift = Shift {
+        left: false,
+        w: a.width,
+        by: &by.slices,
+        bits: by.width,
+    };
+    let y = shifted_by(alloc, units, &shift, x)?;
     let low = flipped_back(alloc, units, e, a, &y)?;
     Ok(low)
 }
@@ -186,7 +198,7 @@ fn concatenated(
     ensures units { IfOk result (λ s. units.new.items ≡ units.old.items ++ (concatenated e (argument_of a.now) (argument_of b.now) (length units.old.items)).units) }
     ensures slices { IfOk result (λ s. s.items ≡ (concatenated e (argument_of a.now) (argument_of b.now) (length units.old.items)).slices) }
 {
-    let all = joined(alloc, units, e, a.width, b.width, &a.slices, &b.slices)?;
+    let all = joined(alloc, units, e, (a.width, b.width), &a.slices, &b.slices)?;
     Ok(all)
 }
 

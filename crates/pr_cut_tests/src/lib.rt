@@ -1,5 +1,21 @@
-//! Texts of programs, and the nets that they have. There are tests alone in this crate.
+//! Texts of programs, their nets, and what these and their configurations show. There are tests alone in this crate.
 #![tactic(auto)]
 
 #[cfg(test)]
+mod elements;
+#[cfg(test)]
+mod operators;
+#[cfg(test)]
+mod routing;
+#[cfg(test)]
+mod rows;
+#[cfg(test)]
+mod shown;
+#[cfg(test)]
+mod table;
+#[cfg(test)]
 mod tests;
+#[cfg(test)]
+mod texts;
+#[cfg(test)]
+mod through;

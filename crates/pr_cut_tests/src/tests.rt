@@ -1,73 +1,9 @@
 //! Programs, and the nets of their equations.
 
-ghost use Rattle.std.specs.Prelude.{◌≤◌, length};
-
+use crate::texts::{Stop, net_of};
 use pr_base::{Cap, Carry, Mode, Next};
-use pr_cut::cut;
-use pr_cut_plan::CutFault;
-use pr_expand::{ExpandFault, expand};
-use pr_flat::Flat;
-use pr_net::{Cell, Net, Slice, Wire, WireBit};
-use pr_parse::{ParseFault, parse, tokens};
-use pr_scope::{ScopeFault, check};
-use pr_width::{WidthFault, solve};
-use std::alloc::{AllocError, Global};
+use pr_net::{Cell, Net, Wire, WireBit};
 use std::test::Fail;
-
-/// What stops a text on its way to a net.
-#[derive(Debug, Drop)]
-enum Stop {
-    /// The text is no program with widths.
-    Refused,
-    /// The net passes a limit.
-    Passed(Cap),
-    Memory(AllocError),
-}
-
-impl From<AllocError> for Stop {
-    fn from(error: AllocError) -> Stop {
-        Stop::Memory(error)
-    }
-}
-
-/// The flat equations of a text.
-fn flat_of(alloc: Global, text: &[u8]) -> Result<Flat, Stop>
-    requires { length text.now ≤ 1048576 }
-{
-    let tokens = tokens(alloc, text)?;
-    let program = match parse(alloc, text, &tokens) {
-        Ok(program) => program,
-        Err(ParseFault::Memory(error)) => return Err(Stop::Memory(error)),
-        Err(_) => return Err(Stop::Refused),
-    };
-    let scoped = match check(alloc, program) {
-        Ok(scoped) => scoped,
-        Err(ScopeFault::Memory(error)) => return Err(Stop::Memory(error)),
-        Err(_) => return Err(Stop::Refused),
-    };
-    match expand(alloc, &scoped) {
-        Ok(flat) => Ok(flat),
-        Err(ExpandFault::Memory(error)) => Err(Stop::Memory(error)),
-        Err(ExpandFault::Limit(_)) => Err(Stop::Refused),
-    }
-}
-
-/// The net of a text, for sixteen columns.
-fn net_of(alloc: Global, text: &[u8]) -> Result<Net, Stop>
-    requires { length text.now ≤ 1048576 }
-{
-    let flat = flat_of(alloc, text)?;
-    let widths = match solve(alloc, &flat) {
-        Ok(widths) => widths,
-        Err(WidthFault::NoWidth { .. }) => return Err(Stop::Refused),
-        Err(WidthFault::Memory(error)) => return Err(Stop::Memory(error)),
-    };
-    match cut(alloc, &flat, &widths, 16) {
-        Ok(net) => Ok(net),
-        Err(CutFault::Limit(cap)) => Err(Stop::Passed(cap)),
-        Err(CutFault::Memory(error)) => Err(Stop::Memory(error)),
-    }
-}
 
 fn cells_of(net: &Net, number: usize) -> &[Cell] {
     match net.units.get(number) {
@@ -112,7 +48,11 @@ fn carry_cell() -> Cell {
 
 #[test]
 fn a_sum_of_two_segments(rt: HostRuntime) -> Result<(), Fail> {
-    let net = net_of(rt.alloc(), b"input a:64; input b:64; output y:64 = a + b;")?;
+    let net = net_of(
+        rt.alloc(),
+        b"input a:64; input b:64; output y:64 = a + b;",
+        16,
+    )?;
     let low = [
         sum_cell(0, WireBit::None, Carry::Zero),
         sum_cell(1, WireBit::None, Carry::Chain),
@@ -143,12 +83,40 @@ fn sixteen_bytes_of_inputs(rt: HostRuntime) -> Result<(), Fail> {
     if sixteen.len() > 2000 || seventeen.len() > 2000 {
         return Ok(());
     }
-    let net = net_of(rt.alloc(), sixteen.as_bytes())?;
+    let net = net_of(rt.alloc(), sixteen.as_bytes(), 16)?;
     assert_eq!(rt; net.inputs.len(), 16);
-    let passed = match net_of(rt.alloc(), seventeen.as_bytes()) {
+    let passed = match net_of(rt.alloc(), seventeen.as_bytes(), 16) {
         Err(Stop::Passed(cap)) => Some(cap),
         _ => None,
     };
     assert_eq!(rt; passed, Some(Cap::InputBytes));
+    Ok(())
+}
+
+/// The text of a program, and how many cells each unit of its net has.
+const CELLS: [(&str, &[usize]); 4] = [
+    ("input a:40; input b:40; output y = a - b;", &[5, 5, 5, 1]),
+    ("input a:8; output y = a == a;", &[1, 2]),
+    (
+        "input a:64; input b:64; output y = a + b;",
+        &[8, 8, 5, 5, 1],
+    ),
+    (
+        "input x:8; rec f:16 = 1 by f@1 + f@2; output y = f;",
+        &[1, 2, 2, 2],
+    ),
+];
+
+#[test]
+fn cells_of_units(rt: HostRuntime) -> Result<(), Fail> {
+    for (text, cells) in CELLS {
+        assert!(rt; text.len() < 1000);
+        let net = net_of(rt.alloc(), text.as_bytes(), 16)?;
+        let mut all = Vec::new(rt.alloc());
+        for unit in &net.units {
+            all.push(unit.cells.len())?;
+        }
+        assert_eq!(rt; all.as_slice(), cells, "of {text}");
+    }
     Ok(())
 }

@@ -7,6 +7,6 @@ mod rows;
 mod shifts;
 
 pub use counts::{chain_count, product_count, slice_count};
-pub use products::product;
+pub use products::{Factors, product};
 pub use rows::{RowFault, mul_rows, shift_rows};
-pub use shifts::shifted_by;
+pub use shifts::{Shift, shifted_by};

@@ -11,7 +11,7 @@ ghost use Rattle.pr_cut_units.specs.Cells.{plain, byte, top, bit_of, slice_at, s
 ghost use Rattle.pr_cut_units.specs.Parts.{each};
 ghost use Rattle.pr_cut_units.specs.Products.{row_width, row_cell, product_row, product};
 ghost use Rattle.pr_cut_units.specs.Parts.{in_turn};
-ghost use Rattle.pr_cut_cells.specs.Fronts.{IsFront};
+ghost use Rattle.pr_cut_cells.specs.Prefixes.{IsPrefix};
 
 use pr_base::{Carry, Mode, slices};
 use pr_cut_cells::{bit_of, byte, chain, joined, plain, top, with_left};
@@ -27,40 +27,48 @@ fn row_width(e: u8, w: u8, j: u8) -> u8
     if u16::from(e) < most { e } else { most as u8 }
 }
 
+/// Two factors: their slices and their widths in bits.
+#[derive(Clone, Copy)]
+pub struct Factors<'a> {
+    pub a: &'a [Slice],
+    pub wa: u8,
+    pub b: &'a [Slice],
+    pub wb: u8,
+}
+
 /// The cell of slice `i` of row `j`.
-fn row_cell(e: u8, w: u8, a: &[Slice], b: &[Slice], j: u8, before: &[Slice], i: usize) -> Cell
+fn row_cell(factors: &Factors, e: u8, j: u8, before: &[Slice], i: usize) -> Cell
     requires { i < 64 }
-    ensures { result ≡ row_cell e w a.now b.now j before.now i }
+    ensures { result ≡ row_cell e factors.now.wa factors.now.a.now factors.now.b.now j before.now i }
 {
     let cell = Cell {
         a: byte(before, i),
-        c: bit_of(b, usize::from(j)),
+        c: bit_of(factors.b, usize::from(j)),
         mode: Mode::Sum,
         table: 0xc0,
-        mask: top(row_width(e, w, j), i),
+        mask: top(row_width(e, factors.wa, j), i),
         ..plain()
     };
-    with_left(a, usize::from(j), i, cell)
+    with_left(factors.a, usize::from(j), i, cell)
 }
 
 /// The cells of row `j`, from that of the byte of bit `j` on.
 #[tactic(auto, using(pr_cut_units::proofs::EachLemmas::each_more))]
 fn row_cells(
     alloc: Global,
+    factors: &Factors,
     e: u8,
-    w: u8,
-    a: &[Slice],
-    b: &[Slice],
     j: u8,
     before: &[Slice],
 ) -> Result<Vec<Cell>, AllocError>
     requires { j < e }
-    ensures count { IfOk result (λ all. vec_len all ≡ slices_of (row_width e w j) - j / 8) }
-    ensures all { IfOk result (λ all. all.items ≡ each (slices_of (row_width e w j) - j / 8) (λ i. row_cell e w a.now b.now j before.now (j / 8 + i))) }
+    ensures count { IfOk result (λ all. vec_len all ≡ slices_of (row_width e factors.now.wa j) - j / 8) }
+    ensures all { IfOk result (λ all. all.items ≡ each (slices_of (row_width e factors.now.wa j) - j / 8)
+        (λ i. row_cell e factors.now.wa factors.now.a.now factors.now.b.now j before.now (j / 8 + i))) }
 {
     let mut all = Vec::new(alloc);
-    for i in 0..slices(row_width(e, w, j)) - usize::from(j) / 8 {
-        all.push(row_cell(e, w, a, b, j, before, usize::from(j) / 8 + i))?;
+    for i in 0..slices(row_width(e, factors.wa, j)) - usize::from(j) / 8 {
+        all.push(row_cell(factors, e, j, before, usize::from(j) / 8 + i))?;
     }
     Ok(all)
 }
@@ -73,48 +81,43 @@ fn lowest(x: &[Slice], n: usize) -> &[Slice]
 }
 
 /// Row `j`: the whole bytes below bit `j` stay, and the others are a chain.
-#[tactic(auto, using(pr_cut_cells::proofs::FrontLemmas::front_of, pr_cut_cells::proofs::FrontLemmas::front_whole))]
+#[tactic(auto, using(pr_cut_cells::proofs::PrefixLemmas::prefix_of, pr_cut_cells::proofs::PrefixLemmas::prefix_whole))]
 fn product_row(
     alloc: Global,
     units: &mut Vec<Unit>,
+    factors: &Factors,
     e: u8,
-    w: u8,
-    a: &[Slice],
-    b: &[Slice],
     j: u8,
     before: &[Slice],
 ) -> Result<Vec<Slice>, AllocError>
     requires below { j < e }
     requires fits { length units.old.items + 40 < 2 ^ 32 }
     ensures grows { OnOk result (length units.new.items ≤ length units.old.items + 40) }
-    ensures units { OnOk result (units.new.items ≡ units.old.items ++ (product_row e w a.now b.now j before.now (length units.old.items)).units) }
-    ensures part { OnErr result (IsFront units.new.items (units.old.items ++ (product_row e w a.now b.now j before.now (length units.old.items)).units)) }
-    ensures slices { IfOk result (λ s. s.items ≡ (product_row e w a.now b.now j before.now (length units.old.items)).slices) }
+    ensures units { OnOk result (units.new.items ≡ units.old.items ++ (product_row e factors.now.wa factors.now.a.now factors.now.b.now j before.now (length units.old.items)).units) }
+    ensures part { OnErr result (IsPrefix units.new.items (units.old.items ++ (product_row e factors.now.wa factors.now.a.now factors.now.b.now j before.now (length units.old.items)).units)) }
+    ensures slices { IfOk result (λ s. s.items ≡ (product_row e factors.now.wa factors.now.a.now factors.now.b.now j before.now (length units.old.items)).slices) }
 {
-    let cells = row_cells(alloc, e, w, a, b, j, before)?;
+    let cells = row_cells(alloc, factors, e, j, before)?;
     let high = chain(alloc, units, Style::ByEntry, Carry::Zero, &cells)?;
     joined(alloc, lowest(before, usize::from(j) / 8), &high)
 }
 
-/// The first `e` bits of the product of `a`, of `wa` bits, and `b`, of `wb` bits.
+/// The first `e` bits of a product.
 pub fn product(
     alloc: Global,
     units: &mut Vec<Unit>,
+    factors: &Factors,
     e: u8,
-    a: &[Slice],
-    wa: u8,
-    b: &[Slice],
-    wb: u8,
 ) -> Result<Vec<Slice>, AllocError>
     requires fits { length units.old.items + 40 * 256 < 2 ^ 32 }
     ensures grows { OnOk result (length units.new.items ≤ length units.old.items + 40 * 256) }
-    ensures units { OnOk result (units.new.items ≡ units.old.items ++ (product e a.now wa b.now wb (length units.old.items)).units) }
-    ensures part { OnErr result (IsFront units.new.items (units.old.items ++ (product e a.now wa b.now wb (length units.old.items)).units)) }
-    ensures slices { IfOk result (λ s. s.items ≡ (product e a.now wa b.now wb (length units.old.items)).slices) }
+    ensures units { OnOk result (units.new.items ≡ units.old.items ++ (product e factors.now.a.now factors.now.wa factors.now.b.now factors.now.wb (length units.old.items)).units) }
+    ensures part { OnErr result (IsPrefix units.new.items (units.old.items ++ (product e factors.now.a.now factors.now.wa factors.now.b.now factors.now.wb (length units.old.items)).units)) }
+    ensures slices { IfOk result (λ s. s.items ≡ (product e factors.now.a.now factors.now.wa factors.now.b.now factors.now.wb (length units.old.items)).slices) }
 {
     let mut before = Vec::new(alloc);
-    for j in 0..wb.min(e) {
-        before = product_row(alloc, units, e, wa, a, b, j, &before)?;
+    for j in 0..factors.wb.min(e) {
+        before = product_row(alloc, units, factors, e, j, &before)?;
     }
     Ok(before)
 }

@@ -5,12 +5,12 @@ ghost use Rattle.pr_base.specs.declared.caps.Cap.{Cap};
 ghost use Rattle.pr_net.specs.declared.cells.Slice.{Slice};
 ghost use Rattle.pr_cut_units.specs.Products.{product};
 ghost use Rattle.pr_cut_units.specs.Shifts.{shifted_by};
-ghost use Rattle.pr_cut_cells.specs.Fronts.{IsFront};
-ghost use Rattle.pr_cutmul.specs.Rows.{HasSame};
+ghost use Rattle.pr_cut_cells.specs.Prefixes.{IsPrefix};
+ghost use Rattle.pr_cutmul.specs.Rows.{HasSame, ShowsProduct, ShowsShift};
 
 use crate::counts::product_count;
-use crate::products::product;
-use crate::shifts::shifted_by;
+use crate::products::{Factors, product};
+use crate::shifts::{Shift, shifted_by};
 use pr_base::Cap;
 use pr_net::{Net, Slice};
 use std::alloc::{AllocError, Global};
@@ -56,7 +56,7 @@ fn rows_of(bits: u8, wa: u8, wb: u8) -> usize
 ///
 /// `Limit` where the net would have too many units, which leaves it as it was; `Memory` where memory is wanting, which leaves the first
 /// of the new units.
-#[tactic(auto, using(pr_cut_cells::proofs::FrontLemmas::front_of))]
+#[tactic(auto, using(pr_cut_cells::proofs::PrefixLemmas::prefix_of))]
 pub fn mul_rows(
     alloc: Global,
     net: &mut Net,
@@ -71,17 +71,19 @@ pub fn mul_rows(
     requires few { length net.old.units.items ≤ 32768 }
     ensures units { OnOk result (net.new.units.items ≡ net.old.units.items ++ (product bits a.now wa b.now wb (length net.old.units.items)).units) }
     ensures slices { IfOk result (λ s. s.items ≡ (product bits a.now wa b.now wb (length net.old.units.items)).slices) }
+    ensures value { 1 ≤ bits → 1 ≤ wb →
+        IfOk result (λ s. ShowsProduct net.new.units.items (length net.old.units.items) bits wa wb a.now b.now s.items) }
     ensures within { OnOk result (length net.new.units.items ≤ 32768) }
     ensures passed { 32768 < length net.old.units.items + length (product bits a.now wa b.now wb (length net.old.units.items)).units → result ≡ Err (RowFault.Limit Cap.Units) }
     ensures limit { (cap : Cap) → result ≡ Err (RowFault.Limit cap) → (cap ≡ Cap.Units) × (32768 < length net.old.units.items + length (product bits a.now wa b.now wb (length net.old.units.items)).units) × (net.new.units.items ≡ net.old.units.items) }
-    ensures part { OnErr result (IsFront net.new.units.items (net.old.units.items ++ (product bits a.now wa b.now wb (length net.old.units.items)).units)) }
+    ensures part { OnErr result (IsPrefix net.new.units.items (net.old.units.items ++ (product bits a.now wa b.now wb (length net.old.units.items)).units)) }
     ensures same { HasSame net.old net.new }
 {
     let count = rows_of(bits, wa, wb);
     if net.units.len() + count > MOST_UNITS {
         return Err(RowFault::Limit(Cap::Units));
     }
-    let slices = product(alloc, &mut net.units, bits, a, wa, b, wb)?;
+    let slices = product(alloc, &mut net.units, &Factors { a, wa, b, wb }, bits)?;
     Ok(slices)
 }
 
@@ -91,7 +93,7 @@ pub fn mul_rows(
 ///
 /// `Limit` where the net would have too many units, which leaves it as it was; `Memory` where memory is wanting, which leaves the first
 /// of the new units.
-#[tactic(auto, using(pr_cut_cells::proofs::FrontLemmas::front_of))]
+#[tactic(auto, using(pr_cut_cells::proofs::PrefixLemmas::prefix_of))]
 pub fn shift_rows(
     alloc: Global,
     net: &mut Net,
@@ -104,15 +106,23 @@ pub fn shift_rows(
     requires few { length net.old.units.items ≤ 32768 }
     ensures units { OnOk result (net.new.units.items ≡ net.old.units.items ++ (shifted_by left wa by.now wby a.now (length net.old.units.items)).units) }
     ensures slices { IfOk result (λ s. s.items ≡ (shifted_by left wa by.now wby a.now (length net.old.units.items)).slices) }
+    ensures value { 1 ≤ wa → wa ≤ 128 →
+        IfOk result (λ s. ShowsShift net.new.units.items (length net.old.units.items) left wa wby a.now by.now s.items) }
     ensures within { OnOk result (length net.new.units.items ≤ 32768) }
     ensures passed { 32768 < length net.old.units.items + length (shifted_by left wa by.now wby a.now (length net.old.units.items)).units → result ≡ Err (RowFault.Limit Cap.Units) }
     ensures limit { (cap : Cap) → result ≡ Err (RowFault.Limit cap) → (cap ≡ Cap.Units) × (32768 < length net.old.units.items + length (shifted_by left wa by.now wby a.now (length net.old.units.items)).units) × (net.new.units.items ≡ net.old.units.items) }
-    ensures part { OnErr result (IsFront net.new.units.items (net.old.units.items ++ (shifted_by left wa by.now wby a.now (length net.old.units.items)).units)) }
+    ensures part { OnErr result (IsPrefix net.new.units.items (net.old.units.items ++ (shifted_by left wa by.now wby a.now (length net.old.units.items)).units)) }
     ensures same { HasSame net.old net.new }
 {
     if net.units.len() + usize::from(wby) > MOST_UNITS {
         return Err(RowFault::Limit(Cap::Units));
     }
-    let slices = shifted_by(alloc, &mut net.units, left, wa, by, wby, a)?;
+    let shift = Shift {
+        left,
+        w: wa,
+        by,
+        bits: wby,
+    };
+    let slices = shifted_by(alloc, &mut net.units, &shift, a)?;
     Ok(slices)
 }

@@ -41,7 +41,7 @@ pub states_count : (N P : ℕ) (conf : Configuration N P) (stages : List (Stage 
 states_count N P conf stages states shown store e f g h =
     ap length (store_is N P conf stages states shown store e f g h) ∙ (length-map conf.stages.items (stage_inits {N = N}) ∙ omega (arith, conf.stages.ok.0))
 
-init_is : (N P : ℕ) (c : Shape) (s : ℕ) → (steps_of N P c s).init ≡ inits (get_or c.stages s [])
+pub init_is : (N P : ℕ) (c : Shape) (s : ℕ) → (steps_of N P c s).init ≡ inits (get_or c.stages s [])
 unfolding step_of
 init_is N P c s = refl
 

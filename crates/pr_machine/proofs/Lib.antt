@@ -6,3 +6,8 @@ pub mod Cycles
 pub mod Outputs
 pub mod FirstStates
 pub mod Starting
+pub mod Emptied
+pub mod Begun
+pub mod Drained
+pub mod ReadyLaws
+pub mod IdleLaws

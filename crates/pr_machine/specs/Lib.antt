@@ -1,4 +1,7 @@
 pub mod Places
+pub mod Ready
 pub mod Schedules
 pub mod Stands
 pub mod Results
+pub mod Parking
+pub mod Emptying

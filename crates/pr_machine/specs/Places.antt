@@ -1,8 +1,8 @@
 -- The places of a machine, as what they stand for.
-use Rattle.std.specs.Prelude.{◌≡◌, ℕ, ◌<◌, Bool, true, false, List, [], length, slice_index_or, nat_lt, is_none}
+use Rattle.std.specs.Prelude.{◌≡◌, ℕ, ◌<◌, ◌≤◌, Bool, true, false, List, [], length, slice_index_or, nat_lt, is_none}
 use Rattle.pr_stripe.specs.declared.rows.Row.{Row}
 use Rattle.pr_stripe.specs.Rows.{shown}
-use Rattle.pr_machine_refines.specs.Spots.{Spot, Bare, Held, Gone}
+use Rattle.pr_machine_refines.specs.Spots.{Spot, Bare, Held, Gone, stage_in}
 use Rattle.pr_machine.specs.declared.places.Place.{Place}
 use Rattle.pr_machine.specs.declared.places.Place.TheVariants as V
 
@@ -53,3 +53,7 @@ is_there V.Away = false
 -- the bytes of a row, whether it is valid or not
 abbrev pub bytes_of : {N P : ℕ} → Row N P → List ℕ
 bytes_of row = row.bytes.items
+
+-- from this place on no stripe has a stage
+abbrev pub AreIdle : ℕ → (ℕ → Spot (List ℕ) (List ℕ)) → Type 0
+AreIdle live spots = (i : ℕ) → live ≤ i → is_none (stage_in (spots i)) ≡ true

@@ -1,6 +1,6 @@
 //! What a running machine is made of, and one cycle of it.
 
-ghost use Rattle.std.specs.Prelude.{ℕ, ◌≡◌, ◌≢◌, ◌++◌, ◌∷◌, [], ◌<◌, ◌≤◌, ◌-◌, ◌+◌, ◌^◌, Option, Some, None, List, is_some, length, vec_len, vec_capacity, true, false, if◌then◌else◌};
+ghost use Rattle.std.specs.Prelude.{ℕ, ◌≡◌, ◌≢◌, ◌++◌, ◌∷◌, [], ◌<◌, ◌≤◌, ◌-◌, ◌+◌, ◌^◌, Option, Some, None, IfSome, List, is_some, length, vec_len, vec_capacity, true, false, if◌then◌else◌};
 ghost use Rattle.pr_machine_account.specs.Account.{Cycle, stalled};
 ghost use Rattle.pr_control.specs.Time.{turned};
 ghost use Rattle.pr_conf.specs.Shape.{Shape};
@@ -9,7 +9,8 @@ ghost use Rattle.pr_conf.specs.Rules.{bytes_in};
 ghost use Rattle.pr_conf.specs.Through.{output_widths, steps_of};
 ghost use Rattle.pr_machine_refines.specs.Cycle.{will_enter, bus_of, rest_of, pushed, HasRoom};
 ghost use Rattle.pr_stripe.specs.Rows.{entering as row_if};
-ghost use Rattle.pr_machine.specs.Places.{AreHere, AreBare, rows_of};
+ghost use Rattle.pr_machine.specs.Places.{AreHere, AreBare, AreIdle, rows_of, spots_of};
+ghost use Rattle.pr_machine.specs.Ready.{AreReady};
 ghost use Rattle.pr_machine.specs.Schedules.{IsScheduled};
 
 use crate::buffers::Buffers;
@@ -24,6 +25,7 @@ pub struct Loaded<const N: usize, const P: usize> {
     pub(crate) places: Vec<Place<N, P>>,
     pub(crate) buffers: Buffers<N>,
     pub(crate) plan: Plan,
+    pub(crate) live: usize,
     pub(crate) entered: u64,
     pub(crate) left: u64,
     ghost two: { 2 ≤ vec_len places },
@@ -31,7 +33,11 @@ pub struct Loaded<const N: usize, const P: usize> {
     ghost plan_stages: { plan.stages ≡ vec_len conf.stages },
     ghost plan_stripes: { plan.stripes ≡ vec_len places },
     ghost here: { AreHere (vec_len conf.stages) places.items },
+    ghost live_in: { live ≤ vec_len places },
+    ghost idle: { AreIdle live (spots_of places.items) },
     ghost rows: { length buffers.store ≡ vec_len conf.stages },
+    ghost ready: { AreReady (P - 1) (shape_of conf).stages buffers.prepared.items },
+    ghost count: { vec_len buffers.prepared ≡ vec_len conf.stages },
     ghost input: { buffers.input.size ≡ bytes_in (shape_of conf).inputs },
     ghost output: { buffers.output.size ≡ bytes_in (output_widths (shape_of conf)) },
     ghost sample: { vec_len buffers.sample ≡ bytes_in (shape_of conf).inputs },
@@ -40,16 +46,15 @@ pub struct Loaded<const N: usize, const P: usize> {
     ghost left_in: { left ≤ plan.time },
 }
 
-/// Takes the sample that enters into its buffer, and says whether one does. On a bubble the buffer is zero.
+/// Takes the sample that enters into its buffer, and says whether one does. On a bubble the buffer is as it was.
 fn enter<const N: usize>(buffers: &mut Buffers<N>, first: Option<usize>) -> bool
     requires { vec_len buffers.old.sample ≡ buffers.old.input.size }
     ensures bus { row_if result buffers.new.sample.items ≡ bus_of buffers.old.input.waiting first }
     ensures rest { buffers.new.input.waiting ≡ rest_of buffers.old.input.waiting first }
     ensures size { buffers.new.input.size ≡ buffers.old.input.size }
     ensures length { vec_len buffers.new.sample ≡ vec_len buffers.old.sample }
-    ensures others { (buffers.new.store ≡ buffers.old.store) × (buffers.new.output ≡ buffers.old.output) × (buffers.new.result ≡ buffers.old.result) }
+    ensures others { (buffers.new.store ≡ buffers.old.store) × (buffers.new.output ≡ buffers.old.output) × (buffers.new.result ≡ buffers.old.result) × (buffers.new.prepared ≡ buffers.old.prepared) }
 {
-    buffers.sample.fill(0);
     match first {
         None => false,
         Some(_) => buffers.input.get(&mut buffers.sample).is_ok(),
@@ -61,7 +66,7 @@ fn put_result<const N: usize>(buffers: &mut Buffers<N>, left: bool)
     requires { left ≡ true → length buffers.old.result.items ≡ buffers.old.output.size }
     ensures put { HasRoom buffers.old.output.waiting (row_if left buffers.old.result.items) → buffers.new.output.waiting ≡ pushed buffers.old.output.waiting (row_if left buffers.old.result.items) }
     ensures size { buffers.new.output.size ≡ buffers.old.output.size }
-    ensures others { (buffers.new.store ≡ buffers.old.store) × (buffers.new.input ≡ buffers.old.input) × (buffers.new.result ≡ buffers.old.result) × (buffers.new.sample ≡ buffers.old.sample) }
+    ensures others { (buffers.new.store ≡ buffers.old.store) × (buffers.new.input ≡ buffers.old.input) × (buffers.new.result ≡ buffers.old.result) × (buffers.new.sample ≡ buffers.old.sample) × (buffers.new.prepared ≡ buffers.old.prepared) }
 {
     if left {
         let _told = buffers.output.put(&buffers.result);
@@ -81,6 +86,21 @@ fn counted(holds: bool) -> u64
     ensures few { result ≤ 1 }
 {
     if holds { 1 } else { 0 }
+}
+
+/// The place from which on no stripe has a stage, after an event.
+fn live_after(live: usize, event: Option<(u32, u32)>) -> usize
+    ensures more { live ≤ result }
+    ensures event { IfSome event (λ e. e.0 < result) }
+    ensures most { (p : ℕ) → live ≤ p → IfSome event (λ e. e.0 < p) → result ≤ p }
+{
+    match event {
+        None => live,
+        Some((stripe, _)) => {
+            let next = stripe as usize + 1;
+            if live < next { next } else { live }
+        }
+    }
 }
 
 /// An event as (stage, stripe).
@@ -107,6 +127,8 @@ impl<const N: usize, const P: usize> Loaded<N, P> {
         requires bare { AreBare places.items }
         requires states { (s : ℕ) → s < vec_len conf.stages → rows_of buffers.store s ≡ (steps_of N P (shape_of conf) s).init }
         requires rows { length buffers.store ≡ vec_len conf.stages }
+        requires ready { AreReady (P - 1) (shape_of conf).stages buffers.prepared.items }
+        requires count { vec_len buffers.prepared ≡ vec_len conf.stages }
         requires input { buffers.input ≡ record { size = bytes_in (shape_of conf).inputs; waiting = [] } }
         requires output { buffers.output ≡ record { size = bytes_in (output_widths (shape_of conf)); waiting = [] } }
         requires sample { vec_len buffers.sample ≡ bytes_in (shape_of conf).inputs }
@@ -120,6 +142,7 @@ impl<const N: usize, const P: usize> Loaded<N, P> {
             places,
             buffers,
             plan,
+            live: 0,
             entered: 0,
             left: 0,
         }
@@ -127,12 +150,14 @@ impl<const N: usize, const P: usize> Loaded<N, P> {
 
     /// What the next cycle is to do.
     pub(crate) fn schedule(&self) -> Schedule
-        ensures { IsScheduled (vec_len self.now.conf.stages) (vec_len self.now.places) self.now.plan.time result }
+        ensures scheduled { IsScheduled (vec_len self.now.conf.stages) (vec_len self.now.places) self.now.plan.time result }
+        ensures live { result.live ≡ self.now.live }
     {
         Schedule {
             ring: self.plan.ring(),
             first: self.plan.active(0),
             last: self.plan.active(self.conf.stages() as u32 - 1),
+            live: self.live,
         }
     }
 
@@ -154,6 +179,7 @@ impl<const N: usize, const P: usize> Loaded<N, P> {
     /// A cycle that is not stalled.
     pub(crate) fn advance(&mut self, schedule: &Schedule) -> Turn
         requires schedule { IsScheduled (vec_len self.old.conf.stages) (vec_len self.old.places) self.old.plan.time schedule.now }
+        requires live { schedule.now.live ≡ self.old.live }
         requires time { self.old.plan.time < 2 ^ 63 }
         ensures stands { (c : Shape) (p : ℕ) (h : History) → PartsStand self.old c p h → stalled (length c.stages) p (account_of c p h) ≡ false → PartsStand self.new c p (h ++ Cycle ∷ []) }
         ensures turn { (c : Shape) (p : ℕ) (h : History) → PartsStand self.old c p h → result ≡ next_turn (length c.stages) p (account_of c p h) }
@@ -180,6 +206,7 @@ impl<const N: usize, const P: usize> Loaded<N, P> {
             entered: numbered(entering, self.entered),
             left: numbered(passed.left, self.left),
         };
+        self.live = live_after(self.live, event);
         self.entered += counted(entering);
         self.left += counted(passed.left);
         turn

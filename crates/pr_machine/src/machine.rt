@@ -19,7 +19,7 @@ use thiserror::Error;
 /// What a machine without a configuration is made of: blank stripes.
 #[derive(Drop)]
 pub struct Idle<const N: usize, const P: usize> {
-    places: Vec<Place<N, P>>,
+    pub(crate) places: Vec<Place<N, P>>,
     ghost two: { 2 ≤ vec_len places },
     ghost small: { vec_len places ≤ 256 },
     ghost bare: { AreBare places.items },
@@ -50,7 +50,7 @@ impl<const N: usize, const P: usize> Condition<N, P> for Running {
 /// A machine of stripes with N columns and P registers, in a condition.
 #[derive(Drop)]
 pub struct Machine<const N: usize, const P: usize, S: Condition<N, P>> {
-    parts: S::Parts,
+    pub(crate) parts: S::Parts,
 }
 
 /// There was no memory to load a configuration: the machine and the configuration as they were.

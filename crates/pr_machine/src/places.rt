@@ -10,7 +10,8 @@ ghost use Rattle.pr_machine_refines.specs.Spots.{Spot, Held, shows, stage_in, st
 ghost use Rattle.pr_machine_refines.specs.Cycle.{will_leave as leaving_by, leaves, AreStepped, IsRingStep, IsLineStep, IsTurned, IsPass, saved_by};
 ghost use Rattle.pr_stripe.specs.Rows.{shown};
 ghost use Rattle.pr_stripe.specs.Rows.{entering as row_if};
-ghost use Rattle.pr_machine.specs.Places.{seen, place_at, spots_of, rows_of, is_there, IsHere, AreHere};
+ghost use Rattle.pr_machine.specs.Places.{seen, place_at, spots_of, rows_of, is_there, IsHere, AreHere, AreIdle};
+ghost use Rattle.pr_machine.specs.Ready.{AreReady};
 
 use crate::buffers::Buffers;
 use crate::results::read_result;
@@ -51,29 +52,37 @@ fn row_at<const N: usize, const P: usize>(place: &Place<N, P>) -> &Row<N, P>
     }
 }
 
-/// What a place becomes in a cycle in which its stage computes.
-fn computed<const N: usize, const P: usize>(
-    was: Place<N, P>,
+/// A cycle of a place in which its stage computes, if it has one.
+fn compute_at<const N: usize, const P: usize>(
+    place: &mut Place<N, P>,
     prev: &Place<N, P>,
     conf: &Configuration<N, P>,
-    sample: &[u8],
+    buffers: &Buffers<N>,
     valid: bool,
-) -> Place<N, P>
-    requires here { IsHere (vec_len conf.now.stages) was }
+)
+    requires here { IsHere (vec_len conf.now.stages) place.old }
     requires prev { is_there prev.now ≡ true }
-    requires sample { length sample.now ≡ bytes_in (shape_of conf.now).inputs }
-    ensures step { seen result ≡ stepped (steps_of N P (shape_of conf.now)) (row_if valid sample.now) (seen was.entry) (shows (seen prev.now)) }
-    ensures here { IsHere (vec_len conf.now.stages) result }
+    requires sample { vec_len buffers.now.sample ≡ bytes_in (shape_of conf.now).inputs }
+    requires ready { AreReady (P - 1) (shape_of conf.now).stages buffers.now.prepared.items }
+    requires count { vec_len buffers.now.prepared ≡ vec_len conf.now.stages }
+    ensures step { seen place.new ≡ stepped (steps_of N P (shape_of conf.now)) (row_if valid buffers.now.sample.items) (seen place.old) (shows (seen prev.now)) }
+    ensures here { IsHere (vec_len conf.now.stages) place.new }
 {
-    match was {
-        Place::Live(mut stripe) => {
+    match place {
+        Place::Live(stripe) => {
             let number = stripe.stage_number();
             let row = row_at(prev);
             let valid = if number == 0 { valid } else { row.valid() };
-            stripe.compute(row, sample, valid, stage_at(conf, number));
-            Place::Live(stripe)
+            let prepared = &buffers.prepared[number as usize];
+            stripe.compute_prepared(
+                row,
+                &buffers.sample,
+                valid,
+                stage_at(conf, number),
+                prepared,
+            );
         }
-        other => other,
+        Place::Blank(_) | Place::Away => {}
     }
 }
 
@@ -105,21 +114,27 @@ fn step_at<const N: usize, const P: usize>(
     conf: &Configuration<N, P>,
     at: usize,
     from: usize,
-    sample: &[u8],
+    buffers: &Buffers<N>,
     valid: bool,
 )
     requires at { at < length places.old }
     requires from { from < length places.old }
     requires apart { at ≢ from }
     requires here { AreHere (vec_len conf.now.stages) places.old }
-    requires sample { length sample.now ≡ bytes_in (shape_of conf.now).inputs }
+    requires sample { vec_len buffers.now.sample ≡ bytes_in (shape_of conf.now).inputs }
+    requires ready { AreReady (P - 1) (shape_of conf.now).stages buffers.now.prepared.items }
+    requires count { vec_len buffers.now.prepared ≡ vec_len conf.now.stages }
     ensures others { (j : ℕ) → j ≢ at → place_at places.new j ≡ place_at places.old j }
-    ensures step { spots_of places.new at ≡ stepped (steps_of N P (shape_of conf.now)) (row_if valid sample.now) (spots_of places.old at) (shows (spots_of places.old from)) }
+    ensures step { spots_of places.new at ≡ stepped (steps_of N P (shape_of conf.now)) (row_if valid buffers.now.sample.items) (spots_of places.old at) (shows (spots_of places.old from)) }
     ensures here { IsHere (vec_len conf.now.stages) (place_at places.new at) }
 {
-    let was = mem::replace(&mut places[at], Place::Away);
-    let now = computed(was, &places[from], conf, sample, valid);
-    places[at] = now;
+    if at < from {
+        let (low, high) = places.split_at_mut(from);
+        compute_at(&mut low[at], &high[0], conf, buffers, valid);
+    } else {
+        let (low, high) = places.split_at_mut(at);
+        compute_at(&mut high[0], &low[from], conf, buffers, valid);
+    }
 }
 
 /// The event of a cycle: the stripe of a place is emptied into the store, and armed.
@@ -149,61 +164,75 @@ fn step_ring<const N: usize, const P: usize>(
     places: &mut [Place<N, P>],
     conf: &Configuration<N, P>,
     q: usize,
-    sample: &[u8],
+    buffers: &Buffers<N>,
     valid: bool,
 )
     requires at { q < length places.old }
-    requires two { 2 ≤ length places.old }
     requires small { length places.old ≤ 256 }
     requires here { AreHere (vec_len conf.now.stages) places.old }
-    requires sample { length sample.now ≡ bytes_in (shape_of conf.now).inputs }
-    ensures ring { IsRingStep (steps_of N P (shape_of conf.now)) (row_if valid sample.now) (length places.old) q (spots_of places.old) (spots_of places.new) }
+    requires sample { vec_len buffers.now.sample ≡ bytes_in (shape_of conf.now).inputs }
+    requires ready { AreReady (P - 1) (shape_of conf.now).stages buffers.now.prepared.items }
+    requires count { vec_len buffers.now.prepared ≡ vec_len conf.now.stages }
+    ensures ring { IsRingStep (steps_of N P (shape_of conf.now)) (row_if valid buffers.now.sample.items) (length places.old) q (spots_of places.old) (spots_of places.new) }
     ensures here { AreHere (vec_len conf.now.stages) places.new }
 {
     let n = places.len();
     for d in 0..n - 1 {
         let at = place_back(n, q, d);
-        step_at(places, conf, at, place_before(n, at), sample, valid);
+        step_at(places, conf, at, place_before(n, at), buffers, valid);
     }
 }
 
-/// Each place computes, and the first one last: it holds stage 0, which reads no other place, or no stage.
+/// Each place computes, and the first one last: it holds stage 0, which reads no other place, or no stage. From place
+/// `live` on there is no stage, so that nothing is to be done.
 fn step_line<const N: usize, const P: usize>(
     places: &mut [Place<N, P>],
     conf: &Configuration<N, P>,
-    sample: &[u8],
+    live: usize,
+    buffers: &Buffers<N>,
     valid: bool,
 )
     requires two { 2 ≤ length places.old }
     requires small { length places.old ≤ 256 }
+    requires live { live ≤ length places.old }
+    requires idle { AreIdle live (spots_of places.old) }
     requires here { AreHere (vec_len conf.now.stages) places.old }
-    requires sample { length sample.now ≡ bytes_in (shape_of conf.now).inputs }
-    ensures line { IsLineStep (steps_of N P (shape_of conf.now)) (row_if valid sample.now) (length places.old) (spots_of places.old) (spots_of places.new) }
+    requires sample { vec_len buffers.now.sample ≡ bytes_in (shape_of conf.now).inputs }
+    requires ready { AreReady (P - 1) (shape_of conf.now).stages buffers.now.prepared.items }
+    requires count { vec_len buffers.now.prepared ≡ vec_len conf.now.stages }
+    ensures line { IsLineStep (steps_of N P (shape_of conf.now)) (row_if valid buffers.now.sample.items) (length places.old) (spots_of places.old) (spots_of places.new) }
     ensures here { AreHere (vec_len conf.now.stages) places.new }
 {
-    step_ring(places, conf, 0, sample, valid);
-    step_at(places, conf, 0, places.len() - 1, sample, valid);
+    if live == 0 {
+        return;
+    }
+    step_ring(&mut places[..live], conf, 0, buffers, valid);
+    step_at(places, conf, 0, places.len() - 1, buffers, valid);
 }
 
 /// Each place computes, but that of the cycle's event where every cycle has one.
 fn compute<const N: usize, const P: usize>(
     places: &mut [Place<N, P>],
     conf: &Configuration<N, P>,
-    ring: Option<usize>,
-    sample: &[u8],
+    schedule: &Schedule,
+    buffers: &Buffers<N>,
     valid: bool,
 )
     requires two { 2 ≤ length places.old }
     requires small { length places.old ≤ 256 }
+    requires live { schedule.now.live ≤ length places.old }
+    requires idle { AreIdle schedule.now.live (spots_of places.old) }
     requires here { AreHere (vec_len conf.now.stages) places.old }
-    requires sample { length sample.now ≡ bytes_in (shape_of conf.now).inputs }
-    requires ring { IfSome ring (λ q. q < length places.old) }
-    ensures stepped { AreStepped (steps_of N P (shape_of conf.now)) (row_if valid sample.now) (length places.old) ring (spots_of places.old) (spots_of places.new) }
+    requires sample { vec_len buffers.now.sample ≡ bytes_in (shape_of conf.now).inputs }
+    requires ready { AreReady (P - 1) (shape_of conf.now).stages buffers.now.prepared.items }
+    requires count { vec_len buffers.now.prepared ≡ vec_len conf.now.stages }
+    requires ring { IfSome schedule.now.ring (λ q. q < length places.old) }
+    ensures stepped { AreStepped (steps_of N P (shape_of conf.now)) (row_if valid buffers.now.sample.items) (length places.old) schedule.now.ring (spots_of places.old) (spots_of places.new) }
     ensures here { AreHere (vec_len conf.now.stages) places.new }
 {
-    match ring {
-        None => step_line(places, conf, sample, valid),
-        Some(q) => step_ring(places, conf, q, sample, valid),
+    match schedule.ring {
+        None => step_line(places, conf, schedule.live, buffers, valid),
+        Some(q) => step_ring(places, conf, q, buffers, valid),
     }
 }
 
@@ -240,13 +269,14 @@ fn replace_stage<const N: usize, const P: usize>(
     }
 }
 
-/// What one cycle is to do: the stripe of the event, where every cycle has one, and the stripes in which the first and
-/// the last stage compute.
+/// What one cycle is to do: the stripe of the event, where every cycle has one, the stripes in which the first and the
+/// last stage compute, and the place from which on no stripe has a stage.
 #[derive(Clone, Copy)]
 pub struct Schedule {
     pub(crate) ring: Option<usize>,
     pub(crate) first: Option<usize>,
     pub(crate) last: Option<usize>,
+    pub(crate) live: usize,
 }
 
 /// What a cycle of the stripes did: whether a result left, and the stage that was saved.
@@ -338,7 +368,11 @@ pub(crate) fn pass<const N: usize, const P: usize>(
     requires here { AreHere (vec_len conf.now.stages) places.old }
     requires rows { length buffers.old.store ≡ vec_len conf.now.stages }
     requires sample { vec_len buffers.old.sample ≡ bytes_in (shape_of conf.now).inputs }
+    requires ready { AreReady (P - 1) (shape_of conf.now).stages buffers.old.prepared.items }
+    requires count { vec_len buffers.old.prepared ≡ vec_len conf.now.stages }
     requires buffer { bytes_in (output_widths (shape_of conf.now)) ≤ vec_capacity buffers.old.result }
+    requires live { schedule.now.live ≤ length places.old }
+    requires idle { AreIdle schedule.now.live (spots_of places.old) }
     requires ring { IfSome schedule.now.ring (λ q. q < length places.old) }
     requires last { IfSome schedule.now.last (λ i. i < length places.old) }
     requires inside { IsInside (vec_len conf.now.stages) (length places.old) event }
@@ -347,10 +381,10 @@ pub(crate) fn pass<const N: usize, const P: usize>(
     ensures length { result.left ≡ true → length buffers.new.result.items ≡ bytes_in (output_widths (shape_of conf.now)) }
     ensures rows { length buffers.new.store ≡ length buffers.old.store }
     ensures buffer { vec_capacity buffers.old.result ≤ vec_capacity buffers.new.result }
-    ensures others { (buffers.new.input ≡ buffers.old.input) × (buffers.new.output ≡ buffers.old.output) × (buffers.new.sample ≡ buffers.old.sample) }
+    ensures others { (buffers.new.input ≡ buffers.old.input) × (buffers.new.output ≡ buffers.old.output) × (buffers.new.sample ≡ buffers.old.sample) × (buffers.new.prepared ≡ buffers.old.prepared) }
     ensures here { AreHere (vec_len conf.now.stages) places.new }
 {
-    compute(places, conf, schedule.ring, &buffers.sample, entering);
+    compute(places, conf, schedule, buffers, entering);
     let left = leaving(places, conf, schedule.last, &mut buffers.result);
     let saved = replace_stage(places, &mut buffers.store, event);
     Passed { left, saved }

@@ -46,6 +46,18 @@ pub(crate) fn stage_of(alloc: Global, first: Pe, second: Pe) -> Result<Stage<16>
     Ok(Stage { pes })
 }
 
+/// A configuration of these stages, whose result is register 1 of column 0.
+pub(crate) fn configuration_of(
+    rt: &impl Abort,
+    alloc: Global,
+    inputs: Vec<u8>,
+    stages: Vec<Stage<16>>,
+) -> Result<Configuration<16, 8>, AllocError> {
+    let taps = vec![in alloc; Tap::Reg { col: 0, reg: 1 }]?;
+    let outputs = vec![in alloc; Output { width: 8, taps }]?;
+    Ok(Configuration::of(inputs, outputs, stages).expect(rt, "lawful parts"))
+}
+
 /// A machine with these stages, whose result is register 1 of column 0.
 pub(crate) fn machine_of(
     rt: &impl Abort,
@@ -55,9 +67,7 @@ pub(crate) fn machine_of(
     stripes: usize,
 ) -> Result<Machine<16, 8, Running>, AllocError> {
     assert!(rt; 2 <= stripes && stripes <= 256);
-    let taps = vec![in alloc; Tap::Reg { col: 0, reg: 1 }]?;
-    let outputs = vec![in alloc; Output { width: 8, taps }]?;
-    let conf = Configuration::of(inputs, outputs, stages).expect(rt, "lawful parts");
+    let conf = configuration_of(rt, alloc, inputs, stages)?;
     let bare = Machine::<16, 8, Bare>::make(alloc, stripes)?;
     Ok(bare.load(alloc, conf).ok().expect(rt, "memory"))
 }

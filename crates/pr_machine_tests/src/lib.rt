@@ -6,6 +6,8 @@ mod examples;
 #[cfg(test)]
 mod fabrics;
 #[cfg(test)]
+mod parking;
+#[cfg(test)]
 mod stripes;
 #[cfg(test)]
 mod trials;

@@ -1,10 +1,9 @@
 //! A queue of 16 pieces of one size, which takes no memory once it is made.
 #![tactic(auto)]
 
-ghost use Rattle.std.specs.Prelude.{◌≡◌, ◌+◌, ◌<◌, ◌≤◌, ◌↔◌, [], ◌∷◌, ◌++◌, length, IsErr, IfOk, OnOk, OnErr};
-ghost use Rattle.pr_queue.specs.Pieces.{Pieces};
+ghost use Rattle.std.specs.Prelude.{◌≡◌, ◌≢◌, ◌+◌, ◌*◌, ◌<◌, ◌≤◌, ◌↔◌, ℕ, [], ◌∷◌, ◌++◌, length, IsErr, IfOk, OnOk, OnErr};
+ghost use Rattle.pr_queue.specs.Pieces.{Pieces, slot};
 
-use circular_buffer::HeapCircularBuffer;
 use std::alloc::{AllocError, Global};
 use std::marker::Model;
 use thiserror::Error;
@@ -23,22 +22,44 @@ pub struct Full;
 pub struct Empty;
 
 /// Pieces of one size, first in, first out: seen by contracts as the size and the list of the pieces that wait.
+///
+/// They lie in slots that go round, from the slot `head` on.
 #[derive(Drop)]
 pub struct Queue {
-    ring: HeapCircularBuffer<u8>,
+    slots: Vec<u8>,
     size: usize,
+    head: usize,
     count: usize,
 }
 
 impl Model for Queue {
-    ghost use Rattle.std.specs.Prelude.{◌≡◌, ◌*◌, ◌<◌, ◌≤◌, length};
-    ghost use Rattle.pr_queue.specs.Pieces.{Pieces, pieces_of};
+    ghost use Rattle.std.specs.Prelude.{◌≡◌, ◌*◌, ◌<◌, ◌≤◌, vec_len};
+    ghost use Rattle.pr_queue.specs.Pieces.{Pieces, pieces_from};
 
     ghost Value = { Pieces };
 
-    ghost view = { λ q. record { size = q.size; waiting = pieces_of q.count q.size q.ring.items } };
+    ghost view = { λ q. record { size = q.size; waiting = pieces_from q.head q.count q.size q.slots.items } };
 
-    ghost invariant = { λ q. (length q.ring.items ≡ q.count * q.size) × (q.count ≤ 16) × (q.ring.capacity ≡ 16 * q.size) × (0 < q.size) };
+    ghost invariant = { λ q. (vec_len q.slots ≡ 16 * q.size) × (q.count ≤ 16) × (q.head < 16) × (0 < q.size) };
+}
+
+/// Fills a slot of as many bytes as the piece has.
+fn fill_slot(slots: &mut [u8], at: usize, piece: &[u8])
+    requires { (at + 1) * length piece.now ≤ length slots.old }
+    ensures here { slot (length piece.now) slots.new at ≡ piece.now }
+    ensures others { (k : ℕ) → k ≢ at → slot (length piece.now) slots.new k ≡ slot (length piece.now) slots.old k }
+{
+    let start = at * piece.len();
+    slots[start..start + piece.len()].copy_from_slice(piece);
+}
+
+/// Fills a piece from a slot of as many bytes.
+fn read_slot(into: &mut [u8], slots: &[u8], at: usize)
+    requires { (at + 1) * length into.old ≤ length slots.now }
+    ensures { into.new ≡ slot (length into.old) slots.now at }
+{
+    let start = at * into.len();
+    into.copy_from_slice(&slots[start..start + into.len()]);
 }
 
 impl Queue {
@@ -48,10 +69,11 @@ impl Queue {
         requires high { bytes ≤ 1024 }
         ensures { IfOk result (λ q. q ≡ record { size = bytes; waiting = [] }) }
     {
-        let ring = HeapCircularBuffer::with_capacity(alloc, ROOM * bytes)?;
+        let slots = vec![in alloc; 0; ROOM * bytes]?;
         Ok(Queue {
-            ring,
+            slots,
             size: bytes,
+            head: 0,
             count: 0,
         })
     }
@@ -80,7 +102,8 @@ impl Queue {
         if self.count == ROOM {
             return Err(Full);
         }
-        self.ring.fill_from_slice(piece);
+        let at = (self.head + self.count) % ROOM;
+        fill_slot(&mut self.slots, at, piece);
         self.count += 1;
         Ok(())
     }
@@ -101,7 +124,8 @@ impl Queue {
         if self.count == 0 {
             return Err(Empty);
         }
-        self.ring.read_into(into);
+        read_slot(into, &self.slots, self.head);
+        self.head = (self.head + 1) % ROOM;
         self.count -= 1;
         Ok(())
     }

@@ -31,7 +31,7 @@ rows_after (Got.BadSample line) rows numbers = rows
 rows_after Got.ReadFault rows numbers = rows
 rows_after (Got.Limit cap) rows numbers = rows
 
-same_file : (a b c : Feed) → SameFile a b → SameFile b c → SameFile a c
+pub same_file : (a b c : Feed) → SameFile a b → SameFile b c → SameFile a c
 same_file a b c h g = record { name = g.name ∙ h.name; widths = g.widths ∙ h.widths; limit = g.limit ∙ h.limit; most = g.most ∙ h.most }
 
 pub fed_same : (a b : Feed) (file : List ℕ) → SameFile a b → fed b file ≡ fed a file
@@ -40,12 +40,12 @@ fed_same a b file h =
     ∙ (ap (λ n. fed_of (widths_of a) n b.most file) h.limit ∙ ap (λ n. fed_of (widths_of a) a.limit n file) h.most)
 
 -- the numbers that a sample gave
-more_rows : (rows samples : List (List ℕ)) (g : ℕ) (numbers : List ℕ) → rows ≡ take g samples → slice_get samples g ≡ Some numbers → rows ++ numbers ∷ [] ≡ take (g + 1) samples
+pub more_rows : (rows samples : List (List ℕ)) (g : ℕ) (numbers : List ℕ) → rows ≡ take g samples → slice_get samples g ≡ Some numbers → rows ++ numbers ∷ [] ≡ take (g + 1) samples
 more_rows rows samples g numbers first e =
     ap (λ xs. xs ++ numbers ∷ []) first
     ∙ (ap (λ x. take g samples ++ x ∷ []) (sym (get_or_from_slice_get samples g numbers [] e)) ∙ sym (take_more samples g [] (slice_get_within samples g numbers e)))
 
-none_more : (rows samples : List (List ℕ)) (g g' : ℕ) → rows ≡ take g samples → g' ≡ g + 0 → rows ≡ take g' samples
+pub none_more : (rows samples : List (List ℕ)) (g g' : ℕ) → rows ≡ take g samples → g' ≡ g + 0 → rows ≡ take g' samples
 none_more rows samples g g' first e = first ∙ ap (λ n. take n samples) (omega (arith, e))
 
 read_more : (s : Setting) (f f' : Feed) (file : List ℕ) (rows : List (List ℕ)) (numbers : List ℕ) (got : Got) → SameFile s.feed f → SameFile f f' → given_of f' ≡ given_of f + given_by got
@@ -62,7 +62,7 @@ read_more s f f' file rows numbers (Got.BadSample line) old new given h g = reco
 read_more s f f' file rows numbers Got.ReadFault old new given h g = record { first = none_more rows (fed s.feed file).samples (given_of f) (given_of f') h.first given; ends = g }
 read_more s f f' file rows numbers (Got.Limit cap) old new given h g = record { first = none_more rows (fed s.feed file).samples (given_of f) (given_of f') h.first given; ends = g }
 
-count_more : (rows : List (List ℕ)) (numbers : List ℕ) (got : Got) (g g' : ℕ) → g ≡ length rows → g' ≡ g + given_by got → g' ≡ length (rows_after got rows numbers)
+pub count_more : (rows : List (List ℕ)) (numbers : List ℕ) (got : Got) (g g' : ℕ) → g ≡ length rows → g' ≡ g + given_by got → g' ≡ length (rows_after got rows numbers)
 count_more rows numbers Got.Sample g g' e h = let n = length-append rows (numbers ∷ []) in omega (arith, e, h, n)
 count_more rows numbers Got.End g g' e h = omega (arith, e, h)
 count_more rows numbers (Got.BadSample line) g g' e h = omega (arith, e, h)

@@ -104,7 +104,7 @@ few_turns s k m f now t last set on =
     let grow = drain_grow v s.stripes (length xs) (2 ^ 40) set.two (omega (arith, n, given)) in
     omega (arith, few, grow)
 
-drain_few : (v p : ℕ) → v ≤ 32768 → 2 ≤ p → p ≤ 256 → drain v p (2 ^ 40) ≤ 2 ^ 56
+pub drain_few : (v p : ℕ) → v ≤ 32768 → 2 ≤ p → p ≤ 256 → drain v p (2 ^ 40) ≤ 2 ^ 56
 drain_few v p few two most =
     let q = (2 ^ 40 + (p - 2)) / (p - 1) in
     elim (cases_lt p v) [

@@ -43,8 +43,8 @@ fn put_sample(into: &mut [u8], widths: &[u8], numbers: &[Num])
     }
 }
 
-/// Offers a sample, for which there is room.
-fn offer_sample<const N: usize, const P: usize>(
+/// Offers a sample of these numbers, for which there is room. The first bytes of the buffer of 64 are overwritten.
+pub fn offer_sample<const N: usize, const P: usize>(
     machine: &mut Machine<N, P, Running>,
     bytes: &mut [u8],
     numbers: &[Num],

@@ -11,7 +11,9 @@ mod rooms;
 mod runs;
 mod turning;
 
+pub use draining::put_widths;
 pub use ending::RunEnd;
+pub use feeding::{goes_on, offer_sample};
 pub use rooms::Room;
 pub use runs::run;
 

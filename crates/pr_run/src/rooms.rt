@@ -8,9 +8,12 @@ use std::alloc::{AllocError, Global};
 /// the 1,024 bytes of 64 outputs of the greatest width.
 #[derive(Drop)]
 pub struct Room {
-    pub(crate) numbers: Vec<Num>,
-    pub(crate) sample: Vec<u8>,
-    pub(crate) result: Vec<u8>,
+    /// 64 numbers.
+    pub numbers: Vec<Num>,
+    /// The bytes of a sample, 64 at most.
+    pub sample: Vec<u8>,
+    /// The bytes of a result, 1,024 at most.
+    pub result: Vec<u8>,
     pub ghost numbers_size: { vec_len numbers ≡ 64 },
     pub ghost sample_size: { vec_len sample ≡ 64 },
     pub ghost result_size: { vec_len result ≡ 1024 },

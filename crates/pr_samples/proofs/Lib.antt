@@ -2,7 +2,9 @@ pub mod ScanLemmas
 pub mod WordLemmas
 pub mod FedLemmas
 pub mod ReadingLemmas
+pub mod WrongLines
 pub mod Reading
+pub mod SeenLemmas
 pub mod StallLemmas
 pub mod ResultLemmas
 pub mod CutLaw

@@ -6,10 +6,12 @@ use Rattle.std.proofs.lemmas.List.{length-take, length-take-le, take_all, take-a
 use Rattle.pr_edge.specs.Files.{Told, OfFile, IsPart}
 use Rattle.pr_samples.specs.declared.tails.Tail.{Tail}
 use Rattle.pr_samples.specs.declared.feed.Feed.{Feed}
-use Rattle.pr_samples.specs.Fed.{Taken, Fed, fed_text, fed_within}
+use Rattle.pr_samples.specs.declared.scan.Phase.{Phase}
+use Rattle.pr_samples.specs.Fed.{Taken, Fed, BadSample, fed_text, fed_within}
 use Rattle.pr_samples.specs.Scan.{Scan, Found, first_line}
-use Rattle.pr_samples.specs.Feed.{SameFile, SameBytes, Tells, IsReadBy, StandsFor, IsMet, pending_of, tail_after, fed, whole_samples}
+use Rattle.pr_samples.specs.Feed.{SameFile, SameBytes, Tells, IsReadBy, StandsFor, IsMet, IsOver, pending_of, tail_after, fed, whole_samples}
 use Rattle.pr_samples.proofs.ReadingLemmas.{window-none, IsReading-read, IsReading-move, IsMeeting-found, IsReading-fault}
+use Rattle.pr_samples.proofs.WrongLines.{IsReading-bad}
 
 -- how much is left to do at the end of the bytes that were read
 abbrev pub tail_weight : Tail → ℕ
@@ -68,3 +70,10 @@ open_gave_whole f file h more is_open =
     let count = ap (λ text. length (fed_text f.widths.items f.most 0 Tail.Open text).samples) whole ∙ ap (λ (x : Fed). length x.samples) read in
     let first : length (take f.given samples) ≡ f.given = length-take-le f.given samples h.counted in
     omega (arith, more, count, first, length-append {A = List ℕ})
+
+-- a feed whose line is bad
+pub wrong_step : (f : Feed) (s : Scan) (file : List ℕ) → IsReadBy f s file → f.start ≡ f.end → s.phase ≡ Phase.Wrong → IsOver f file (BadSample (f.passed + 1))
+wrong_step f s file h spent wrong =
+    let none : pending_of f ≡ [] = window-none f.start f.end f.buffer.items spent in
+    let over = IsReading-bad _ _ _ _ _ _ _ _ _ (rw none at h) wrong in
+    record { all = over.0; ends = over.1 }

@@ -35,7 +35,7 @@ whole_file tail widths limit most place file rest h t all =
     ap (fed_text widths most 0 (tail_of limit file)) (sym (take-append-drop place (take limit file))) ∙ all (tail_of limit file) (drop place (take limit file)) (may_follow tail limit place file h t)
 
 -- nothing comes after the first of a list
-over_front : (given : ℕ) (samples : List (List ℕ)) → samples ≡ take given samples ++ [] → given ≤ length samples → given ≡ length samples
+pub over_front : (given : ℕ) (samples : List (List ℕ)) → samples ≡ take given samples ++ [] → given ≤ length samples → given ≡ length samples
 over_front given samples e h =
     let n : length samples ≡ given = ap length (e ∙ append-nil (take given samples)) ∙ length-take-le given samples h in
     sym n

@@ -1,7 +1,7 @@
 -- What a feed stands for.
 use Rattle.std.specs.Prelude.{◌≡◌, ◌≢◌, ℕ, ◌+◌, ◌-◌, ◌<◌, ◌≤◌, ◌⊎◌, ◌==◌, not, nat_lt, if◌then◌else◌, Bool, true, List, [], ◌++◌, length, take, drop, ⊤, Some, None, slice_get, string_bytes}
 use Rattle.std.specs.List.{list_any}
-use Rattle.pr_edge.specs.Files.{Told}
+use Rattle.pr_edge.specs.Files.{Told, OfFile}
 use Rattle.pr_samples.specs.declared.tails.Tail.{Tail}
 use Rattle.pr_samples.specs.declared.feed.Feed.{Feed}
 use Rattle.pr_samples.specs.declared.feed.Got.{Got}
@@ -145,3 +145,22 @@ Gives Got.End given f numbers file = IsOver f file End
 Gives (Got.BadSample line) given f numbers file = IsOver f file (BadSample line)
 Gives (Got.Limit cap) given f numbers file = IsOver f file (Limit cap)
 Gives Got.ReadFault given f numbers file = f.given ≡ length (fed_within f.widths.items f.limit f.most file f.place).samples
+
+-- ---- a file by the bytes that were read of it
+-- the file begins with these bytes, and where its end was met it has no others
+pub record Begins (tail : Tail) (bytes file : List ℕ) : Type 0 where
+  pub rest : List ℕ
+  pub whole : file ≡ bytes ++ rest
+  pub end : tail ≡ Tail.Ended → rest ≡ []
+
+-- these are the bytes that a feed has read
+pub record IsSeen (told : Told) (bytes : List ℕ) (f : Feed) : Type 0 where
+  pub count : length bytes ≡ place_of f
+  pub file : OfFile told (name_of f) (Begins f.tail bytes)
+
+-- a feed that had read some bytes has read on, and this holds of every file that begins so
+pub record ReadsOn (told : Told) (old : List ℕ) (before now : Feed) (Holds : List ℕ → Type 0) : Type 0 where
+  pub bytes : List ℕ
+  pub seen : IsSeen told bytes now
+  pub began : (file : List ℕ) → Begins now.tail bytes file → Begins before.tail old file
+  pub holds : (file : List ℕ) → Begins now.tail bytes file → Holds file

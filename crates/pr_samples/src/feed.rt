@@ -1,15 +1,16 @@
 //! Samples that are read one after the other from a file of any size.
-ghost use Rattle.std.specs.Prelude.{◌≡◌, ◌≢◌, ℕ, ◌+◌, ◌-◌, ◌*◌, ◌^◌, ◌<◌, ◌≤◌, ◌⊎◌, ◌++◌, List, All, false, take, length, vec_len, Option, Some, None, IfOk, IfSome, IfNone, IsErr, string_bytes};
+ghost use Rattle.std.specs.Prelude.{◌≡◌, ◌≢◌, ◌↔◌, ℕ, ◌+◌, ◌-◌, ◌*◌, ◌^◌, ◌<◌, ◌≤◌, ◌⊎◌, ◌++◌, List, All, false, take, length, nat_lt, vec_len, Option, Some, None, IfOk, IfSome, IfNone, IsErr, IsTrue, OnErr, string_bytes};
 ghost use Rattle.pr_edge.specs.Files.{IsMissing, HasReadCause, IsPart};
 ghost use Rattle.pr_samples.specs.declared.tails.Tail.{Tail};
 ghost use Rattle.pr_samples.specs.declared.scan.Met.{Met};
+ghost use Rattle.pr_samples.specs.declared.scan.Phase.{Phase};
 ghost use Rattle.pr_samples.specs.Scan.{scan_of, first_line, begun, taken_of, met_first, whole_end, cut_end};
 ghost use Rattle.pr_samples.specs.Got.{is_sample, given_by};
 
-use crate::scan::{Cursor, Met, START, met_cut, met_whole, read_part};
+use crate::scan::{Cursor, Met, Phase, START, met_cut, met_whole, read_part};
 use crate::tails::Tail;
 use pr_base::{Cap, Num};
-use pr_edge::Shelf;
+use pr_edge::{Failed, Shelf};
 use std::alloc::{AllocError, Global};
 
 /// The bytes of the buffer of a feed.
@@ -61,10 +62,21 @@ pub struct Feed {
     ghost low: { limit ≤ 2 ^ 44 },
     ghost few: { given ≤ most },
     ghost open: { tail ≡ Tail.Open → place ≤ limit },
+    ghost cut: { tail ≡ Tail.Cut → limit < place },
+}
+
+/// Whether no lawful line begins as the line that was read so far.
+fn is_wrong(cursor: Cursor) -> bool
+    ensures { IsTrue result ↔ (cursor.phase ≡ Phase.Wrong) }
+{
+    match cursor.phase {
+        Phase::Wrong => true,
+        Phase::Gap | Phase::Number(_) | Phase::Closed => false,
+    }
 }
 
 impl Feed {
-    ghost use Rattle.pr_samples.specs.Feed.{name_of, widths_of, limit_of, most_of, given_of, place_of, pending_of, reads_nothing, has_line, IsReady, SameFile, SameBytes, StandsFor, IsReadBy, IsMet, Tells, Gives, tail_after};
+    ghost use Rattle.pr_samples.specs.Feed.{name_of, widths_of, limit_of, most_of, given_of, place_of, pending_of, reads_nothing, has_line, IsReady, SameFile, SameBytes, StandsFor, IsReadBy, IsMet, Tells, Gives, IsSeen, ReadsOn, tail_after};
 
     /// A feed over the file of this name, with an input of each of these widths.
     pub fn make(alloc: Global, name: &str, widths: &[u8]) -> Result<Feed, AllocError>
@@ -99,7 +111,7 @@ impl Feed {
     }
 
     /// A feed that gives at most so many samples from so many bytes.
-    fn make_bounded(
+    pub fn make_bounded(
         alloc: Global,
         name: &str,
         widths: &[u8],
@@ -196,6 +208,7 @@ impl Feed {
         ensures fault { result ≢ Got.ReadFault }
         ensures file { SameFile self.old self.new }
         ensures place { place_of self.new ≡ place_of self.old }
+        ensures tail { self.new.tail ≡ self.old.tail }
     {
         match met {
             Met::Skipped => Got::End,
@@ -224,6 +237,7 @@ impl Feed {
         ensures fault { result ≢ Got.ReadFault }
         ensures file { SameFile self.old self.new }
         ensures place { place_of self.new ≡ place_of self.old }
+        ensures tail { self.new.tail ≡ self.old.tail }
     {
         match self.tail {
             Tail::Cut => {
@@ -237,13 +251,15 @@ impl Feed {
         }
     }
 
-    /// Reads on until a line is over that is not blank, and answers it.
+    /// Reads on until a line that is not blank is over, or bad, and answers it.
     fn read_on<S: Shelf>(&mut self, shelf: &mut S, cursor: Cursor, into: &mut [Num]) -> Got
         requires into { length into.old ≡ length (widths_of self.old) }
         requires room { cursor.done + begun cursor.phase ≤ length (widths_of self.old) }
         requires spent { self.old.start ≡ self.old.end }
         requires open { self.old.tail ≡ Tail.Open }
-        ensures told { (file : List ℕ) → Tells (S.told shelf.old) (name_of self.old) file → IsReadBy self.old (scan_of (widths_of self.old) self.old.numbers.items cursor) file → Gives result (given_of self.old) self.new into.new file }
+        requires fresh { cursor.phase ≢ Phase.Wrong }
+        ensures seen { (bytes : List ℕ) → IsSeen (S.told shelf.old) bytes self.old → ReadsOn (S.told shelf.old) bytes self.old self.new
+            (λ file. IsReadBy self.old (scan_of (widths_of self.old) self.old.numbers.items cursor) file → Gives result (given_of self.old) self.new into.new file) }
         ensures given { given_of self.new ≡ given_of self.old + given_by result }
         ensures into { (is_sample result ≡ false) → into.new ≡ into.old }
         ensures file { SameFile self.old self.new }
@@ -256,6 +272,11 @@ impl Feed {
     {
         let mut cursor = cursor;
         while self.tail.is_open() {
+            if is_wrong(cursor) {
+                return Got::BadSample {
+                    line: self.passed + 1,
+                };
+            }
             match shelf.read_at(self.name.as_str(), self.place, &mut self.buffer) {
                 Err(_) => return Got::ReadFault,
                 Ok(count) => self.advance(count),
@@ -271,13 +292,18 @@ impl Feed {
 
     /// Gives the next sample: the numbers of the next line that is not blank, one for each input.
     ///
-    /// It reads the file only where no such line stands whole in the bytes that it read before. `into` is left as it
-    /// was where no sample is given. A feed that answered otherwise than with a sample has nothing more to give.
+    /// It reads the file only where no such line stands whole in the bytes that it read before, and no further than up to a
+    /// byte at which a line is bad. `into` is left as it was where no sample is given. A feed that answered otherwise than with a sample has nothing more to give.
     pub fn next<S: Shelf>(&mut self, shelf: &mut S, into: &mut [Num]) -> Got
         requires { length into.old ≡ length (widths_of self.old) }
 
         // Where the bytes of the file are told, and the feed has given its first samples.
         ensures told { (file : List ℕ) → Tells (S.told shelf.old) (name_of self.old) file → StandsFor self.old file → Gives result (given_of self.old) self.new into.new file }
+
+        // Where they are not told too, they are bytes of some file, and the sample is that of every file that begins so.
+        ensures seen { (bytes : List ℕ) → IsSeen (S.told shelf.old) bytes self.old → ReadsOn (S.told shelf.old) bytes self.old self.new
+            (λ file. StandsFor self.old file → Gives result (given_of self.old) self.new into.new file) }
+
         ensures given { given_of self.new ≡ given_of self.old + given_by result }
         ensures into { (is_sample result ≡ false) → into.new ≡ into.old }
         ensures file { SameFile self.old self.new }
@@ -295,10 +321,36 @@ impl Feed {
         if let Some(met) = met {
             return self.settle(met, self.passed, into);
         }
+        if is_wrong(cursor) {
+            return Got::BadSample {
+                line: self.passed + 1,
+            };
+        }
         if self.tail.is_open() {
             return self.read_on(shelf, cursor, into);
         }
         self.finish(cursor, into)
+    }
+
+    /// Reads on to the end of the file, or past the limit of bytes: whether the file has more bytes than that.
+    ///
+    /// The lines that it reads are given no more.
+    pub fn is_too_long<S: Shelf>(&mut self, shelf: &mut S) -> Result<bool, Failed>
+        ensures seen { (bytes : List ℕ) → IsSeen (S.told shelf.old) bytes self.old → ReadsOn (S.told shelf.old) bytes self.old self.new
+            (λ file. IfOk result (λ long. long ≡ nat_lt (limit_of self.old) (length file))) }
+        ensures file { SameFile self.old self.new }
+        ensures cause { OnErr result (HasReadCause (S.told shelf.old) (name_of self.old) (S.faults shelf.old) (S.faults shelf.new)) }
+        ensures later { S.faults shelf.old ≤ S.faults shelf.new }
+        ensures same { S.told shelf.new ≡ S.told shelf.old }
+        ensures others { (q : List ℕ) → q ≢ name_of self.old → S.reach shelf.new q ≡ S.reach shelf.old q }
+    {
+        self.start = self.end;
+        while self.tail.is_open() {
+            let count = shelf.read_at(self.name.as_str(), self.place, &mut self.buffer)?;
+            self.advance(count);
+            self.start = self.end;
+        }
+        Ok(self.place > self.limit)
     }
 }
 

@@ -114,6 +114,10 @@ fn bad_line(rt: HostRuntime) -> Result<(), Fail> {
     let (pairs, got) = fed(rt.alloc(), b"5 3\n255 1\n7 x\n1 1\n2 2\n")?;
     assert_eq!(rt; pairs.as_slice(), [(5, 3), (255, 1)].as_slice());
     assert_eq!(rt; got, Got::BadSample { line: 3 });
+    // Nothing is read after the byte at which a line is bad: a second read would fail.
+    let (pairs, got) = fed_slowly(rt.alloc(), b"5 3\nx", 65_536, 2)?;
+    assert_eq!(rt; pairs.as_slice(), [(5, 3)].as_slice());
+    assert_eq!(rt; got, Got::BadSample { line: 2 });
     Ok(())
 }
 
@@ -223,6 +227,24 @@ fn table_of_bounds(rt: HostRuntime) -> Result<(), Fail> {
         let (pairs, got) = fed_within(rt.alloc(), text, most, limit.min(LIMIT))?;
         assert_eq!(rt; pairs.len(), count);
         assert_eq!(rt; got, ending);
+    }
+    Ok(())
+}
+
+#[test]
+fn files_past_the_limit(rt: HostRuntime) -> Result<(), Fail> {
+    for (limit, long) in [(8, true), (9, false), (10, false)] {
+        let mut files = Vec::new(rt.alloc());
+        let name = String::from_str(rt.alloc(), "s")?;
+        files.push((name, Vec::from_slice(rt.alloc(), b"x\n1 2\n3 4")?))?;
+        let mut shelf = MemShelf::make(rt.alloc(), files, Vec::new(rt.alloc()))?;
+        let mut feed = Feed::make_bounded(rt.alloc(), "s", &[8, 8], 9, limit)?;
+        let mut into = [0; 2];
+        assert_eq!(rt;
+            feed.next(&mut shelf, &mut into),
+            Got::BadSample { line: 1 }
+        );
+        assert_eq!(rt; feed.is_too_long(&mut shelf)?, long);
     }
     Ok(())
 }

@@ -1,4 +1,4 @@
-use Rattle.std.proofs.Common.{◌≡◌, ◌==◌, ◌∙◌, slice_index, sym}
+use Rattle.std.proofs.Common.{◌==◌, ◌∙◌, slice_index, sym}
 use Rattle.pr_code.specs.Spelling.{format_1}
 use Rattle.pr_code.specs.Reading.{words_of_bytes, shape_in}
 use Rattle.pr_code.specs.Rules.{format_of, bad_word}

@@ -1,4 +1,4 @@
-use Rattle.std.proofs.Common.{◌≡◌, ◌∙◌, sym, drop, true}
+use Rattle.std.proofs.Common.{◌∙◌, sym, drop, true}
 use Rattle.pr_code.specs.Reading.{words_of_bytes, shape_in}
 use Rattle.pr_code.specs.Marks.{count_of}
 use Rattle.pr_code.proofs.MarkLemmas.{mark_whole}

@@ -7,11 +7,11 @@ use Rattle.pr_cut_ops.proofs.compared.both_multiplied.Goals as goal
 pub returns-clause-units : goal.returns-clause-units
 returns-clause-units c =
     let us = c.both_widened.new.units.items in
-    let making : List Slice → List Slice → Making = λ x y. product c.args.e x c.args.wa y c.args.wb in
+    let making : List Slice → List Slice → Making = λ x y. product c.args.e x c.args.widths.0 y c.args.widths.1 in
     c.in_ok-all.ensures.units ∙ ap₂ (λ (x y : List Slice). us ++ (making x y (length us)).units) c.deref.ensures.value c.deref-2.ensures.value ∙ c.in_ok-both.ensures.units making
 
 pub returns-clause-slices : goal.returns-clause-slices
 returns-clause-slices c =
     let us = c.both_widened.new.units.items in
-    let making : List Slice → List Slice → Making = λ x y. product c.args.e x c.args.wa y c.args.wb in
+    let making : List Slice → List Slice → Making = λ x y. product c.args.e x c.args.widths.0 y c.args.widths.1 in
     c.in_ok-all.ensures.slices ∙ ap₂ (λ (x y : List Slice). (making x y (length us)).slices) c.deref.ensures.value c.deref-2.ensures.value ∙ c.in_ok-both.ensures.slices making

@@ -2,6 +2,7 @@ use Rattle.std.proofs.Common.{◌≡◌, List, length, length-append, refl, ap, 
 use Rattle.pr_base.specs.declared.caps.Cap.{Cap}
 use Rattle.pr_net.specs.declared.cells.Cell.{Cell}
 use Rattle.pr_cut_units.proofs.CountTable.{takes_shifted}
+use Rattle.pr_cutmul.proofs.Values.{shows_shift}
 use Rattle.pr_cutmul.proofs.rows.shift_rows.Goals as goal
 
 pub returns-then-len-from-gt-MOST_UNITS-clause-limit : goal.returns-then-len-from-gt-MOST_UNITS-clause-limit
@@ -21,3 +22,6 @@ returns-clause-within c =
 
 pub returns-clause-passed : goal.returns-clause-passed
 returns-clause-passed c = λ many. absurd (let count = (takes_shifted c.args.left c.args.wa c.args.by.now c.args.wby c.args.a.now).at (length c.args.net.now.units.items) in omega (arith, count, many, c.args.net.now.units.ok.0))
+
+pub returns-clause-value : goal.returns-clause-value
+returns-clause-value c = λ some few. shows_shift c.args.net.now.units.items c.shifted_by.new.units.items c.args.left c.args.wa c.args.wby c.args.a.now c.args.by.now _ c.in_ok-slices.ensures.units c.in_ok-slices.ensures.slices some few

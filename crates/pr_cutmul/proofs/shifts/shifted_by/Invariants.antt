@@ -6,6 +6,6 @@ use Rattle.pr_cutmul.proofs.shifts.shifted_by.Given as goal
 abbrev pub invariant-loop-j : goal.invariant-loop-j
 invariant-loop-j l = record {
   grows : length l.units.items ≤ length l.fn.units.items + l.j;
-  units : l.units.items ++ (in_turn (shift_row l.left l.w l.by) l.j (l.bits - l.j) l.before.items (length l.units.items)).units ≡ l.fn.units.items ++ (shifted_by l.left l.w l.by l.bits l.x (length l.fn.units.items)).units;
-  slices : (in_turn (shift_row l.left l.w l.by) l.j (l.bits - l.j) l.before.items (length l.units.items)).slices ≡ (shifted_by l.left l.w l.by l.bits l.x (length l.fn.units.items)).slices;
+  units : l.units.items ++ (in_turn (shift_row l.shift.left l.shift.w l.shift.by.now) l.j (l.shift.bits - l.j) l.before.items (length l.units.items)).units ≡ l.fn.units.items ++ (shifted_by l.shift.left l.shift.w l.shift.by.now l.shift.bits l.x (length l.fn.units.items)).units;
+  slices : (in_turn (shift_row l.shift.left l.shift.w l.shift.by.now) l.j (l.shift.bits - l.j) l.before.items (length l.units.items)).slices ≡ (shifted_by l.shift.left l.shift.w l.shift.by.now l.shift.bits l.x (length l.fn.units.items)).slices;
 }

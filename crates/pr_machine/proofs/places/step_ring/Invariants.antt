@@ -11,6 +11,6 @@ use Rattle.pr_machine.proofs.places.step_ring.Given as goal
 -- a place that is less than d behind q has computed, from what it and the one before it were; each other is as it was
 abbrev pub invariant-loop-d : goal.invariant-loop-d
 invariant-loop-d g l = record {
-  turn : IsTurn V.Away (λ old prev new. seen new ≡ stepped (steps_of g.row.N g.row.P (shape_of l.conf)) (row_if l.valid l.sample) (seen old) (shows (seen prev))) l.n l.q l.d l.fn.places l.places;
+  turn : IsTurn V.Away (λ old prev new. seen new ≡ stepped (steps_of g.row.N g.row.P (shape_of l.conf)) (row_if l.valid l.buffers.sample.items) (seen old) (shows (seen prev))) l.n l.q l.d l.fn.places l.places;
   here : AreHere (vec_len l.conf.stages) l.places;
 }

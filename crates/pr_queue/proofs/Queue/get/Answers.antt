@@ -1,19 +1,17 @@
-use Rattle.std.proofs.Common.{sym, ap, ◌∙◌, arith, refl}
-use Rattle.circular_buffer.specs.Buffer.{Buffer}
-use Rattle.pr_queue.specs.Pieces.{Pieces}
-use Rattle.pr_queue.proofs.PiecesLemmas.{pieces_of-get, same_pieces, taken, IsTaken}
+use Rattle.std.proofs.Common.{◌+◌, ◌%◌, ◌-◌, ◌∷◌, sym, ap, ◌∙◌, arith, refl}
+use Rattle.pr_queue.specs.Pieces.{Pieces, pieces_from, slot}
+use Rattle.pr_queue.proofs.PiecesLemmas.{in_slots, pieces_get, same_pieces}
 use Rattle.pr_queue.proofs.Queue.get.Goals as goal
 
-taken_of : (c : goal.After-self-1) → IsTaken c.self.inside.count c.self.inside.size c.self.inside.ring.items c.read_into.new.dst c.read_into.new.self.items
-taken_of c =
+pub read_slot-requires : goal.read_slot-requires
+read_slot-requires c =
+    let q = c.self.inside in
     let size_is = ap (λ (p : Pieces). p.size) c.self.view_is in
-    taken c.self.inside.count c.self.inside.size c.read_into.result c.self.inside.ring.items c.args.into.now c.read_into.new.dst c.read_into.new.self.items
-    c.if-self-eq0.false c.self.invariant.0 (c.requires ∙ sym size_is) c.read_into.ensures.count c.read_into.ensures.read (ap (λ (b : Buffer _). b.items) c.read_into.ensures.items)
-
-pub invariant_of-self : goal.invariant_of-self
-invariant_of-self c = ((taken_of c).left, omega (arith, c.self.invariant.1), ap (λ (b : Buffer _). b.capacity) c.read_into.ensures.items ∙ c.self.invariant.2, c.self.invariant.3)
+    in_slots q.head _ q.size _ (omega (arith, c.self.invariant.2)) (c.requires ∙ sym size_is) (c.deref.ensures.len ∙ c.self.invariant.0)
 
 pub returns-clause-got : goal.returns-clause-got
 returns-clause-got c =
-    let t = taken_of c in
-    sym c.self.view_is ∙ same_pieces refl (pieces_of-get c.self.inside.count c.self.inside.size c.self.inside.ring.items (omega arith) ∙ rw (t.first, t.others) refl)
+    let q = c.self.inside in
+    let size_is = ap (λ (p : Pieces). p.size) c.self.view_is in
+    let read = c.read_slot.ensures ∙ ap (λ n. slot n c.deref.result.now q.head) (c.requires ∙ sym size_is) ∙ ap (λ b. slot q.size b q.head) c.deref.ensures.value in
+    sym c.self.view_is ∙ same_pieces refl (pieces_get q.head q.count q.size q.slots.items c.if-self-eq0.false ∙ ap (λ x. x ∷ pieces_from ((q.head + 1) % 16) (q.count - 1) q.size q.slots.items) (sym read))

@@ -24,6 +24,7 @@ returns-in-Skipped c = record {
   fault = search rules;
   file = search rules;
   place = refl;
+  tail = refl;
 }
 
 pub returns-in_default-met_whole : goal.returns-in_default-met_whole
@@ -41,4 +42,5 @@ returns-in_default-met_whole c = record {
   fault = search rules;
   file = search rules;
   place = search rules;
+  tail = search rules;
 }

@@ -1,27 +1,27 @@
 use Rattle.std.proofs.Common.{◌≡◌, ◌≢◌, ℕ, ◌+◌, ◌-◌, ◌*◌, ◌≤◌, List, length, Some}
 use Rattle.pr_edge.specs.Files.{IsMissing}
 use Rattle.pr_samples.specs.Scan.{begun, scan_of}
-use Rattle.pr_samples.specs.Feed.{SameFile, IsReadBy, Tells, name_of, widths_of, place_of, given_of}
+use Rattle.pr_samples.specs.Feed.{SameFile, IsReadBy, IsSeen, ReadsOn, name_of, widths_of, place_of, given_of}
 use Rattle.pr_samples.specs.declared.tails.Tail.{Tail}
+use Rattle.pr_samples.specs.declared.scan.Phase.{Phase}
 use Rattle.pr_samples.proofs.Reading.{tail_weight}
 use Rattle.pr_samples.proofs.feed.Feed.read_on.Given as goal
 
-abbrev pub invariant-loop-shelf : goal.invariant-loop-shelf
-invariant-loop-shelf g l = record {
-  told : (file : List ℕ) → Tells (g.S.Shelf.told l.initial.shelf) (name_of l.initial.self) file
-      → IsReadBy l.initial.self (scan_of (widths_of l.initial.self) l.initial.self.numbers.items l.initial.cursor) file
-      → IsReadBy l.self (scan_of (widths_of l.initial.self) l.self.numbers.items l.cursor) file;
+abbrev pub invariant-loop-cursor : goal.invariant-loop-cursor
+invariant-loop-cursor g l = record {
+  seen : (bytes : List ℕ) → IsSeen (g.S.Shelf.told l.initial.shelf) bytes l.initial.self → ReadsOn (g.S.Shelf.told l.initial.shelf) bytes l.initial.self l.self
+      (λ file. IsReadBy l.initial.self (scan_of (widths_of l.initial.self) l.initial.self.numbers.items l.initial.cursor) file → IsReadBy l.self (scan_of (widths_of l.initial.self) l.self.numbers.items l.cursor) file);
   file : SameFile l.initial.self l.self;
   given : given_of l.self ≡ given_of l.initial.self;
   room : l.cursor.done + begun l.cursor.phase ≤ length (widths_of l.initial.self);
   into : l.into ≡ l.initial.into;
   spent : l.self.start ≡ l.self.end;
-  missing : IsMissing (g.S.Shelf.told l.initial.shelf) (name_of l.initial.self) → l.self.tail ≡ Tail.Open;
+  missing : IsMissing (g.S.Shelf.told l.initial.shelf) (name_of l.initial.self) → (l.self.tail ≡ Tail.Open) × (l.cursor.phase ≢ Phase.Wrong);
   later : g.S.Shelf.faults l.initial.shelf ≤ g.S.Shelf.faults l.shelf;
   same : g.S.Shelf.told l.shelf ≡ g.S.Shelf.told l.initial.shelf;
   reached : g.S.Shelf.reach l.initial.shelf (name_of l.initial.self) ≡ Some (place_of l.initial.self) → g.S.Shelf.reach l.shelf (name_of l.initial.self) ≡ Some (place_of l.self);
   others : (q : List ℕ) → q ≢ name_of l.initial.self → g.S.Shelf.reach l.shelf q ≡ g.S.Shelf.reach l.initial.shelf q;
 }
 
-abbrev pub decreases-loop-shelf : goal.decreases-loop-shelf
-decreases-loop-shelf g l = 2 * (l.self.limit + 1 - l.self.place) + tail_weight l.self.tail
+abbrev pub decreases-loop-cursor : goal.decreases-loop-cursor
+decreases-loop-cursor g l = 2 * (l.self.limit + 1 - l.self.place) + tail_weight l.self.tail

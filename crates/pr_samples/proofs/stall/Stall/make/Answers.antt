@@ -1,4 +1,4 @@
-use Rattle.std.proofs.Common.{ℕ, List, length, arith}
+use Rattle.std.proofs.Common.{arith}
 use Rattle.pr_samples.proofs.StallLemmas.{turns_of-le}
 use Rattle.pr_samples.proofs.stall.Stall.make.Goals as goal
 

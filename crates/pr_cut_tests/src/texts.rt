@@ -1,0 +1,141 @@
+//! Texts of programs on their way to nets.
+
+ghost use Rattle.std.specs.Prelude.{◌≤◌, length, IfOk};
+ghost use Rattle.pr_flat.specs.Shape.{shapes_of};
+ghost use Rattle.pr_flat.specs.Widths.{AreWidths};
+
+use pr_base::Cap;
+use pr_conf::Configuration;
+use pr_cut::cut;
+use pr_cut_plan::CutFault;
+use pr_expand::{ExpandFault, expand};
+use pr_flat::Flat;
+use pr_net::Net;
+use pr_parse::{ParseFault, parse, tokens};
+use pr_place::{PlaceFault, place};
+use pr_route::route;
+use pr_scope::{ScopeFault, check};
+use pr_width::{WidthFault, Widths, solve};
+use std::alloc::{AllocError, Global};
+
+/// What stops a text on its way to a net.
+#[derive(Debug, Drop)]
+pub(crate) enum Stop {
+    /// The text is no program with widths.
+    Refused,
+    /// The net passes a limit.
+    Passed(Cap),
+    /// The group that ends with this unit fits in no stripe.
+    NoFit(u32),
+    Memory(AllocError),
+}
+
+impl From<AllocError> for Stop {
+    fn from(error: AllocError) -> Stop {
+        Stop::Memory(error)
+    }
+}
+
+impl From<CutFault> for Stop {
+    fn from(fault: CutFault) -> Stop {
+        match fault {
+            CutFault::Limit(cap) => Stop::Passed(cap),
+            CutFault::Memory(error) => Stop::Memory(error),
+        }
+    }
+}
+
+impl From<PlaceFault> for Stop {
+    fn from(fault: PlaceFault) -> Stop {
+        match fault {
+            PlaceFault::NoFit { unit } => Stop::NoFit(unit),
+            PlaceFault::Memory(error) => Stop::Memory(error),
+        }
+    }
+}
+
+/// The flat equations of a text.
+fn flat_of(alloc: Global, text: &[u8]) -> Result<Flat, Stop>
+    requires { length text.now ≤ 1048576 }
+{
+    let tokens = tokens(alloc, text)?;
+    let program = match parse(alloc, text, &tokens) {
+        Ok(program) => program,
+        Err(ParseFault::Memory(error)) => return Err(Stop::Memory(error)),
+        Err(_) => return Err(Stop::Refused),
+    };
+    let scoped = match check(alloc, program) {
+        Ok(scoped) => scoped,
+        Err(ScopeFault::Memory(error)) => return Err(Stop::Memory(error)),
+        Err(_) => return Err(Stop::Refused),
+    };
+    match expand(alloc, &scoped) {
+        Ok(flat) => Ok(flat),
+        Err(ExpandFault::Memory(error)) => Err(Stop::Memory(error)),
+        Err(ExpandFault::Limit(_)) => Err(Stop::Refused),
+    }
+}
+
+/// The widths of equations.
+fn widths_of(alloc: Global, flat: &Flat) -> Result<Widths, Stop>
+    ensures { IfOk result (λ w. AreWidths (shapes_of flat.now.equations.items) w) }
+{
+    match solve(alloc, flat) {
+        Ok(widths) => Ok(widths),
+        Err(WidthFault::NoWidth { .. }) => Err(Stop::Refused),
+        Err(WidthFault::Memory(error)) => Err(Stop::Memory(error)),
+    }
+}
+
+/// The net of a text, for so many columns.
+pub(crate) fn net_of(alloc: Global, text: &[u8], columns: usize) -> Result<Net, Stop>
+    requires text { length text.now ≤ 1048576 }
+    requires some { 1 ≤ columns }
+    requires few { columns ≤ 64 }
+{
+    let flat = flat_of(alloc, text)?;
+    let widths = widths_of(alloc, &flat)?;
+    let net = cut(alloc, &flat, &widths, columns)?;
+    Ok(net)
+}
+
+/// A net, and its configuration.
+#[derive(Drop)]
+pub(crate) struct Routed<const N: usize, const P: usize> {
+    pub(crate) net: Net,
+    pub(crate) conf: Configuration<N, P>,
+}
+
+/// The net of equations, placed and routed.
+fn route_flat<const N: usize, const P: usize>(
+    alloc: Global,
+    flat: &Flat,
+    widths: &Widths,
+) -> Result<Routed<N, P>, Stop>
+    requires widths { AreWidths (shapes_of flat.now.equations.items) widths.now }
+    requires columns { 1 ≤ N }
+    requires most_columns { N ≤ 64 }
+    requires registers { 2 ≤ P }
+    requires most_registers { P ≤ 16 }
+{
+    let net = cut(alloc, flat, widths, N)?;
+    let placement = place::<N, P>(alloc, &net)?;
+    let conf = route::<N, P>(alloc, &net, &placement)?;
+    Ok(Routed { net, conf })
+}
+
+/// The net of a text, placed and routed.
+pub(crate) fn route_text<const N: usize, const P: usize>(
+    alloc: Global,
+    text: &[u8],
+) -> Result<Routed<N, P>, Stop>
+    requires text { length text.now ≤ 1048576 }
+    requires columns { 1 ≤ N }
+    requires most_columns { N ≤ 64 }
+    requires registers { 2 ≤ P }
+    requires most_registers { P ≤ 16 }
+{
+    let flat = flat_of(alloc, text)?;
+    let widths = widths_of(alloc, &flat)?;
+    route_flat(alloc, &flat, &widths)
+}

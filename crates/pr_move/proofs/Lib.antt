@@ -1,0 +1,3 @@
+pub mod StillLemmas
+pub mod MovingLemmas
+pub mod MarkLemmas

@@ -1,0 +1,3 @@
+pub mod FreeLaws
+pub mod StepLaws
+pub mod PassLaws

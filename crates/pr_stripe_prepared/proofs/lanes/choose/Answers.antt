@@ -1,0 +1,16 @@
+use Rattle.std.proofs.Common.{◌≡◌, ℕ, ◌-◌, ◌<◌, List, length, get_or, bit_and, bit_or, arith, w8, Fits}
+use Rattle.std.specs.Simd.Lanes.{Each1}
+use Rattle.std.proofs.lemmas.Simd.{Each1-get_or}
+use Rattle.pr_stripe_prepared.proofs.LaneLaws.{own, zip_of, map_of}
+use Rattle.pr_stripe_prepared.proofs.lanes.choose.Goals as goal
+
+lane : (xs : List ℕ) → length xs ≡ 16 → Each1 (Fits w8) xs → (k : ℕ) → k < 16 → get_or xs k 0 < 256
+lane xs h f k l = (Each1-get_or (Fits w8) xs k 0 (omega arith) f).fits
+
+pub returns-clause-lanes : goal.returns-clause-lanes
+returns-clause-lanes c =
+    let by = own 16 c.args.by c.requires.by in
+    zip_of 16 bit_or _ _ _ _ (zip_of 16 bit_and _ _ _ _ (own 16 c.args.off c.requires.off) (map_of 16 (λ x. 255 - x) _ _ by)) (zip_of 16 bit_and _ _ _ _ (own 16 c.args.on c.requires.on) by)
+
+pub returns-clause-bytes : goal.returns-clause-bytes
+returns-clause-bytes c = λ k l. (lane c.args.off c.requires.off c.fits-off.1 k l, lane c.args.on c.requires.on c.fits-on.1 k l)

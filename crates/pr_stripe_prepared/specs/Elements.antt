@@ -1,0 +1,78 @@
+-- What a prepared stage needs to know of an element.
+use Rattle.std.specs.Prelude.{ℕ, suc, ◌==◌, ◌^◌, ◌&&◌, ◌%◌, ◌≡◌, ◌<◌, nat_lt, Bool, true, false, List, [], slice_index_or, if◌then◌else◌}
+use Rattle.pr_base.specs.Pe.{carry_in, next_state}
+use Rattle.pr_stripe_prepared.specs.Places.{is_suited}
+use Rattle.pr_base.specs.declared.choices.Mode.{Mode}
+use Rattle.pr_base.specs.declared.choices.Carry.{Carry}
+use Rattle.pr_conf.specs.declared.pes.Pe.{Pe}
+use Rattle.pr_conf.specs.declared.pes.Bit.{Bit}
+use Rattle.pr_conf.specs.declared.pes.Source.{Source}
+use Rattle.pr_conf.specs.StageMap.{source_bit}
+use Rattle.pr_lanes.specs.Rows.{ones_where, half}
+use Rattle.pr_stripe_columns.specs.Elements.{bare_sight}
+
+-- ones where a column sums, and 0 in a plain one; a column that tests for 0 is none of the two
+abbrev pub sum_mark : Mode → ℕ
+sum_mark Mode.Plain = 0
+sum_mark Mode.Sum = 255
+sum_mark Mode.Zero = 1
+
+-- whether the carry-in is the carry-out of the column below
+abbrev pub is_chain : Carry → Bool
+is_chain Carry.Zero = false
+is_chain Carry.One = false
+is_chain Carry.Chain = true
+is_chain Carry.FromC = false
+
+-- whether the column above takes the carry-out
+abbrev pub goes_on : List Pe → ℕ → Pe → Bool
+goes_on pes k d = if suc k == 16 then false else is_chain (slice_index_or pes (suc k) d).cin
+
+-- the bits of A and X whose sum the next column sees
+abbrev pub low_mask : Mode → Bool → ℕ
+low_mask Mode.Plain on = 0
+low_mask Mode.Sum on = if on then 255 else 127
+low_mask Mode.Zero on = 0
+
+-- C, where it is a byte that is known
+abbrev pub known_c : Bit → ℕ
+known_c Bit.None = 0
+known_c (Bit.Of source place) = source_bit 16 (bare_sight [] []) (Bit.Of source place)
+known_c Bit.CarryIn = 0
+
+-- whether C is known
+abbrev pub is_const : Source → Bool
+is_const (Source.Const k) = true
+is_const (Source.Prev c reg) = false
+is_const (Source.Here c) = false
+is_const (Source.State c) = false
+is_const (Source.Bus place) = false
+
+abbrev pub has_known_c : Bit → Bool
+has_known_c Bit.None = true
+has_known_c (Bit.Of source place) = is_const source && nat_lt place 8
+has_known_c Bit.CarryIn = false
+
+abbrev pub table_of : ℕ → Pe → ℕ
+table_of bit pe = ones_where (half pe.table (known_c pe.c)) bit
+
+abbrev pub carry_of : Pe → ℕ
+carry_of pe = carry_in pe.cin 0 (known_c pe.c)
+
+abbrev pub shift_of : Pe → ℕ
+shift_of pe = 2 ^ pe.shift
+
+abbrev pub output_of : Pe → ℕ
+output_of pe = next_state pe.next 0 255 0
+
+abbrev pub a_of : Pe → ℕ
+a_of pe = next_state pe.next 0 0 255
+
+-- an element that whole rows of so many registers give
+pub record IsSuited (registers : ℕ) (pe : Pe) : Type 0 where
+  pub a : is_suited registers pe.a ≡ true
+  pub hi : is_suited registers pe.hi ≡ true
+  pub lo : is_suited registers pe.lo ≡ true
+  pub c : has_known_c pe.c ≡ true
+  pub mode : sum_mark pe.mode % 255 ≡ 0
+  pub shift : pe.shift < 8

@@ -1,0 +1,320 @@
+//! Rows that are made of the elements of a stage.
+
+ghost use Rattle.std.specs.Prelude.{true, false, ◌≡◌, ◌+◌, ◌<◌, ◌≤◌, ◌^◌, ℕ, length, slice_index, slice_index_or, if◌then◌else◌, ◌==◌, nat_lt, ◌-◌, ◌%◌};
+ghost use Rattle.pr_base.specs.Pe.{carry_in, next_state};
+ghost use Rattle.pr_conf.specs.declared.pes.Pe.{Pe};
+ghost use Rattle.pr_conf.specs.declared.pes.Source.{Source};
+ghost use Rattle.pr_lanes.specs.Rows.{ones_where, half};
+ghost use Rattle.pr_stripe_prepared.specs.Elements.{sum_mark, known_c, has_known_c, low_mask, is_chain, goes_on, table_of, carry_of, shift_of, output_of, a_of, IsSuited};
+
+use crate::places::suits;
+use pr_conf::{Bit, Carry, Mode, Next, Pe, Source};
+
+/// C, where it is a byte that is known.
+fn known_bit(c: Bit) -> u8
+    requires { has_known_c c ≡ true }
+    ensures is { result ≡ known_c c }
+    ensures small { result ≤ 1 }
+{
+    match c {
+        Bit::Of(Source::Const(byte), place) => byte >> place & 1,
+        _ => 0,
+    }
+}
+
+/// All ones where the table has a one for these bits of A and B.
+fn table_byte(pe: &Pe, bit: u8) -> u8
+    requires { has_known_c pe.now.c ≡ true }
+    ensures { result ≡ ones_where (half pe.now.table (known_c pe.now.c)) bit }
+{
+    let chosen = if known_bit(pe.c) & 1 == 0 {
+        pe.table
+    } else {
+        pe.table >> 4
+    };
+    if chosen & bit == 0 { 0 } else { 255 }
+}
+
+/// Ones where a column sums.
+fn sum_byte(mode: Mode) -> u8
+    ensures { result ≡ sum_mark mode }
+{
+    match mode {
+        Mode::Plain => 0,
+        Mode::Sum => 255,
+        Mode::Zero => 1,
+    }
+}
+
+/// The carry-in of a column, but for that of the column below.
+fn carry_byte(pe: &Pe) -> u8
+    requires { has_known_c pe.now.c ≡ true }
+    ensures { result ≡ carry_in pe.now.cin 0 (known_c pe.now.c) }
+{
+    match pe.cin {
+        Carry::Zero | Carry::Chain => 0,
+        Carry::One => 1,
+        Carry::FromC => known_bit(pe.c),
+    }
+}
+
+fn output_byte(next: Next) -> u8
+    ensures { result ≡ next_state next 0 255 0 }
+{
+    match next {
+        Next::Output => 255,
+        Next::Keep | Next::A => 0,
+    }
+}
+
+fn a_byte(next: Next) -> u8
+    ensures { result ≡ next_state next 0 0 255 }
+{
+    match next {
+        Next::A => 255,
+        Next::Keep | Next::Output => 0,
+    }
+}
+
+fn low_byte(mode: Mode, on: bool) -> u8
+    ensures { result ≡ low_mask mode on }
+{
+    match mode {
+        Mode::Sum => if on { 255 } else { 127 },
+        Mode::Plain | Mode::Zero => 0,
+    }
+}
+
+fn shift_word(shift: u8) -> u16
+    requires { shift < 8 }
+    ensures { result ≡ 2 ^ shift }
+{
+    1 << shift
+}
+
+fn chains(carry: Carry) -> bool
+    ensures { result ≡ is_chain carry }
+{
+    matches!(carry, Carry::Chain)
+}
+
+/// Whether the column above takes the carry-out.
+fn goes_up(pes: &[Pe], k: usize) -> bool
+    requires pes { length pes.now ≡ 16 }
+    requires at { k < 16 }
+    ensures { (d : Pe) → result ≡ goes_on pes.now k d }
+{
+    if k + 1 == 16 {
+        return false;
+    }
+    chains(pes[k + 1].cin)
+}
+
+/// Whether a byte of C is known.
+fn knows(c: Bit) -> bool
+    ensures { result ≡ has_known_c c }
+{
+    match c {
+        Bit::None => true,
+        Bit::Of(Source::Const(_), place) => place < 8,
+        _ => false,
+    }
+}
+
+fn sums_or_not(mode: Mode) -> bool
+    ensures { result ≡ true → sum_mark mode % 255 ≡ 0 }
+{
+    match mode {
+        Mode::Plain | Mode::Sum => true,
+        Mode::Zero => false,
+    }
+}
+
+/// Whether whole rows give an element.
+fn is_given(pe: &Pe, registers: usize) -> bool
+    requires { registers ≤ 16 }
+    ensures { result ≡ true → IsSuited registers pe.now }
+{
+    suits(registers, pe.a)
+        && suits(registers, pe.hi)
+        && suits(registers, pe.lo)
+        && knows(pe.c)
+        && sums_or_not(pe.mode)
+        && pe.shift < 8
+}
+
+/// Whether whole rows give all elements.
+pub(crate) fn are_given(pes: &[Pe], registers: usize) -> bool
+    requires few { registers ≤ 16 }
+    requires pes { length pes.now ≡ 16 }
+    ensures { result ≡ true → (k : ℕ) (d : Pe) → k < 16 → IsSuited registers (slice_index_or pes.now k d) }
+{
+    for k in 0..16 {
+        if !is_given(&pes[k], registers) {
+            return false;
+        }
+    }
+    true
+}
+
+pub(crate) fn table_row(pes: &[Pe], bit: u8) -> [u8; 16]
+    requires pes { length pes.now ≡ 16 }
+    requires known { (k : ℕ) (d : Pe) → k < 16 → has_known_c (slice_index_or pes.now k d).c ≡ true }
+    ensures long { length result ≡ 16 }
+    ensures each { (k : ℕ) (d : Pe) → k < 16 → slice_index result k ≡ table_of bit (slice_index_or pes.now k d) }
+{
+    let mut row = [0; 16];
+    for k in 0..16 {
+        row[k] = table_byte(&pes[k], bit);
+    }
+    row
+}
+
+pub(crate) fn sum_row(pes: &[Pe]) -> [u8; 16]
+    requires pes { length pes.now ≡ 16 }
+    ensures long { length result ≡ 16 }
+    ensures each { (k : ℕ) (d : Pe) → k < 16 → slice_index result k ≡ sum_mark (slice_index_or pes.now k d).mode }
+{
+    let mut row = [0; 16];
+    for k in 0..16 {
+        row[k] = sum_byte(pes[k].mode);
+    }
+    row
+}
+
+pub(crate) fn carry_row(pes: &[Pe]) -> [u8; 16]
+    requires pes { length pes.now ≡ 16 }
+    requires known { (k : ℕ) (d : Pe) → k < 16 → has_known_c (slice_index_or pes.now k d).c ≡ true }
+    ensures long { length result ≡ 16 }
+    ensures each { (k : ℕ) (d : Pe) → k < 16 → slice_index result k ≡ carry_of (slice_index_or pes.now k d) }
+{
+    let mut row = [0; 16];
+    for k in 0..16 {
+        row[k] = carry_byte(&pes[k]);
+    }
+    row
+}
+
+pub(crate) fn mask_row(pes: &[Pe]) -> [u8; 16]
+    requires pes { length pes.now ≡ 16 }
+    ensures long { length result ≡ 16 }
+    ensures each { (k : ℕ) (d : Pe) → k < 16 → slice_index result k ≡ (slice_index_or pes.now k d).mask }
+{
+    let mut row = [0; 16];
+    for k in 0..16 {
+        row[k] = pes[k].mask;
+    }
+    row
+}
+
+pub(crate) fn output_row(pes: &[Pe]) -> [u8; 16]
+    requires pes { length pes.now ≡ 16 }
+    ensures long { length result ≡ 16 }
+    ensures each { (k : ℕ) (d : Pe) → k < 16 → slice_index result k ≡ output_of (slice_index_or pes.now k d) }
+{
+    let mut row = [0; 16];
+    for k in 0..16 {
+        row[k] = output_byte(pes[k].next);
+    }
+    row
+}
+
+pub(crate) fn a_row(pes: &[Pe]) -> [u8; 16]
+    requires pes { length pes.now ≡ 16 }
+    ensures long { length result ≡ 16 }
+    ensures each { (k : ℕ) (d : Pe) → k < 16 → slice_index result k ≡ a_of (slice_index_or pes.now k d) }
+{
+    let mut row = [0; 16];
+    for k in 0..16 {
+        row[k] = a_byte(pes[k].next);
+    }
+    row
+}
+
+pub(crate) fn shift_row(pes: &[Pe]) -> [u16; 16]
+    requires pes { length pes.now ≡ 16 }
+    requires few { (k : ℕ) (d : Pe) → k < 16 → (slice_index_or pes.now k d).shift < 8 }
+    ensures long { length result ≡ 16 }
+    ensures each { (k : ℕ) (d : Pe) → k < 16 → slice_index result k ≡ shift_of (slice_index_or pes.now k d) }
+{
+    let mut row = [0; 16];
+    for k in 0..16 {
+        row[k] = shift_word(pes[k].shift);
+    }
+    row
+}
+
+pub(crate) fn low_row(pes: &[Pe]) -> [u8; 16]
+    requires pes { length pes.now ≡ 16 }
+    ensures long { length result ≡ 16 }
+    ensures each { (k : ℕ) (d e : Pe) → k < 16 → slice_index result k ≡ low_mask (slice_index_or pes.now k d).mode (goes_on pes.now k e) }
+{
+    let mut row = [0; 16];
+    for k in 0..16 {
+        row[k] = low_byte(pes[k].mode, goes_up(pes, k));
+    }
+    row
+}
+
+/// Whether a column moves B.
+pub(crate) fn any_shift(pes: &[Pe]) -> bool
+    requires pes { length pes.now ≡ 16 }
+    ensures { result ≡ false → (k : ℕ) (d : Pe) → k < 16 → (slice_index_or pes.now k d).shift ≡ 0 }
+{
+    for k in 0..16 {
+        if pes[k].shift != 0 {
+            return true;
+        }
+    }
+    false
+}
+
+/// Whether a column sums.
+pub(crate) fn any_sum(pes: &[Pe]) -> bool
+    requires pes { length pes.now ≡ 16 }
+    ensures { result ≡ false → (k : ℕ) (d : Pe) → k < 16 → sum_mark (slice_index_or pes.now k d).mode ≡ 0 }
+{
+    for k in 0..16 {
+        if sum_byte(pes[k].mode) != 0 {
+            return true;
+        }
+    }
+    false
+}
+
+/// Whether a column changes its state.
+pub(crate) fn any_state(pes: &[Pe]) -> bool
+    requires pes { length pes.now ≡ 16 }
+    ensures { result ≡ false → (k : ℕ) (d : Pe) → k < 16 → (output_of (slice_index_or pes.now k d) ≡ 0) × (a_of (slice_index_or pes.now k d) ≡ 0) }
+{
+    for k in 0..16 {
+        if output_byte(pes[k].next) != 0 || a_byte(pes[k].next) != 0 {
+            return true;
+        }
+    }
+    false
+}
+
+/// The sources of A, and then those of the bytes that B begins with.
+pub(crate) fn both_sources(pes: &[Pe]) -> [Source; 32]
+    requires pes { length pes.now ≡ 16 }
+    ensures { (k : ℕ) (d : Source) (e : Pe) → k < 32 → slice_index_or result k d ≡ (if nat_lt k 16 then (slice_index_or pes.now k e).a else (slice_index_or pes.now (k - 16) e).hi) }
+{
+    let mut sources = [Source::Const(0); 32];
+    for k in 0..32 {
+        sources[k] = if k < 16 { pes[k].a } else { pes[k - 16].hi };
+    }
+    sources
+}
+
+/// The sources of the bytes that B ends with.
+pub(crate) fn rest_sources(pes: &[Pe]) -> [Source; 32]
+    requires pes { length pes.now ≡ 16 }
+    ensures { (k : ℕ) (d : Source) (e : Pe) → k < 32 → slice_index_or result k d ≡ (if nat_lt k 16 then (slice_index_or pes.now k e).lo else Source.Const 0) }
+{
+    let mut sources = [Source::Const(0); 32];
+    for k in 0..32 {
+        sources[k] = if k < 16 { pes[k].lo } else { Source::Const(0) };
+    }
+    sources
+}

@@ -1,0 +1,32 @@
+//! The operands of all columns.
+
+ghost use Rattle.std.specs.Prelude.{ℕ, false, ◌≡◌, ◌+◌, ◌<◌, ◌^◌, ◌≤◌, length, slice_index};
+ghost use Rattle.pr_stripe_prepared.specs.Lanes.{HasLanes};
+ghost use Rattle.pr_stripe_prepared.specs.Gather.{gathered_byte};
+ghost use Rattle.pr_base.specs.Pe.{shifted};
+
+use crate::gathers::gathered;
+use crate::lanes::{high_half, low_half, shifted_row, words_of};
+use crate::stages::Prepared;
+use std::simd::prelude::*;
+
+/// A and B of all columns.
+#[inline(always)]
+pub(crate) fn operands(q: &Prepared, row: &[u8], state: u8x16) -> (u8x16, u8x16)
+    requires row { q.now.reach ≤ length row.now }
+    requires state { length state ≡ 16 }
+    ensures a { HasLanes 16 result.0 (λ k. gathered_byte q.now.both q.now.both_state q.now.terms.items row.now state k) }
+    ensures long { length result.1 ≡ 16 }
+    ensures b { (k s : ℕ) → k < 16 → slice_index q.now.shifts k ≡ 2 ^ s → s < 8 → (q.now.has_rest ≡ false → s ≡ 0)
+        → slice_index result.1 k ≡ shifted (gathered_byte q.now.both q.now.both_state q.now.terms.items row.now state (16 + k)) (gathered_byte q.now.rest q.now.rest_state q.now.rest_terms.items row.now state k) s }
+{
+    let both = gathered(&q.both, &q.both_state, &q.terms, row, state, q.reach);
+    let a = low_half(both);
+    let hi = high_half(both);
+    if q.has_rest {
+        let rest = gathered(&q.rest, &q.rest_state, &q.rest_terms, row, state, q.reach);
+        (a, shifted_row(hi, low_half(rest), words_of(&q.shifts)))
+    } else {
+        (a, hi)
+    }
+}

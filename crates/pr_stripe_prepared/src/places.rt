@@ -1,0 +1,84 @@
+//! Where the sources of a stage lie.
+
+ghost use Rattle.std.specs.Prelude.{true, ◌≡◌, ◌+◌, ◌<◌, ◌≤◌, ℕ, length, slice_index, slice_index_or};
+ghost use Rattle.pr_conf.specs.declared.pes.Source.{Source};
+ghost use Rattle.pr_stripe_prepared.specs.Places.{known_in, state_in, row_in, is_suited};
+ghost use Rattle.pr_stripe_prepared.specs.Lanes.{is_place};
+
+use pr_conf::Source;
+
+fn known_of(source: Source) -> u8
+    ensures { result ≡ known_in source }
+{
+    match source {
+        Source::Const(byte) => byte,
+        Source::Prev { .. } | Source::Here(_) | Source::State(_) | Source::Bus(_) => 0,
+    }
+}
+
+fn state_of(source: Source) -> u8
+    ensures { result ≡ state_in source }
+{
+    match source {
+        Source::State(col) => col,
+        Source::Const(_) | Source::Prev { .. } | Source::Here(_) | Source::Bus(_) => 128,
+    }
+}
+
+fn row_of(source: Source) -> u16
+    ensures { result ≡ row_in source }
+{
+    match source {
+        Source::Prev { col, reg } => (u16::from(reg).saturating_sub(1)) * 16 + u16::from(col),
+        Source::Bus(place) => u16::from(place),
+        Source::Const(_) | Source::Here(_) | Source::State(_) => 65535,
+    }
+}
+
+/// Whether whole rows of so many registers give a source.
+pub(crate) fn suits(registers: usize, source: Source) -> bool
+    requires { registers ≤ 16 }
+    ensures { result ≡ is_suited registers source }
+{
+    match source {
+        Source::Const(_) => true,
+        Source::Prev { col, reg } => 0 < reg
+            && usize::from(row_of(Source::Prev { col, reg })) < registers * 16,
+        Source::Here(_) => false,
+        Source::State(col) => col < 16,
+        Source::Bus(place) => usize::from(place) < registers * 16,
+    }
+}
+
+/// The bytes that are known, and 0 elsewhere.
+pub(crate) fn known_row(sources: &[Source; 32]) -> [u8; 32]
+    ensures { (k : ℕ) (d : Source) → k < 32 → slice_index result k ≡ known_in (slice_index_or sources.now k d) }
+{
+    let mut row = [0; 32];
+    for k in 0..32 {
+        row[k] = known_of(sources[k]);
+    }
+    row
+}
+
+/// The columns of the state.
+pub(crate) fn state_row(sources: &[Source; 32]) -> [u8; 32]
+    ensures { (k : ℕ) (d : Source) → k < 32 → slice_index result k ≡ state_in (slice_index_or sources.now k d) }
+{
+    let mut row = [128; 32];
+    for k in 0..32 {
+        row[k] = state_of(sources[k]);
+    }
+    row
+}
+
+/// The places of the row.
+pub(crate) fn row_row(sources: &[Source; 32]) -> [u16; 32]
+    ensures { (k : ℕ) (d : Source) → k < 32 → slice_index result k ≡ row_in (slice_index_or sources.now k d) }
+{
+    let mut row = [65535; 32];
+    for k in 0..32 {
+        row[k] = row_of(sources[k]);
+    }
+    row
+}

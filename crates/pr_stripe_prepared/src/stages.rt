@@ -1,0 +1,43 @@
+//! Prepared stages.
+
+ghost use Rattle.std.specs.Prelude.{true, ◌≡◌, ◌+◌, ◌<◌, ◌≤◌, ℕ, All, slice_index};
+ghost use Rattle.pr_stripe_prepared.specs.Lanes.{is_place};
+
+/// Bytes of a block of 16 bytes of a row, which begins at `from`: for each of two rows of columns the place, from 128 on none.
+#[derive(Clone, Copy)]
+pub struct Term {
+    pub from: usize,
+    pub picks: [u8; 32],
+    pub ghost places: { (k : ℕ) → k < 32 → is_place (slice_index picks k) ≡ true },
+}
+
+/// A stage of 16 columns, as whole rows.
+#[derive(Drop)]
+pub struct Prepared {
+    pub both: [u8; 32],
+    pub both_state: [u8; 32],
+    pub rest: [u8; 32],
+    pub rest_state: [u8; 32],
+    pub t1: [u8; 16],
+    pub t2: [u8; 16],
+    pub t4: [u8; 16],
+    pub t8: [u8; 16],
+    pub shifts: [u16; 16],
+    pub low: [u8; 16],
+    pub cin: [u8; 16],
+    pub sums: [u8; 16],
+    pub mask: [u8; 16],
+    pub to_output: [u8; 16],
+    pub to_a: [u8; 16],
+    pub marks: Vec<u8>,
+    pub terms: Vec<Term>,
+    pub rest_terms: Vec<Term>,
+    pub has_rest: bool,
+    pub has_sums: bool,
+    pub has_state: bool,
+    pub reach: usize,
+    pub ghost both_places: { (k : ℕ) → k < 32 → is_place (slice_index both_state k) ≡ true },
+    pub ghost rest_places: { (k : ℕ) → k < 32 → is_place (slice_index rest_state k) ≡ true },
+    pub ghost terms_in: { All (λ t. t.from + 16 ≤ reach) terms.items },
+    pub ghost rest_in: { All (λ t. t.from + 16 ≤ reach) rest_terms.items },
+}

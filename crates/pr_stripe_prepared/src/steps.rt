@@ -1,0 +1,143 @@
+//! A step of a prepared stage.
+
+ghost use Rattle.std.specs.Prelude.{◌≡◌, ◌+◌, ◌-◌, ◌*◌, ◌/◌, ◌%◌, ◌<◌, ◌≤◌, false, [], ℕ, ◌==◌, if◌then◌else◌, slice_index, slice_index_or, true, replicate, ◌++◌, length, vec_len, List};
+ghost use Rattle.pr_conf.specs.declared.pes.Pe.{Pe};
+ghost use Rattle.pr_conf.specs.StageMap.{passed, made_from, registers_to, state_map};
+ghost use Rattle.pr_base.specs.Pe.{Made};
+ghost use Rattle.pr_stripe_columns.specs.Elements.{outputs_of};
+ghost use Rattle.pr_stripe_prepared.specs.Prepared.{IsPrepared};
+
+use crate::lanes::{choose, loaded, row_of, store};
+use crate::operands::operands;
+use crate::results::outputs;
+use crate::stages::Prepared;
+use pr_lanes::pass_row;
+use std::simd::prelude::*;
+
+/// Makes a register of the one before, and of the outputs where they are marked.
+#[inline(always)]
+fn pass_one(into: &mut [u8], before: &[u8], output: &[u8], marks: &[u8])
+    requires into { length into.old ≡ 16 }
+    requires before { length before.now ≡ 16 }
+    requires output { length output.now ≡ 16 }
+    requires marks { length marks.now ≡ 16 }
+    ensures { (reg : ℕ) (pes : List Pe) (made : List Made) → length pes ≡ 16
+        → ((i : ℕ) (d : Pe) → i < 16 → slice_index marks.now i ≡ (if (slice_index_or pes i d).write == reg then 255 else 0))
+        → output.now ≡ outputs_of made → into.new ≡ passed reg pes made before.now }
+{
+    pass_row(into, before, output, marks);
+}
+
+/// Makes so many registers of those before, and of the outputs where they are marked.
+#[inline(always)]
+fn pass(registers: &mut [u8], before: &[u8], marks: &[u8], output: &[u8], count: usize)
+    requires few { count ≤ 16 }
+    requires registers { length registers.old ≡ count * 16 }
+    requires before { length before.now ≡ count * 16 }
+    requires marks { length marks.now ≡ count * 16 }
+    requires output { length output.now ≡ 16 }
+    ensures { (pes : List Pe) (made : List Made) → length pes ≡ 16
+        → ((j : ℕ) (d : Pe) → j < count * 16 → slice_index marks.now j ≡ (if (slice_index_or pes (j % 16) d).write == j / 16 + 1 then 255 else 0))
+        → output.now ≡ outputs_of made → registers.new ≡ registers_to count 16 false pes made before.now }
+{
+    for k in 0..count {
+        let at = k * 16;
+        let end = at + 16;
+        pass_one(
+            &mut registers[at..end],
+            &before[at..end],
+            output,
+            &marks[at..end],
+        );
+    }
+}
+
+/// Makes so many registers of the row that is read and of those before, and changes the state.
+#[inline(always)]
+pub fn step(
+    q: &Prepared,
+    registers: &mut [u8],
+    state: &mut [u8],
+    row: &[u8],
+    before: &[u8],
+    count: usize,
+)
+    requires few { count ≤ 16 }
+    requires registers { length registers.old ≡ count * 16 }
+    requires before { length before.now ≡ count * 16 }
+    requires marks { vec_len q.now.marks ≡ count * 16 }
+    requires row { q.now.reach ≤ length row.now }
+    requires state { length state.old ≡ 16 }
+    ensures registers { (pes : List Pe) → IsPrepared q.now pes count → registers.new ≡ registers_to count 16 false pes (made_from 16 row.now state.old [] pes) before.now }
+    ensures state { (pes : List Pe) → IsPrepared q.now pes count → state.new ≡ state_map 16 pes state.old row.now }
+{
+    let was = loaded(state);
+    let (a, b) = operands(q, row, was);
+    let output = outputs(q, a, b);
+    pass(registers, before, &q.marks, &output.to_array(), count);
+    if q.has_state {
+        let first = choose(was, output, row_of(&q.to_output));
+        store(state, choose(first, a, row_of(&q.to_a)));
+    }
+}
+
+/// A step that reads a sample with zeros behind it, and passes on zeros.
+fn wide_step(
+    q: &Prepared,
+    registers: &mut [u8],
+    state: &mut [u8],
+    wide: &[u8],
+    zeros: &[u8],
+    count: usize,
+)
+    requires few { count ≤ 15 }
+    requires registers { length registers.old ≡ count * 16 }
+    requires zeros { zeros.now ≡ replicate (count * 16) 0 }
+    requires long { length zeros.now ≡ count * 16 }
+    requires marks { vec_len q.now.marks ≡ count * 16 }
+    requires wide { q.now.reach ≤ length wide.now }
+    requires state { length state.old ≡ 16 }
+    ensures registers { (pes : List Pe) (bus : List ℕ) (k : ℕ) → IsPrepared q.now pes count → wide.now ≡ bus ++ replicate k 0
+        → registers.new ≡ registers_to count 16 true pes (made_from 16 bus state.old [] pes) bus }
+    ensures state { (pes : List Pe) (bus : List ℕ) (k : ℕ) → IsPrepared q.now pes count → wide.now ≡ bus ++ replicate k 0
+        → state.new ≡ state_map 16 pes state.old bus }
+{
+    step(q, registers, state, wide, zeros, count);
+}
+
+/// A sample with zeros behind it, up to the bytes of the longest row.
+fn padded(bus: &[u8]) -> [u8; 240]
+    requires { length bus.now ≤ 240 }
+    ensures long { length result ≡ 240 }
+    ensures bytes { result ≡ bus.now ++ replicate (240 - length bus.now) 0 }
+{
+    let mut wide = [0; 240];
+    wide[..bus.len()].copy_from_slice(bus);
+    wide
+}
+
+/// The step of a first stage, which reads a sample, and passes on zeros.
+pub fn first_step(
+    q: &Prepared,
+    registers: &mut [u8],
+    state: &mut [u8],
+    bus: &[u8],
+    zeros: &[u8],
+    count: usize,
+)
+    requires few { count ≤ 15 }
+    requires registers { length registers.old ≡ count * 16 }
+    requires zeros { zeros.now ≡ replicate (count * 16) 0 }
+    requires long { length zeros.now ≡ count * 16 }
+    requires marks { vec_len q.now.marks ≡ count * 16 }
+    requires reach { q.now.reach ≡ count * 16 }
+    requires state { length state.old ≡ 16 }
+    ensures registers { (pes : List Pe) → IsPrepared q.now pes count → registers.new ≡ registers_to count 16 true pes (made_from 16 bus.now state.old [] pes) bus.now }
+    ensures state { (pes : List Pe) → IsPrepared q.now pes count → state.new ≡ state_map 16 pes state.old bus.now }
+{
+    if bus.len() < 240 {
+        wide_step(q, registers, state, &padded(bus), zeros, count);
+        return;
+    }
+    wide_step(q, registers, state, bus, zeros, count);
+}

@@ -1,0 +1,113 @@
+//! Real files as a shelf.
+ghost use Rattle.std.specs.Prelude.{◌≡◌, ◌≢◌, ℕ, ◌^◌, ◌<◌, ◌≤◌, ◌+◌, ◌-◌, List, length, take, min, vec_len, None, IfOk, IsErr, OnErr};
+ghost use Rattle.pr_edge.specs.Count.{Rose};
+ghost use Rattle.pr_system.specs.Slots.{IsReadOn, IsSlotFor};
+
+use crate::gathering::{Gathering, hand_on};
+use crate::slots::{Slot, find, put_back, take_out};
+use pr_edge::{Failed, Shelf};
+use std::alloc::{AllocError, Global};
+use std::cell::RefCell;
+use std::io::{self, Read, Write};
+use std::rt::Files;
+
+/// The files that are kept open at most: a list, and eight programs with their samples.
+const FILES: usize = 17;
+
+/// The files of the system. Each file stays open after a read, so that a pipe is read on where the last read ended, also
+/// where other files are read in between. Before a read that may wait, what is gathered of the results is handed on.
+///
+/// All memory is taken when it is made.
+#[derive(Drop)]
+pub struct FileShelf<'a, R: Files, W: Write + Drop> {
+    alloc: Global,
+    rt: &'a R,
+    results: &'a RefCell<Gathering<W>>,
+    slots: Vec<Slot<R::File>>,
+    /// The slot that the next file takes which has none.
+    next: usize,
+    faults: u64,
+    ghost in_range: { faults < 2 ^ 64 },
+    ghost within: { next < vec_len slots },
+}
+
+/// Slots without files.
+fn make_slots<F: Read + Drop>(alloc: Global) -> Result<Vec<Slot<F>>, AllocError>
+    ensures { IfOk result (λ slots. 17 ≤ vec_len slots) }
+{
+    let mut slots = Vec::with_capacity(alloc, FILES)?;
+    while slots.len() < FILES {
+        slots.push(Slot::make(alloc)?)?;
+    }
+    Ok(slots)
+}
+
+impl<'a, R: Files, W: Write + Drop> FileShelf<'a, R, W> {
+    /// A shelf of which no call failed yet.
+    pub fn make(
+        alloc: Global,
+        rt: &'a R,
+        results: &'a RefCell<Gathering<W>>,
+    ) -> Result<Self, AllocError>
+        ensures { IfOk result (λ s. s.faults ≡ 0) }
+    {
+        Ok(FileShelf {
+            alloc,
+            rt,
+            results,
+            slots: make_slots(alloc)?,
+            next: 0,
+            faults: 0,
+        })
+    }
+
+    /// The slot for the file of this name.
+    fn slot_of(&mut self, name: &str) -> usize
+        ensures slot { IsSlotFor self.new.slots.items name.now result }
+        ensures within { result < vec_len self.new.slots }
+        ensures slots { self.new.slots ≡ self.old.slots }
+        ensures faults { self.new.faults ≡ self.old.faults }
+    {
+        match find(&self.slots, name) {
+            Some(at) => at,
+            None => {
+                let at = self.next;
+                self.next = (at + 1) % self.slots.len();
+                at
+            }
+        }
+    }
+
+    /// Reads the file from this place on, where it is open already if that is where it stands.
+    fn read(&mut self, name: &str, place: u64, buf: &mut [u8]) -> io::Result<usize>
+        ensures bound { IfOk result (λ k. k ≤ length buf.new) }
+        ensures faults { self.new.faults ≡ self.old.faults }
+        ensures read { IfOk result (λ k. IsReadOn R.File.remaining self.old.slots.items self.new.slots.items name.now place k (take k buf.new)) }
+    {
+        let at = self.slot_of(name);
+        let slot = take_out(self.alloc, &mut self.slots, at);
+        let (slot, result) = slot.read(self.rt, self.results, name, place, buf);
+        put_back(&mut self.slots, at, slot);
+        result
+    }
+}
+
+impl<'a, R: Files, W: Write + Drop> Shelf for FileShelf<'a, R, W> {
+    ghost told = { λ _. None };
+
+    ghost reach = { λ _ _. None };
+
+    ghost faults = { λ s. s.faults };
+
+    ghost counted = { λ s. s.in_range };
+
+    fn read_at(&mut self, name: &str, place: u64, buf: &mut [u8]) -> Result<usize, Failed> {
+        match self.read(name, place, buf) {
+            Ok(count) => Ok(count),
+            Err(_) => {
+                self.faults = self.faults.saturating_add(1);
+                Err(Failed)
+            }
+        }
+    }
+}
