@@ -1,6 +1,3 @@
-use Rattle.pr_tool_modes.proofs.GenLemmas.{told_good, gen_refused, gen_ran, bench_more, stages_are}
-use Rattle.pr_tool_modes.proofs.GenVerdicts.{gen_owed, one_gen, gen_fault, gen_memory, gen_write, gen_usage}
-use Rattle.pr_tool_modes.proofs.GenTexts.{files_are, first_is, drop_one}
 use Rattle.pr_tool_modes.proofs.BehaviourLemmas.{kept_gives, kept_verdict, same_text}
 use Rattle.pr_tool_modes.proofs.laws.behaviour_law.Goals as goal
 
