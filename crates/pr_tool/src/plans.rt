@@ -2,10 +2,10 @@
 ghost use Rattle.std.specs.Prelude.{◌≡◌, option_map};
 ghost use Rattle.pr_tool_words.specs.Orders.{order_of};
 ghost use Rattle.pr_tool_modes.specs.Jobs.{job, source_of};
-ghost use Rattle.pr_tool.specs.Plans.{Runs, unless, generates, plan_of, plan_in};
+ghost use Rattle.pr_tool.specs.Plans.{Runs, plan_of, plan_in};
 
-use pr_tool_modes::{Form, Generation, Job, Source};
-use pr_tool_words::{GenSize, Mode, Options, Words};
+use pr_tool_modes::{Form, Generation, Job, Source, Target};
+use pr_tool_words::{Mode, Options, Words};
 
 /// What is done for a command line.
 #[derive(Clone, Copy, PartialEq, Eq, Debug)]
@@ -18,8 +18,6 @@ pub enum Plan<'a> {
     Evaluates { program: &'a str, samples: &'a str },
     /// A generated program is run.
     Generates(Generation),
-    /// A program is read for what is not built.
-    Refuses { program: &'a str },
     /// Nothing is built of it.
     Nothing,
 }
@@ -37,36 +35,15 @@ fn runs<'a>(options: &Options<'a>, source: Source<'a>, samples: &'a str, log: bo
     })
 }
 
-/// What is done for the program of this name, unless it is to be narrowed.
-fn plain<'a>(options: &Options<'a>, program: &'a str, plan: Plan<'a>) -> Plan<'a>
-    ensures { plan_in result ≡ unless options.now.narrow program.now (plan_in plan.entry) }
-{
-    if options.narrow {
-        return Plan::Refuses { program };
-    }
-    plan
-}
-
-/// A run of a generated program, unless it is to be narrowed, which is not built.
-fn generates<'a>(options: &Options<'a>, size: GenSize) -> Plan<'a>
-    ensures { plan_in result ≡ generates options.now.narrow (record { turns = size.turns; fabric = options.now.fabric; stripes = options.now.stripes }) }
-{
-    if options.narrow {
-        return Plan::Nothing;
-    }
-    Plan::Generates(Generation {
-        turns: size.turns,
-        fabric: options.fabric,
-        stripes: options.stripes,
-    })
-}
-
 /// What is done for a lawful command line.
 pub fn plan_of<'a>(words: &Words<'a>) -> Plan<'a>
     ensures { plan_in result ≡ plan_of (order_of words.now) }
 {
     let options = &words.options;
-    let fabric = options.fabric;
+    let target = Target {
+        fabric: options.fabric,
+        narrowed: options.narrow,
+    };
     match words.mode {
         Mode::Show {
             configuration: name,
@@ -86,25 +63,29 @@ pub fn plan_of<'a>(words: &Words<'a>) -> Plan<'a>
         } => runs(options, Source::File { name }, samples, false),
         Mode::Eval { program, samples } => Plan::Evaluates { program, samples },
         Mode::Compile { program: name } => {
-            let source = Source::Program { name, fabric };
+            let source = Source::Program { name, target };
             let form = Form::File;
-            plain(options, name, Plan::Texts { form, source })
+            Plan::Texts { form, source }
         }
         Mode::Run {
             program: name,
             samples,
         } => {
-            let source = Source::Program { name, fabric };
-            plain(options, name, runs(options, source, samples, false))
+            let source = Source::Program { name, target };
+            runs(options, source, samples, false)
         }
         Mode::Trace {
             program: name,
             samples,
         } => {
-            let source = Source::Program { name, fabric };
-            plain(options, name, runs(options, source, samples, true))
+            let source = Source::Program { name, target };
+            runs(options, source, samples, true)
         }
-        Mode::Gen { size } => generates(options, size),
+        Mode::Gen { size } => Plan::Generates(Generation {
+            turns: size.turns,
+            target,
+            stripes: options.stripes,
+        }),
         Mode::Share { .. } | Mode::Checkpoint { .. } => Plan::Nothing,
         Mode::Move { .. } | Mode::Extend { .. } => Plan::Nothing,
     }

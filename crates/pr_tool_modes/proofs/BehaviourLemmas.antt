@@ -17,6 +17,7 @@ use Rattle.pr_samples.specs.Fed.{Ending}
 use Rattle.pr_samples.specs.Stall.{turns_of}
 use Rattle.pr_tool_answers.specs.declared.answers.Answer.{Answer}
 use Rattle.pr_tool_modes.specs.declared.benches.Bench.{Bench}
+use Rattle.pr_tool_modes.specs.declared.targets.Target.{Target}
 use Rattle.pr_tool_modes.specs.declared.texts.Form.{Form}
 use Rattle.pr_tool_modes.specs.Behaviours.{from_source, IsKept}
 use Rattle.pr_tool_modes.specs.Calls.{Call}
@@ -95,41 +96,37 @@ loadable fabric c lawful bytes =
       is = file;
     }
 
-least_registers : (fabric : Fabric) → 2 ≤ registers fabric
-least_registers Fabric.Base = omega arith
-least_registers Fabric.Wide = omega arith
+lawful_on : (fabric : Fabric) (narrowed : Bool) (text : List ℕ) (c : Shape) → IsCompiled (columns fabric) (registers fabric) narrowed text c → IsLawful (columns fabric) (registers fabric) c
+lawful_on Fabric.Base narrowed text c is = is_lawful 16 8 narrowed text c (omega arith) (omega arith) (omega arith) (omega arith) is
+lawful_on Fabric.Wide narrowed text c is = is_lawful 32 16 narrowed text c (omega arith) (omega arith) (omega arith) (omega arith) is
 
-lawful_on : (fabric : Fabric) (text : List ℕ) (c : Shape) → IsCompiled (columns fabric) (registers fabric) text c → IsLawful (columns fabric) (registers fabric) c
-lawful_on Fabric.Base text c is = is_lawful 16 8 text c (omega arith) (omega arith) (omega arith) (omega arith) is
-lawful_on Fabric.Wide text c is = is_lawful 32 16 text c (omega arith) (omega arith) (omega arith) (omega arith) is
-
-module _ (files : List ℕ → Option (List ℕ)) (name : List ℕ) (fabric : Fabric) (kept : List ℕ) (k : IsKept files name fabric kept) where
+module _ (files : List ℕ → Option (List ℕ)) (name : List ℕ) (target : Target) (kept : List ℕ) (k : IsKept files name target kept) where
   -- on the numbers of the fabric
-  kept_on : Gives (Some files) (File kept) (columns fabric) (registers fabric) k.conf
+  kept_on : Gives (Some files) (File kept) (columns target.fabric) (registers target.fabric) k.conf
   kept_on =
-      let has = of_fabric (Some files) name fabric k.N k.P k.conf k.gives in
-      let text = text_in Form.File (columns fabric) (registers fabric) k.conf in
+      let has = of_fabric (Some files) name target k.N k.P k.conf k.gives in
+      let text = text_in Form.File (columns target.fabric) (registers target.fabric) k.conf in
       let same : text_in Form.File k.N k.P k.conf ≡ text = ap₂ (λ (n p : ℕ). text_in Form.File n p k.conf) k.gives.columns_are k.gives.registers_are in
       record {
         bytes = text;
         file = k.file ∙ ap Some same;
         short = subst (λ (t : List ℕ). length t ≤ 16777216) same k.short;
-        loadable = loadable fabric k.conf (lawful_on fabric has.text k.conf has.is) k.bytes;
+        loadable = loadable target.fabric k.conf (lawful_on target.fabric target.narrowed has.text k.conf has.is) k.bytes;
       }
 
   pub kept_gives : Gives (Some files) (File kept) k.N k.P k.conf
   kept_gives =
       subst (λ (n : ℕ). Gives (Some files) (File kept) n k.P k.conf) (sym k.gives.columns_are)
-      (subst (λ (p : ℕ). Gives (Some files) (File kept) (columns fabric) p k.conf) (sym k.gives.registers_are) kept_on)
+      (subst (λ (p : ℕ). Gives (Some files) (File kept) (columns target.fabric) p k.conf) (sym k.gives.registers_are) kept_on)
 
-  pub kept_verdict : (j : Job) (a : Answer) → IsRunVerdict files (from_source (Text name fabric) j) a → IsRunVerdict files (from_source (File kept) j) a
-  kept_verdict j a (inl refused) = absurd (never_source files (Text name fabric) a k.N k.P k.conf k.gives refused)
+  pub kept_verdict : (j : Job) (a : Answer) → IsRunVerdict files (from_source (Text name target) j) a → IsRunVerdict files (from_source (File kept) j) a
+  kept_verdict j a (inl refused) = absurd (never_source files (Text name target) a k.N k.P k.conf k.gives refused)
   kept_verdict j a (inr is) = inr (record {
     N = k.N;
     P = k.P;
     conf = k.conf;
     gives = kept_gives;
-    last = is.last ∙ ap (λ (c : Shape). after_stall files j.stall (samples_verdict c.inputs (files j.second))) (one_conf files (Text name fabric) is.N is.P k.N k.P is.conf k.conf is.gives k.gives);
+    last = is.last ∙ ap (λ (c : Shape). after_stall files j.stall (samples_verdict c.inputs (files j.second))) (one_conf files (Text name target) is.N is.P k.N k.P is.conf k.conf is.gives k.gives);
   })
 
 -- ---- runs
@@ -145,7 +142,7 @@ turns_once files stall s t is by = is.are ∙ (ap (λ (x : List ℕ). map held_o
 abbrev WriteOne : Call → Call → Type 0
 WriteOne c d = (text : List ℕ) × Appends c.old c.new text × Appends d.old d.new text
 
-module _ (files : List ℕ → Option (List ℕ)) (name : List ℕ) (fabric : Fabric) (kept : List ℕ) (k : IsKept files name fabric kept) (j : Job) (samples : List ℕ) (c d : Call) where
+module _ (files : List ℕ → Option (List ℕ)) (name : List ℕ) (target : Target) (kept : List ℕ) (k : IsKept files name target kept) (j : Job) (samples : List ℕ) (c d : Call) where
   abbrev rows_in : List ℕ → List (List ℕ)
   rows_in widths = (fed_in widths samples).samples
 
@@ -154,11 +151,11 @@ module _ (files : List ℕ → Option (List ℕ)) (name : List ℕ) (fabric : Fa
   written_on N P conf turns widths ending = run_text N P j.log conf j.stripes (pieces conf (rows_in widths)) turns (ends_well ending)
 
   one_text : {N P M Q : ℕ} (ws vs : List ℕ) (e f : Ending) (m : Going N P) (n : Going M Q)
-      → HasRunOn files (from_source (Text name fabric) j) c ws (rows_in ws) (ends_well e) m → HasRunOn files (from_source (File kept) j) d vs (rows_in vs) (ends_well f) n
+      → HasRunOn files (from_source (Text name target) j) c ws (rows_in ws) (ends_well e) m → HasRunOn files (from_source (File kept) j) d vs (rows_in vs) (ends_well f) n
       → (fed_in ws samples).ending ≡ e → (fed_in vs samples).ending ≡ f → (e ≡ f) × WriteOne c d
   one_text {N} {P} {M} {Q} ws vs e f m n on by es fs =
-      let file = kept_gives files name fabric kept k in
-      let one = one_conf files (Text name fabric) N P k.N k.P on.conf k.conf on.gives k.gives in
+      let file = kept_gives files name target kept k in
+      let one = one_conf files (Text name target) N P k.N k.P on.conf k.conf on.gives k.gives in
       let other = one_conf files (File kept) k.N k.P M Q k.conf by.conf file by.gives in
       let conf = one ∙ other in
       let widths = sym on.inputs ∙ (ap (λ (s : Shape). s.inputs) conf ∙ by.inputs) in
@@ -177,7 +174,7 @@ module _ (files : List ℕ → Option (List ℕ)) (name : List ℕ) (fabric : Fa
       (ending, (written_on M Q by.conf by.turns vs f, subst (Appends c.old c.new) same on.text, by.text))
 
   pub same_text : (one other : Bench) (e f : Ending)
-      → IsWholeRun (MeansLines files (from_source (Text name fabric) j)) files (from_source (Text name fabric) j) samples c one e
+      → IsWholeRun (MeansLines files (from_source (Text name target) j)) files (from_source (Text name target) j) samples c one e
       → IsWholeRun NoMore files (from_source (File kept) j) samples d other f → (e ≡ f) × WriteOne c d
   same_text (Bench.Base m) (Bench.Base n) e f on by = one_text on.widths by.widths e f m n on.ran by.ran on.ends by.ends
   same_text (Bench.Base m) (Bench.Wide n) e f on by = one_text on.widths by.widths e f m n on.ran by.ran on.ends by.ends

@@ -1,22 +1,17 @@
 -- From a run over texts in memory to what is told of it.
-use Rattle.std.proofs.Common.{◌≡◌, ◌⊎◌, ◌≤◌, ◌<◌, ◌∙◌, ℕ, true, List, [], length, map, vec_len, Option, Some, None, refl, sym, ap, ap₂, subst, arith, inl, inr}
+use Rattle.std.proofs.Common.{◌≡◌, ◌⊎◌, ◌≤◌, ◌<◌, ◌∙◌, ℕ, true, List, [], length, map, vec_len, Option, Some, None, refl, sym, ap, subst, arith, inl, inr}
 use Rattle.std.proofs.lemmas.List.{length-map}
 use Rattle.pr_base.specs.declared.caps.Cap.{Cap}
 use Rattle.pr_base.specs.Rows.{row_bytes, written}
-use Rattle.pr_compile.specs.Configured.{net_by, HasUnits}
-use Rattle.pr_compile.proofs.Programs.{same_equations}
-use Rattle.pr_compile_front.specs.Refusals.{HasWidths}
+use Rattle.pr_compile.specs.Configured.{HasUnits}
 use Rattle.pr_conf.specs.declared.configurations.Configuration.{Configuration}
 use Rattle.pr_conf.specs.Configuration.{shape_of, pes_of}
 use Rattle.pr_conf.specs.Shape.{Shape}
-use Rattle.pr_cut_units.specs.Nets.{net_of}
 use Rattle.pr_control.specs.Counts.{cycles_of}
 use Rattle.pr_edge.specs.Count.{Rose}
 use Rattle.pr_edge.specs.Files.{Told}
 use Rattle.pr_edge.specs.Tape.{Tape, IsAppended, Appends}
-use Rattle.pr_expand_spec.specs.Programs.{Flattened}
-use Rattle.pr_gen.specs.Texts.{samples_text}
-use Rattle.pr_lang.specs.declared.trees.Program.{Program}
+use Rattle.pr_gen.specs.Texts.{program_text, samples_text}
 use Rattle.pr_lang_meaning.specs.Programs.{out}
 use Rattle.pr_machine.specs.Stands.{Stands, account_of}
 use Rattle.pr_machine.proofs.Events.{some_stages}
@@ -57,12 +52,6 @@ time_is : (conf : Shape) (p : ℕ) (rows : List (List ℕ)) → 0 < length conf.
 time_is conf p rows some two =
     (counted (length conf.stages) p (pieces conf rows) some two).time ∙ ap (cycles_of (length conf.stages) p) (length-map rows (row_bytes conf.inputs))
 
--- the programs of one text have as many units
-units_same : (text : List ℕ) (program : Program) (widths : List ℕ) (units : ℕ) → HasWidths text program widths → HasUnits text units → units ≡ length (net_by program widths).units
-units_same text program widths units has counts =
-    let same = same_equations text counts.program program counts.widths widths counts.has has in
-    counts.are ∙ ap₂ (λ (f : Flattened) (ws : List ℕ). length (net_of f.equations ws f.outputs).units) same.0 same.1
-
 -- the stall text without a file has no turns
 no_turns : (files : List ℕ → Option (List ℕ)) (turns : List Held) → HasStall (Some files) None turns → turns ≡ []
 no_turns files turns has = has.are ∙ ap (λ (t : List ℕ). map held_of (turns_of t)) has.file
@@ -70,7 +59,7 @@ no_turns files turns has = has.are ∙ ap (λ (t : List ℕ). map held_of (turns
 -- what a machine's run on the generated texts tells
 told_run : {N P : ℕ} (g : Generation) (k : Call) (widths : List ℕ) (machine : Going N P) (units : ℕ) (bytes text : List ℕ) → 2 ≤ g.stripes
     → HasRunOn (generated g.turns) (job_for g) k widths (fed_in widths samples_text).samples true machine → (fed_in widths samples_text).ending ≡ End
-    → MeansLines (generated g.turns) (job_for g) widths (fed_in widths samples_text).samples (λ t. bytes ≡ t) → IsCounted (Some (generated g.turns)) program_file units
+    → MeansLines (generated g.turns) (job_for g) widths (fed_in widths samples_text).samples (λ t. bytes ≡ t) → IsCounted (Some (generated g.turns)) program_file g.target.narrowed units
     → Tells g.turns units bytes text machine → HasGenerated g (λ t. text ≡ t) machine
 told_run {N} {P} g k widths machine units bytes text two on ends means counts tells =
     let rows = (fed_in widths samples_text).samples in
@@ -78,22 +67,22 @@ told_run {N} {P} g k widths machine units bytes text two on ends means counts te
     let stands : Stands machine on.conf g.stripes (script (length on.conf.stages) g.stripes (pieces on.conf rows) []) =
     subst (λ (turns : List Held). Stands machine on.conf g.stripes (script (length on.conf.stages) g.stripes (pieces on.conf rows) turns)) none on.stands in
     let time = time_is on.conf g.stripes rows (some_stages machine.parts.conf on.conf stands.conf) two in
-    let same : counts.text ≡ means.has.text = (let both : Some counts.text ≡ Some means.has.text = sym counts.file ∙ means.has.file in cc) in
-    let number = units_same means.has.text means.program means.equation_widths units means.has.has (subst (λ (t : List ℕ). HasUnits t units) same counts.has) in
-    let told : text ≡ summary g.turns (length (net_by means.program means.equation_widths).units) (length on.conf.stages) (cycles_of (length on.conf.stages) g.stripes (length rows)) (written (out means.program rows)) =
+    let same : counts.text ≡ program_text g.turns = (let both : Some counts.text ≡ Some (program_text g.turns) = sym counts.file in cc) in
+    let told : text ≡ summary g.turns units (length on.conf.stages) (cycles_of (length on.conf.stages) g.stripes (length rows)) (written (out means.program rows)) =
     tells on.conf g.stripes _ stands
-    ∙ (ap (λ (u : ℕ). summary g.turns u (length on.conf.stages) _ bytes) number
-    ∙ (ap (λ (t : ℕ). summary g.turns _ (length on.conf.stages) t bytes) time
-    ∙ ap (λ (b : List ℕ). summary g.turns _ (length on.conf.stages) _ b) (means.lines refl))) in
+    ∙ (ap (λ (t : ℕ). summary g.turns units (length on.conf.stages) t bytes) time
+    ∙ ap (λ (b : List ℕ). summary g.turns units (length on.conf.stages) (cycles_of (length on.conf.stages) g.stripes (length rows)) b) (means.lines refl)) in
     record {
       program = means.program;
       widths = means.equation_widths;
       has = means.has;
+      units = units;
+      counts = subst (λ (t : List ℕ). HasUnits g.target.narrowed t units) same counts.has;
       conf = on.conf;
       gives = on.gives;
       ends = ap (λ (ws : List ℕ). (fed_in ws samples_text).ending) on.inputs ∙ ends;
       stands = subst (λ (ws : List ℕ). Stands machine on.conf g.stripes (script (length on.conf.stages) g.stripes (pieces on.conf (fed_in ws samples_text).samples) [])) (sym on.inputs) stands;
-      text = subst (λ (ws : List ℕ). text ≡ summary g.turns _ (length on.conf.stages) (cycles_of (length on.conf.stages) g.stripes (length (fed_in ws samples_text).samples)) (written (out means.program (fed_in ws samples_text).samples))) (sym on.inputs) told;
+      text = subst (λ (ws : List ℕ). text ≡ summary g.turns units (length on.conf.stages) (cycles_of (length on.conf.stages) g.stripes (length (fed_in ws samples_text).samples)) (written (out means.program (fed_in ws samples_text).samples))) (sym on.inputs) told;
     }
 
 -- ---- the run
@@ -114,13 +103,13 @@ gained_means g k widths rows bytes empty now means = record {
 
 -- what came of the run, as a run of the files of a shelf
 come : (g : Generation) (k : Call) (loaded : Loadable) (bench : Bench) (a : Answer) → k.before.told ≡ Some (generated g.turns)
-    → IsOnFabric (Some (generated g.turns)) program_file g.fabric (columns_in loaded) (registers_in loaded) (shape_in loaded)
+    → IsOnFabric (Some (generated g.turns)) program_file g.target (columns_in loaded) (registers_in loaded) (shape_in loaded)
     → IsRunOf loaded (job_for g) k Bench.Nothing bench a → HasCome (job_for g) k Bench.Nothing bench a
 come g k loaded bench a told gives ran =
     come_of (job_for g) k k.before loaded Bench.Nothing bench a (subst (λ (t : Told). Gives t (job_for g).source (columns_in loaded) (registers_in loaded) (shape_in loaded)) (sym told) gives) refl (omega arith) (λ q other. refl) ran
 
 told_bench : (g : Generation) (k : Call) (bench : Bench) (units : ℕ) (bytes text : List ℕ) → 2 ≤ g.stripes → k.old.bytes ≡ Some [] → k.new.bytes ≡ Some bytes
-    → IsWholeRun (MeansLines (generated g.turns) (job_for g)) (generated g.turns) (job_for g) samples_text k bench End → IsCounted (Some (generated g.turns)) program_file units
+    → IsWholeRun (MeansLines (generated g.turns) (job_for g)) (generated g.turns) (job_for g) samples_text k bench End → IsCounted (Some (generated g.turns)) program_file g.target.narrowed units
     → OnBench (λ N P machine. Tells g.turns units bytes text machine) bench → OnBench (λ N P machine. HasGenerated g (λ t. text ≡ t) machine) bench
 told_bench g k Bench.Nothing units bytes text two empty now whole counts tells = absurd whole.ran
 told_bench g k (Bench.Base machine) units bytes text two empty now whole counts tells =
@@ -130,11 +119,11 @@ told_bench g k (Bench.Wide machine) units bytes text two empty now whole counts 
 
 -- a good run of the compiled program, and what is told of it
 pub told_good : (g : Generation) (k : Call) (loaded : Loadable) (bench : Bench) (units : ℕ) (bytes text : List ℕ) → 2 ≤ g.stripes → k.before.told ≡ Some (generated g.turns) → k.old.bytes ≡ Some [] → k.new.bytes ≡ Some bytes
-    → IsOnFabric (Some (generated g.turns)) program_file g.fabric (columns_in loaded) (registers_in loaded) (shape_in loaded) → IsCounted (Some (generated g.turns)) program_file units
+    → IsOnFabric (Some (generated g.turns)) program_file g.target (columns_in loaded) (registers_in loaded) (shape_in loaded) → IsCounted (Some (generated g.turns)) program_file g.target.narrowed units
     → IsRunOf loaded (job_for g) k Bench.Nothing bench Answer.Ok
     → OnBench (λ N P machine. Tells g.turns units bytes text machine) bench → OnBench (λ N P machine. HasGenerated g (λ t. text ≡ t) machine) bench
 told_good g k loaded bench units bytes text two told empty now gives counts ran tells =
-    told_bench g k bench units bytes text two empty now (program_lines (generated g.turns) (job_for g) program_file g.fabric k Bench.Nothing bench Answer.Ok refl told (come g k loaded bench Answer.Ok told gives ran)) counts tells
+    told_bench g k bench units bytes text two empty now (program_lines (generated g.turns) (job_for g) program_file g.target k Bench.Nothing bench Answer.Ok refl told (come g k loaded bench Answer.Ok told gives ran)) counts tells
 
 -- ---- refusals
 -- no read of such a shelf fails
@@ -153,17 +142,17 @@ unwritten IsVerdict a (inr (inr (inr memory))) = inr memory
 
 -- the program was refused
 pub gen_refused : (g : Generation) (told : Told) (a : Answer) → told ≡ Some (generated g.turns)
-    → IsFileRefusal 1048576 Cap.ProgramBytes (IsUncompiled (columns g.fabric) (registers g.fabric)) told program_file 0 0 a → IsGenVerdict g a ⊎ (a ≡ Answer.Memory)
+    → IsFileRefusal 1048576 Cap.ProgramBytes (IsUncompiled (columns g.target.fabric) (registers g.target.fabric) g.target.narrowed) told program_file 0 0 a → IsGenVerdict g a ⊎ (a ≡ Answer.Memory)
 gen_refused g told a is refused =
-    let owed = source_owed (generated g.turns) (Text program_file g.fabric) 0 0 0 0 a (subst (λ (t : Told). IsFileRefusal 1048576 Cap.ProgramBytes (IsUncompiled (columns g.fabric) (registers g.fabric)) t program_file 0 0 a) is refused) in
-    elim (unwritten (IsRefusedSource (generated g.turns) (Text program_file g.fabric)) a owed) [
+    let owed = source_owed (generated g.turns) (Text program_file g.target) 0 0 0 0 a (subst (λ (t : Told). IsFileRefusal 1048576 Cap.ProgramBytes (IsUncompiled (columns g.target.fabric) (registers g.target.fabric) g.target.narrowed) t program_file 0 0 a) is refused) in
+    elim (unwritten (IsRefusedSource (generated g.turns) (Text program_file g.target)) a owed) [
       | inl source ↦ inl (inl source)
       | inr memory ↦ inr memory
     ]
 
 -- the run came to another answer
 pub gen_ran : (g : Generation) (k : Call) (loaded : Loadable) (bench : Bench) (a : Answer) → k.before.told ≡ Some (generated g.turns) → k.before.faults ≡ 0 → k.now.faults ≡ 0
-    → IsOnFabric (Some (generated g.turns)) program_file g.fabric (columns_in loaded) (registers_in loaded) (shape_in loaded)
+    → IsOnFabric (Some (generated g.turns)) program_file g.target (columns_in loaded) (registers_in loaded) (shape_in loaded)
     → IsRunOf loaded (job_for g) k Bench.Nothing bench a → (a ≡ Answer.WriteFault → ⊥) → IsGenVerdict g a ⊎ (a ≡ Answer.Memory)
 gen_ran g k loaded bench a told before now gives ran no_write =
     let owed = run_owed (generated g.turns) (job_for g) k Bench.Nothing bench a told (come g k loaded bench a told gives ran) in
@@ -176,6 +165,8 @@ put_more g put other machine more has = record {
   program = has.program;
   widths = has.widths;
   has = has.has;
+  units = has.units;
+  counts = has.counts;
   conf = has.conf;
   gives = has.gives;
   ends = has.ends;

@@ -21,7 +21,7 @@ gen_good {N} {P} g put machine has = inr (record { N = N; P = P; conf = has.conf
 gen_never : (g : Generation) (a b : Answer) → IsGenVerdict g a → a ≡ b → refuses b ≡ false → ((e : Ending) → ended_by e ≡ b → ⊥) → ⊥
 gen_never g a b (inl (inl (is, missing))) same off ended = cc
 gen_never g a b (inl (inr (inl (is, long)))) same off ended = true≢false (ap refuses (sym is ∙ same) ∙ off)
-gen_never g a b (inl (inr (inr bad))) same off ended = true≢false (sym (compile_refuses _ _ bad.text a bad.refused) ∙ (ap refuses same ∙ off))
+gen_never g a b (inl (inr (inr bad))) same off ended = true≢false (sym (compile_refuses _ _ _ bad.text a bad.refused) ∙ (ap refuses same ∙ off))
 gen_never g a b (inr is) same off ended = ended _ (sym is.last ∙ same)
 
 not_fault : (e : Ending) → ended_by e ≡ Answer.ReadFault → ⊥

@@ -1,8 +1,8 @@
 -- One program, as its text and as its configuration file.
 use Rattle.std.specs.Prelude.{◌≡◌, ◌≤◌, ℕ, true, List, length, Option, Some}
-use Rattle.pr_code.specs.declared.fabrics.Fabric.{Fabric}
 use Rattle.pr_code.specs.Spelling.{has_bytes}
 use Rattle.pr_conf.specs.Shape.{Shape}
+use Rattle.pr_tool_modes.specs.declared.targets.Target.{Target}
 use Rattle.pr_tool_modes.specs.declared.texts.Form.{Form}
 use Rattle.pr_tool_modes.specs.Jobs.{Job}
 use Rattle.pr_tool_modes.specs.Sources.{Source, File, Text, Gives}
@@ -14,11 +14,11 @@ from_source source j = record j { source = source }
 
 -- the program in one file has a configuration, whose constants are bytes, and another file has what is written of it; that file
 -- is no longer than a configuration file may be
-pub record IsKept (files : List ℕ → Option (List ℕ)) (name : List ℕ) (fabric : Fabric) (kept : List ℕ) : Type 0 where
+pub record IsKept (files : List ℕ → Option (List ℕ)) (name : List ℕ) (target : Target) (kept : List ℕ) : Type 0 where
   pub N : ℕ
   pub P : ℕ
   pub conf : Shape
-  pub gives : Gives (Some files) (Text name fabric) N P conf
+  pub gives : Gives (Some files) (Text name target) N P conf
   pub bytes : has_bytes conf ≡ true
   pub file : files kept ≡ Some (text_in Form.File N P conf)
   pub short : length (text_in Form.File N P conf) ≤ 16777216

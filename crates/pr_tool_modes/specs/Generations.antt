@@ -3,8 +3,7 @@ use Rattle.std.specs.Prelude.{◌≡◌, ◌==◌, ℕ, Bool, false, nat_eq, Lis
 use Rattle.std.specs.List.{before_first}
 use Rattle.std.specs.Cmp.Lexicographic.{pointwise}
 use Rattle.pr_base.specs.Rows.{written}
-use Rattle.pr_code.specs.declared.fabrics.Fabric.{Fabric}
-use Rattle.pr_compile.specs.Configured.{net_by}
+use Rattle.pr_compile.specs.Configured.{HasUnits}
 use Rattle.pr_conf.specs.Shape.{Shape}
 use Rattle.pr_control.specs.Counts.{cycles_of}
 use Rattle.pr_edge.specs.Count.{Rose}
@@ -19,6 +18,7 @@ use Rattle.pr_samples.specs.Fed.{End}
 use Rattle.pr_tool_answers.specs.declared.answers.Answer.{Answer}
 use Rattle.pr_tool_modes.specs.declared.benches.Bench.{Bench}
 use Rattle.pr_tool_modes.specs.declared.jobs.Generation.{Generation as NamedGeneration}
+use Rattle.pr_tool_modes.specs.declared.targets.Target.{Target}
 use Rattle.pr_tool_modes.specs.Executions.{IsRunVerdict}
 use Rattle.pr_tool_modes.specs.Jobs.{Job, job}
 use Rattle.pr_tool_modes.specs.Lines.{OnBench}
@@ -26,14 +26,14 @@ use Rattle.pr_tool_modes.specs.Programs.{HasProgram}
 use Rattle.pr_tool_modes.specs.Samples.{fed_in, pieces}
 use Rattle.pr_tool_modes.specs.Sources.{Text, IsOnFabric}
 
--- the turns of the program's loop, the fabric that it is compiled for, and the stripes
+-- the turns of the program's loop, what it is compiled for, and the stripes
 pub record Generation : Type 0 where
   pub turns : ℕ
-  pub fabric : Fabric
+  pub target : Target
   pub stripes : ℕ
 
 abbrev pub generation_of : NamedGeneration → Generation
-generation_of g = record { turns = g.turns; fabric = g.fabric; stripes = g.stripes }
+generation_of g = record { turns = g.turns; target = g.target; stripes = g.stripes }
 
 -- ---- the files
 abbrev pub program_file : List ℕ
@@ -49,7 +49,7 @@ generated turns name =
 
 -- the run of the program on the samples
 abbrev pub job_for : Generation → Job
-job_for g = job (Text program_file g.fabric) samples_file None g.stripes false
+job_for g = job (Text program_file g.target) samples_file None g.stripes false
 
 abbrev pub rows_for : Shape → List (List ℕ)
 rows_for conf = (fed_in conf.inputs samples_text).samples
@@ -83,17 +83,19 @@ Tells turns units lines text machine =
     → text ≡ summary turns units (length conf.stages) (account_of conf stripes history).time lines
 
 -- no point refuses the program, its samples are all good, the machine was asked all events of the run on them, and the summary
--- of the run is put: its units are those of the program, its cycles those that drain the samples, and its lines those of what
+-- of the run is put: its units are those of the program's net, its cycles those that drain the samples, and its lines those of what
 -- the program means
 pub record HasGenerated {N P : ℕ} (g : Generation) (put : List ℕ → Type 0) (machine : Going N P) : Type 0 where
   pub program : Program
   pub widths : List ℕ
   pub has : HasProgram (Some (generated g.turns)) program_file program widths
+  pub units : ℕ
+  pub counts : HasUnits g.target.narrowed (program_text g.turns) units
   pub conf : Shape
-  pub gives : IsOnFabric (Some (generated g.turns)) program_file g.fabric N P conf
+  pub gives : IsOnFabric (Some (generated g.turns)) program_file g.target N P conf
   pub ends : (fed_in conf.inputs samples_text).ending ≡ End
   pub stands : Stands machine conf g.stripes (script (length conf.stages) g.stripes (pieces conf (rows_for conf)) [])
-  pub text : put (summary g.turns (length (net_by program widths).units) (length conf.stages)
+  pub text : put (summary g.turns units (length conf.stages)
       (cycles_of (length conf.stages) g.stripes (length (rows_for conf))) (written (out program (rows_for conf))))
 
 -- ---- what it comes to

@@ -41,7 +41,7 @@ fn job_of(generation: &Generation) -> Job<'static>
     Job {
         source: Source::Program {
             name: PROGRAM,
-            fabric: generation.fabric,
+            target: generation.target,
         },
         samples: SAMPLES,
         stall: None,
@@ -147,7 +147,7 @@ fn run_generated(alloc: Global, generation: &Generation) -> Result<Generated, An
         Ok(shelf) => shelf,
         Err(_) => return Err(Answer::Memory),
     };
-    let made = match compile_file(alloc, &mut shelf, PROGRAM, generation.fabric) {
+    let made = match compile_file(alloc, &mut shelf, PROGRAM, generation.target) {
         Ok(made) => made,
         Err(answer) => return Err(answer),
     };

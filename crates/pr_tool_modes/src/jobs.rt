@@ -1,7 +1,7 @@
 //! What a run is asked to do.
 ghost use Rattle.std.specs.Prelude.{◌≤◌};
 
-use pr_code::Fabric;
+use crate::targets::Target;
 
 /// Where a configuration comes from.
 #[derive(Clone, Copy, PartialEq, Eq, Debug)]
@@ -15,8 +15,8 @@ pub enum Source<'a> {
     Program {
         /// Its name.
         name: &'a str,
-        /// The fabric that it is compiled for.
-        fabric: Fabric,
+        /// What it is compiled for.
+        target: Target,
     },
 }
 
@@ -42,8 +42,8 @@ pub struct Job<'a> {
 pub struct Generation {
     /// The turns of its loop.
     pub turns: u32,
-    /// The fabric that it is compiled for.
-    pub fabric: Fabric,
+    /// What it is compiled for.
+    pub target: Target,
     /// The number of stripes.
     pub stripes: usize,
     ghost least_turns: { 1 ≤ turns },

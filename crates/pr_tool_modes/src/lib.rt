@@ -17,6 +17,7 @@ mod results;
 mod runs;
 mod sources;
 mod stalls;
+mod targets;
 mod texts;
 
 pub use benches::Bench;
@@ -30,6 +31,6 @@ pub use loadables::Loadable;
 pub use pr_base::Cap;
 pub use pr_code::Fabric;
 pub use pr_tool_answers::Answer;
-pub use programs::refuse_program;
 pub use sources::load;
+pub use targets::Target;
 pub use texts::{Form, write_text};

@@ -244,10 +244,10 @@ const LINES: [Line<'_>; 42] = [
     ),
     (
         &["run", "p", "s", "--narrow"],
-        Answer::NotYet,
-        13,
+        Answer::Ok,
+        0,
+        "6\n254\n",
         "",
-        "not yet\n",
     ),
     (
         &["run", "n", "s"],

@@ -30,7 +30,10 @@ fn of_inputs(alloc: Global, inputs: usize) -> Result<Vec<u8>, AllocError> {
 /// A program with so many complements of its input, of which it shows the first.
 fn of_complements(alloc: Global, count: usize) -> Result<Vec<u8>, AllocError> {
     let mut text = String::new(alloc);
-    write!(text, "input x:8; for i in 0..{count} {{ let t[i]:8 = ~x; }} output y = t[0];")?;
+    write!(
+        text,
+        "input x:8; for i in 0..{count} {{ let t[i]:8 = ~x; }} output y = t[0];"
+    )?;
     Vec::from_slice(alloc, text.as_bytes())
 }
 
@@ -79,7 +82,14 @@ fn bytes_of_a_program(rt: HostRuntime) -> Result<(), Fail> {
     check_texts(&rt, alloc, &words, most, "5 3\n", written("6\n"))?;
     let long = of_bytes(alloc, 1_048_577)?;
     let note = "limit: program-bytes 1048576\n";
-    check_texts(&rt, alloc, &words, long, "5 3\n", passed(Cap::ProgramBytes, note))?;
+    check_texts(
+        &rt,
+        alloc,
+        &words,
+        long,
+        "5 3\n",
+        passed(Cap::ProgramBytes, note),
+    )?;
     Ok(())
 }
 
@@ -88,13 +98,41 @@ fn inputs_and_equations(rt: HostRuntime) -> Result<(), Fail> {
     let alloc = rt.alloc();
     let wide = ["run", "p", "s", "--fabric", "wide"];
     let seventeen = "9 1 2 3 4 5 6 7 8 9 10 11 12 13 14 15 16\n";
-    check_texts(&rt, alloc, &wide, of_inputs(alloc, 17)?, seventeen, written("9\n"))?;
+    check_texts(
+        &rt,
+        alloc,
+        &wide,
+        of_inputs(alloc, 17)?,
+        seventeen,
+        written("9\n"),
+    )?;
     let note = "limit: input-bytes 32\n";
-    check_texts(&rt, alloc, &wide, of_inputs(alloc, 64)?, "", passed(Cap::InputBytes, note))?;
+    check_texts(
+        &rt,
+        alloc,
+        &wide,
+        of_inputs(alloc, 64)?,
+        "",
+        passed(Cap::InputBytes, note),
+    )?;
     let eval = ["eval", "p", "s"];
-    check_texts(&rt, alloc, &eval, of_complements(alloc, 16_383)?, "7\n", written("248\n"))?;
+    check_texts(
+        &rt,
+        alloc,
+        &eval,
+        of_complements(alloc, 16_383)?,
+        "7\n",
+        written("248\n"),
+    )?;
     let note = "limit: equations 16384\n";
     let above = of_complements(alloc, 16_384)?;
-    check_texts(&rt, alloc, &eval, above, "7\n", passed(Cap::Equations, note))?;
+    check_texts(
+        &rt,
+        alloc,
+        &eval,
+        above,
+        "7\n",
+        passed(Cap::Equations, note),
+    )?;
     Ok(())
 }
