@@ -1,5 +1,5 @@
 -- What comes of the file of a source, and the verdict on it.
-use Rattle.std.proofs.Common.{◌≡◌, ◌⊎◌, ◌≤◌, ◌∙◌, ℕ, List, length, Option, Some, None, refl, sym, ap, subst, inl, inr}
+use Rattle.std.proofs.Common.{◌≡◌, ◌⊎◌, ◌≤◌, ◌∙◌, ℕ, false, List, length, Option, Some, None, refl, sym, ap, subst, inl, inr}
 use Rattle.pr_base.specs.declared.caps.Cap.{Cap}
 use Rattle.pr_code.specs.declared.fabrics.Fabric.{Fabric}
 use Rattle.pr_conf.specs.Shape.{Shape}
@@ -60,7 +60,7 @@ one_conf files (Text name fabric) N P M Q c d is by =
     let one = of_fabric (Some files) name fabric N P c is in
     let other = of_fabric (Some files) name fabric M Q d by in
     let same : other.text ≡ one.text = (let both : Some other.text ≡ Some one.text = sym other.file ∙ one.file in cc) in
-    one_compiled (columns fabric) (registers fabric) one.text c d one.is (subst (λ (t : List ℕ). IsCompiled (columns fabric) (registers fabric) t d) same other.is)
+    one_compiled (columns fabric) (registers fabric) one.text c d one.is (subst (λ (t : List ℕ). IsCompiled (columns fabric) (registers fabric) false t d) same other.is)
 
 -- ---- what a refusal answers
 pub source_kind : (told : Told) (source : Source) (before now : ℕ) (a : Answer) → IsSourceRefusal told source before now a → IsKind (HasReadCause told (name_in source) before now) a

@@ -1,5 +1,5 @@
 -- Programs that are read from files, and why their texts are refused.
-use Rattle.std.specs.Prelude.{◌≡◌, ◌≤◌, ◌⊎◌, ℕ, List, length, Option, Some}
+use Rattle.std.specs.Prelude.{◌≡◌, ◌≤◌, ◌⊎◌, ℕ, false, List, length, Option, Some}
 use Rattle.pr_base.specs.declared.caps.Cap.{Cap}
 use Rattle.pr_edge.specs.Files.{Told}
 use Rattle.pr_lang.specs.declared.trees.Program.{Program}
@@ -78,7 +78,7 @@ compile_answer (fault.Memory e) = Answer.Memory
 -- a point up to a configuration for N columns and P registers refuses the text so
 pub record IsUncompiled (N P : ℕ) (text : List ℕ) (answer : Answer) : Type 0 where
   pub fault : CompileFault
-  pub refused : IsRefused N P text fault
+  pub refused : IsRefused N P false text fault
   pub answers : answer ≡ compile_answer fault
 
 -- the file has the text of a program that no point refuses, and this is its configuration
@@ -86,4 +86,4 @@ pub record HasCompiled (told : Told) (name : List ℕ) (N P : ℕ) (conf : Shape
   pub text : List ℕ
   pub file : IsText told name text
   pub short : length text ≤ 1048576
-  pub is : IsCompiled N P text conf
+  pub is : IsCompiled N P false text conf

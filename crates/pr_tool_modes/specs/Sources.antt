@@ -1,5 +1,5 @@
 -- Where a configuration comes from: a configuration file, or the file of a program that is compiled.
-use Rattle.std.specs.Prelude.{◌≡◌, ℕ, List, Option}
+use Rattle.std.specs.Prelude.{◌≡◌, ℕ, false, List, Option}
 use Rattle.pr_base.specs.declared.caps.Cap.{Cap}
 use Rattle.pr_edge.specs.Files.{Told}
 use Rattle.pr_conf.specs.Shape.{Shape}
@@ -46,7 +46,7 @@ shape_in (Loadable.Wide conf) = shape_of conf
 pub record CompilesTo (fabric : Fabric) (N P : ℕ) (text : List ℕ) (conf : Shape) : Type 0 where
   pub columns_are : N ≡ columns fabric
   pub registers_are : P ≡ registers fabric
-  pub is : IsCompiled N P text conf
+  pub is : IsCompiled N P false text conf
 
 -- the same of the program in a file
 pub record IsOnFabric (told : Told) (name : List ℕ) (fabric : Fabric) (N P : ℕ) (conf : Shape) : Type 0 where

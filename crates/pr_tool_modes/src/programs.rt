@@ -1,5 +1,5 @@
 //! Programs that are read from files.
-ghost use Rattle.std.specs.Prelude.{◌≡◌, ◌≢◌, ◌≤◌, ◌⊎◌, ℕ, List, length, IfOk, IfErr};
+ghost use Rattle.std.specs.Prelude.{◌≡◌, ◌≢◌, ◌≤◌, ◌⊎◌, ℕ, false, List, length, IfOk, IfErr};
 ghost use Rattle.pr_base.specs.declared.caps.Cap.{Cap};
 ghost use Rattle.pr_conf.specs.Configuration.{shape_of};
 ghost use Rattle.pr_compile.specs.Configured.{IsCompiled};
@@ -76,7 +76,7 @@ fn compile_text<const N: usize, const P: usize>(
     requires most_columns { N ≤ 64 }
     requires registers { 2 ≤ P }
     requires most_registers { P ≤ 16 }
-    ensures compiled { IfOk result (λ c. IsCompiled N P text.now (shape_of c)) }
+    ensures compiled { IfOk result (λ c. IsCompiled N P false text.now (shape_of c)) }
     ensures refused { IfErr result (λ a. IsUncompiled N P text.now a ⊎ (a ≡ Answer.Memory)) }
 {
     match compile::<N, P>(alloc, text) {
