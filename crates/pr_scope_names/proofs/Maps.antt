@@ -1,6 +1,6 @@
 -- Maps by names: what a change at one name leaves at any name.
 use mathlib.Core.Path.{fun_ext}
-use Rattle.std.proofs.Common.{◌≡◌, ℕ, Bool, true, false, cond, ◌||◌, List, Option, None, Some, option_map, Vec, Global, BTreeMap, refl, sym, subst, ap, ◌∙◌, ⊎_elim, nat_cmp, is_eq, bytes_eq}
+use Rattle.std.proofs.Common.{◌≡◌, ◌≢◌, ℕ, Bool, true, false, cond, ◌||◌, List, Option, None, Some, option_map, Vec, Global, BTreeMap, refl, sym, subst, ap, ◌∙◌, ⊎_elim, nat_cmp, is_eq, bytes_eq}
 use Rattle.std.specs.Cmp.{eq_by_cmp_equiv}
 use Rattle.std.specs.Cmp.Lexicographic.{slice_cmp, bytes_decides, nat_list_cmp_total, nat_list_eq_equiv}
 use Rattle.std.specs.Map.{update, lookup, IsKeyTest, AreApart, KeepsOthers}
@@ -50,6 +50,15 @@ twice false x y z = refl
 -- a name that is taken out and put back
 pub rebound : {X : Type 0} (name : List ℕ) (f g : X) (s t : List ℕ → Option X) → f ≡ g → t ≡ unbind name s → bind name f t ≡ bind name g s
 rebound name f g s t e h = rw (e, h) (fun_ext (λ q. twice (bytes_eq name q) (Some g) None (s q)))
+
+-- a name that is taken out changes no other
+pub unbind-other : {X : Type 0} (name q : List ℕ) (s t : List ℕ → Option X) → t ≡ unbind name s → q ≢ name → t q ≡ s q
+unbind-other {X} name q s t h other =
+    ap (λ (f : List ℕ → Option X). f q) h
+    ∙ ⊎_elim
+    (λ y. absurd (other (sym ((bytes_decides name q).0 y))))
+    (λ n. cond-false (bytes_eq name q) None (s q) n)
+    (cases_Bool (bytes_eq name q))
 
 -- a name that is put and taken out again
 pub unbound : {X : Type 0} (name : List ℕ) (x : X) (s : List ℕ → Option X) → s name ≡ None → unbind name (bind name x s) ≡ s

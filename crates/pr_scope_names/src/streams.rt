@@ -1,5 +1,5 @@
 //! The streams that are assigned.
-ghost use Rattle.std.specs.Prelude.{◌≡◌, ◌||◌, ℕ, false, Option, None, IfOk, OnOk, is_some};
+ghost use Rattle.std.specs.Prelude.{◌≡◌, ◌≢◌, ◌||◌, ℕ, List, false, Option, None, IfOk, OnErr, OnOk, is_some};
 ghost use Rattle.pr_scope_names.specs.Names.{bind, has_place, held, same_place, streams_in, unbind, with_place};
 
 use pr_lang::Name;
@@ -87,7 +87,10 @@ impl Streams {
 
     /// This instance is assigned from now on.
     pub fn add(&mut self, alloc: Global, name: &Name, place: Option<u64>) -> Result<(), AllocError>
-        ensures { OnOk result (streams_in self.new ≡ with_place name.now place (streams_in self.old)) }
+        ensures added { OnOk result (streams_in self.new ≡ with_place name.now place (streams_in self.old)) }
+
+        // Where memory is wanting, no other name is touched.
+        ensures others { OnErr result ((q : List ℕ) → q ≢ name.now → streams_in self.new q ≡ streams_in self.old q) }
     {
         let key = Vec::from_slice(alloc, name.as_bytes())?;
         let places = self.take(alloc, name);
@@ -106,7 +109,8 @@ impl Streams {
     }
 
     fn put(&mut self, name: Vec<u8>, places: Places) -> Result<(), AllocError>
-        ensures { OnOk result (streams_in self.new ≡ bind name.items (has_place places) (streams_in self.old)) }
+        ensures put { OnOk result (streams_in self.new ≡ bind name.items (has_place places) (streams_in self.old)) }
+        ensures same { OnErr result (streams_in self.new ≡ streams_in self.old) }
     {
         self.map.insert(name, places)?;
         Ok(())
