@@ -1,7 +1,6 @@
 -- Why texts are refused: one reason at most, none for a text from which something came, and never as samples are.
-use Rattle.std.proofs.Common.{◌≡◌, ◌⊎◌, ◌≤◌, ◌∙◌, ℕ, Bool, true, false, cond, not, List, length, nat_lt, Option, Some, None, refl, sym, ap, subst, inl, inr, true≢false}
+use Rattle.std.proofs.Common.{◌≡◌, ◌⊎◌, ◌∙◌, ℕ, Bool, true, false, cond, not, List, Some, None, refl, sym, ap, subst, inl, inr, true≢false}
 use Rattle.pr_base.specs.declared.caps.Cap.{Cap}
-use Rattle.pr_code.specs.Rules.{Broken}
 use Rattle.pr_lang.specs.declared.trees.Program.{Program}
 use Rattle.pr_net.specs.Shape.{NetShape}
 use Rattle.pr_conf.specs.Shape.{Shape}
@@ -15,7 +14,7 @@ use Rattle.pr_compile.specs.declared.faults.CompileFault.TheVariants as fault
 use Rattle.pr_compile.specs.Configured.{net_by, IsCompiled}
 use Rattle.pr_compile.specs.Refusals.{IsRefused, IsCompileAnswer}
 use Rattle.pr_tool_answers.specs.declared.answers.Answer.{Answer}
-use Rattle.pr_tool_modes.specs.Configurations.{broken_answer, HasBroken, IsWordRefusal, IsBadConfiguration, broken_in}
+use Rattle.pr_tool_modes.specs.Configurations.{broken_answer, IsWordRefusal, IsBadConfiguration, broken_in}
 use Rattle.pr_tool_modes.specs.Programs.{front_answer, compile_answer, IsBadProgram, IsUncompiled}
 use Rattle.pr_tool_modes.proofs.CompileLaws.{one_refusal, never_compiled}
 
