@@ -3,7 +3,7 @@
 ghost use Rattle.std.specs.Prelude.{true, ◌≡◌, ℕ, ◌+◌, ◌*◌, ◌/◌, ◌%◌, ◌^◌, ◌<◌, ◌≤◌, length, slice_index, if◌then◌else◌, nat_le, bit_or, bit_and};
 ghost use Rattle.std.specs.Simd.Lanes.{number_l, digits_l};
 ghost use Rattle.pr_base.specs.Pe.{shifted};
-ghost use Rattle.pr_lanes.specs.Rows.{chosen};
+ghost use Rattle.pr_lanes.specs.Rows.{chosen, ones_where};
 ghost use Rattle.pr_stripe_prepared.specs.Sums.{carry_into};
 ghost use Rattle.pr_stripe_prepared.specs.Lanes.{HasLanes, is_place};
 
@@ -73,6 +73,27 @@ pub(crate) fn masked(row: u8x16, mask: u8x16) -> u8x16
     ensures { HasLanes 16 result (λ k. bit_and (slice_index row k) (slice_index mask k)) }
 {
     row & mask
+}
+
+/// All ones where a byte has one of these bits, and 0 elsewhere.
+#[inline(always)]
+pub(crate) fn ones_in(row: u8x16, bits: u8x16) -> u8x16
+    requires row { length row ≡ 16 }
+    requires bits { length bits ≡ 16 }
+    ensures { HasLanes 16 result (λ k. ones_where (slice_index row k) (slice_index bits k)) }
+{
+    let none = (row & bits).simd_eq(u8x16::splat(0));
+    none.select(u8x16::splat(0), u8x16::splat(255))
+}
+
+/// The sums of two rows, which wrap.
+#[inline(always)]
+pub(crate) fn added(a: u8x16, b: u8x16) -> u8x16
+    requires a { length a ≡ 16 }
+    requires b { length b ≡ 16 }
+    ensures { HasLanes 16 result (λ k. (slice_index a k + slice_index b k) % 256) }
+{
+    a + b
 }
 
 /// A row, twice.

@@ -6,8 +6,8 @@ ghost use Rattle.pr_stripe_prepared.specs.Lanes.{is_place};
 ghost use Rattle.pr_stripe_prepared.specs.Prepared.{IsPrepared};
 
 use crate::elements::{
-    a_row, any_shift, any_state, any_sum, are_given, both_sources, carry_row, low_row, mask_row,
-    output_row, rest_sources, shift_row, sum_row, table_row,
+    a_row, any_c, any_rest, any_state, any_sum, are_given, both_sources, c_row, carry_row,
+    from_c_row, low_row, mask_row, output_row, rest_sources, shift_row, sum_row, tables,
 };
 use crate::places::{known_row, row_row, state_row};
 use crate::stages::Prepared;
@@ -55,10 +55,10 @@ pub fn prepare(alloc: Global, pes: &[Pe], registers: usize) -> Result<Option<Pre
         both_state: state_row(&both),
         rest: known_row(&rest),
         rest_state: state_row(&rest),
-        t1: table_row(pes, 1),
-        t2: table_row(pes, 2),
-        t4: table_row(pes, 4),
-        t8: table_row(pes, 8),
+        off: tables(pes, 0),
+        on: tables(pes, 1),
+        c_bits: c_row(pes),
+        from_c: from_c_row(pes),
         shifts: shift_row(pes),
         low: low_row(pes),
         cin: carry_row(pes),
@@ -69,7 +69,8 @@ pub fn prepare(alloc: Global, pes: &[Pe], registers: usize) -> Result<Option<Pre
         marks,
         terms,
         rest_terms,
-        has_rest: any_shift(pes),
+        has_rest: any_rest(pes),
+        has_c: any_c(pes),
         has_sums: any_sum(pes),
         has_state: any_state(pes),
         reach: registers * 16,

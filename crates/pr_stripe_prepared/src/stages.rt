@@ -11,6 +11,15 @@ pub struct Term {
     pub ghost places: { (k : ℕ) → k < 32 → is_place (slice_index picks k) ≡ true },
 }
 
+/// For each column, all ones where the half of its table that one value of C chooses has that bit.
+#[derive(Clone, Copy)]
+pub struct Table {
+    pub t1: [u8; 16],
+    pub t2: [u8; 16],
+    pub t4: [u8; 16],
+    pub t8: [u8; 16],
+}
+
 /// A stage of 16 columns, as whole rows.
 #[derive(Drop)]
 pub struct Prepared {
@@ -18,10 +27,10 @@ pub struct Prepared {
     pub both_state: [u8; 32],
     pub rest: [u8; 32],
     pub rest_state: [u8; 32],
-    pub t1: [u8; 16],
-    pub t2: [u8; 16],
-    pub t4: [u8; 16],
-    pub t8: [u8; 16],
+    pub off: Table,
+    pub on: Table,
+    pub c_bits: [u8; 16],
+    pub from_c: [u8; 16],
     pub shifts: [u16; 16],
     pub low: [u8; 16],
     pub cin: [u8; 16],
@@ -33,6 +42,7 @@ pub struct Prepared {
     pub terms: Vec<Term>,
     pub rest_terms: Vec<Term>,
     pub has_rest: bool,
+    pub has_c: bool,
     pub has_sums: bool,
     pub has_state: bool,
     pub reach: usize,

@@ -72,8 +72,8 @@ pub fn step(
     ensures state { (pes : List Pe) → IsPrepared q.now pes count → state.new ≡ state_map 16 pes state.old row.now }
 {
     let was = loaded(state);
-    let (a, b) = operands(q, row, was);
-    let output = outputs(q, a, b);
+    let (a, b, c) = operands(q, row, was);
+    let output = outputs(q, a, b, c);
     pass(registers, before, &q.marks, &output.to_array(), count);
     if q.has_state {
         let first = choose(was, output, row_of(&q.to_output));

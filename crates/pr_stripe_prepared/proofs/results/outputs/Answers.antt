@@ -13,12 +13,15 @@ pub returns-clause-outputs : goal.returns-clause-outputs
 returns-clause-outputs c =
     let q = c.args.q.now in
     let x = c.look_up_all-x.result in
-    same_lanes 16 c.masked.result _ (result_k q c.args.a c.args.b) c.masked.ensures (λ k l.
-    ap (λ s. bit_and s (get_or c.row_of.result k 0)) (c.sum_all.ensures.sums.each k l ∙ ap (λ xs. summed q c.args.a xs k) (as_row 16 x (found q c.args.a c.args.b) c.look_up_all-x.ensures))
-    ∙ ap (λ ms. bit_and (summed q c.args.a (row_by 16 (found q c.args.a c.args.b)) k) (get_or ms k 0)) c.row_of.ensures.is)
+    same_lanes 16 c.masked.result _ (result_k q c.args.a c.args.b c.args.c) c.masked.ensures (λ k l.
+    ap (λ s. bit_and s (get_or c.row_of.result k 0)) (c.sum_all.ensures.sums.each k l ∙ ap (λ xs. summed q c.args.a xs c.args.c k) (as_row 16 x (found q c.args.a c.args.b c.args.c) c.look_up_all-x.ensures.lanes))
+    ∙ ap (λ ms. bit_and (summed q c.args.a (row_by 16 (found q c.args.a c.args.b c.args.c)) c.args.c k) (get_or ms k 0)) c.row_of.ensures.is)
 
 pub returns-clause-operands : goal.returns-clause-operands
 returns-clause-operands c = λ k l. (lane c.args.a c.requires.a c.fits-a.1 k l, lane c.args.b c.requires.b c.fits-b.1 k l)
 
 pub returns-clause-found : goal.returns-clause-found
-returns-clause-found c = λ k l. subst (λ y. y < 256) (c.look_up_all-x.ensures.each k l) (c.sum_all.ensures.small k l)
+returns-clause-found c = λ k l. subst (λ y. y < 256) (c.look_up_all-x.ensures.lanes.each k l) (c.sum_all.ensures.small k l)
+
+pub returns-clause-halves : goal.returns-clause-halves
+returns-clause-halves c = c.look_up_all-x.ensures.bytes
