@@ -41,3 +41,10 @@ of_row n v f e = record { long = ap length e ∙ length-row_by n f; each = λ k 
 -- lanes that are the same
 pub same_lanes : (n : ℕ) (v : List ℕ) (f g : ℕ → ℕ) → HasLanes n v f → ((k : ℕ) → k < n → f k ≡ g k) → HasLanes n v g
 same_lanes n v f g h same = record { long = h.long; each = λ k l. h.each k l ∙ same k l }
+
+-- rows of 16, as they are
+pub row_of : (xs : List ℕ) → length xs ≡ 16 → xs ≡ row_by 16 (λ i. get_or xs i 0)
+row_of xs h = as_row 16 xs (λ i. get_or xs i 0) (own 16 xs h)
+
+pub all_of : (y : ℕ) → replicate 16 y ≡ row_by 16 (λ _. y)
+all_of y = as_row 16 (replicate 16 y) (λ _. y) (splat_of 16 y)

@@ -5,7 +5,7 @@ ghost use Rattle.pr_base.specs.Pe.{carry_in, next_state};
 ghost use Rattle.pr_conf.specs.declared.pes.Pe.{Pe};
 ghost use Rattle.pr_conf.specs.declared.pes.Source.{Source};
 ghost use Rattle.pr_lanes.specs.Rows.{ones_where, half};
-ghost use Rattle.pr_stripe_prepared.specs.Elements.{sum_mark, c_source, c_bit, is_read_bit, from_c, low_mask, is_chain, goes_on, table_of, bit_of, from_c_of, carry_of, shift_of, output_of, a_of, IsSuited};
+ghost use Rattle.pr_stripe_prepared.specs.Elements.{sum_mark, c_source, c_bit, c_carry, is_read_bit, from_c, low_mask, zero_mask, takes_carry, is_chain, goes_on, table_of, bit_of, carry_bit_of, from_c_of, carry_of, shift_of, output_of, a_of, IsSuited};
 ghost use Rattle.pr_stripe_prepared.specs.Tables.{HasTable};
 
 use crate::places::suits;
@@ -33,6 +33,26 @@ fn bit_byte(c: Bit) -> u8
     }
 }
 
+/// 1 where C is the carry-in.
+fn carry_bit(c: Bit) -> u8
+    ensures { result ≡ c_carry c }
+{
+    match c {
+        Bit::CarryIn => 1,
+        Bit::None | Bit::Of(_, _) => 0,
+    }
+}
+
+/// Whether a column takes a carry.
+fn needs_carry(mode: Mode, c: Bit) -> bool
+    ensures { result ≡ takes_carry mode c }
+{
+    match mode {
+        Mode::Plain => carry_bit(c) == 1,
+        Mode::Sum | Mode::Zero => true,
+    }
+}
+
 /// All ones where the table has a one for these bits of A and B, and for C.
 fn table_byte(table: u8, c: u8, bit: u8) -> u8
     ensures { result ≡ ones_where (half table c) bit }
@@ -46,9 +66,8 @@ fn sum_byte(mode: Mode) -> u8
     ensures { result ≡ sum_mark mode }
 {
     match mode {
-        Mode::Plain => 0,
         Mode::Sum => 255,
-        Mode::Zero => 1,
+        Mode::Plain | Mode::Zero => 0,
     }
 }
 
@@ -99,6 +118,16 @@ fn low_byte(mode: Mode, on: bool) -> u8
     }
 }
 
+/// All ones in a column that tests for 0, where the next column sees the carry.
+fn zero_byte(mode: Mode, on: bool) -> u8
+    ensures { result ≡ zero_mask mode on }
+{
+    match mode {
+        Mode::Zero => if on { 255 } else { 0 },
+        Mode::Plain | Mode::Sum => 0,
+    }
+}
+
 fn shift_word(shift: u8) -> u16
     requires { shift < 8 }
     ensures { result ≡ 2 ^ shift }
@@ -106,7 +135,7 @@ fn shift_word(shift: u8) -> u16
     1 << shift
 }
 
-fn chains(carry: Carry) -> bool
+pub(crate) fn chains(carry: Carry) -> bool
     ensures { result ≡ is_chain carry }
 {
     matches!(carry, Carry::Chain)
@@ -124,23 +153,13 @@ fn goes_up(pes: &[Pe], k: usize) -> bool
     chains(pes[k + 1].cin)
 }
 
-/// Whether C is a bit of a byte, or none.
+/// Whether C is a bit of a byte, the carry-in, or none.
 fn is_read(c: Bit) -> bool
     ensures { result ≡ is_read_bit c }
 {
     match c {
-        Bit::None => true,
+        Bit::None | Bit::CarryIn => true,
         Bit::Of(_, place) => place < 8,
-        Bit::CarryIn => false,
-    }
-}
-
-fn sums_or_not(mode: Mode) -> bool
-    ensures { result ≡ true → sum_mark mode % 255 ≡ 0 }
-{
-    match mode {
-        Mode::Plain | Mode::Sum => true,
-        Mode::Zero => false,
     }
 }
 
@@ -154,7 +173,6 @@ fn is_given(pe: &Pe, registers: usize) -> bool
         && suits(registers, pe.lo)
         && suits(registers, source_of(pe.c))
         && is_read(pe.c)
-        && sums_or_not(pe.mode)
         && pe.shift < 8
 }
 
@@ -206,6 +224,18 @@ pub(crate) fn c_row(pes: &[Pe]) -> [u8; 16]
     let mut row = [0; 16];
     for k in 0..16 {
         row[k] = bit_byte(pes[k].c);
+    }
+    row
+}
+
+pub(crate) fn c_carry_row(pes: &[Pe]) -> [u8; 16]
+    requires pes { length pes.now ≡ 16 }
+    ensures long { length result ≡ 16 }
+    ensures each { (k : ℕ) (d : Pe) → k < 16 → slice_index result k ≡ carry_bit_of (slice_index_or pes.now k d) }
+{
+    let mut row = [0; 16];
+    for k in 0..16 {
+        row[k] = carry_bit(pes[k].c);
     }
     row
 }
@@ -307,7 +337,19 @@ pub(crate) fn low_row(pes: &[Pe]) -> [u8; 16]
     row
 }
 
-/// Whether a column moves B, or has C.
+pub(crate) fn zero_row(pes: &[Pe]) -> [u8; 16]
+    requires pes { length pes.now ≡ 16 }
+    ensures long { length result ≡ 16 }
+    ensures each { (k : ℕ) (d e : Pe) → k < 16 → slice_index result k ≡ zero_mask (slice_index_or pes.now k d).mode (goes_on pes.now k e) }
+{
+    let mut row = [0; 16];
+    for k in 0..16 {
+        row[k] = zero_byte(pes[k].mode, goes_up(pes, k));
+    }
+    row
+}
+
+/// Whether a column moves B, or has C that is a bit of a byte.
 pub(crate) fn any_rest(pes: &[Pe]) -> bool
     requires pes { length pes.now ≡ 16 }
     requires read { (k : ℕ) (d : Pe) → k < 16 → is_read_bit (slice_index_or pes.now k d).c ≡ true }
@@ -325,23 +367,36 @@ pub(crate) fn any_rest(pes: &[Pe]) -> bool
 pub(crate) fn any_c(pes: &[Pe]) -> bool
     requires pes { length pes.now ≡ 16 }
     requires read { (k : ℕ) (d : Pe) → k < 16 → is_read_bit (slice_index_or pes.now k d).c ≡ true }
-    ensures { result ≡ false → (k : ℕ) (d : Pe) → k < 16 → c_bit (slice_index_or pes.now k d).c ≡ 0 }
+    ensures { result ≡ false → (k : ℕ) (d : Pe) → k < 16 → (c_bit (slice_index_or pes.now k d).c ≡ 0) × (c_carry (slice_index_or pes.now k d).c ≡ 0) }
 {
     for k in 0..16 {
-        if bit_byte(pes[k].c) != 0 {
+        if bit_byte(pes[k].c) != 0 || carry_bit(pes[k].c) != 0 {
             return true;
         }
     }
     false
 }
 
-/// Whether a column sums.
-pub(crate) fn any_sum(pes: &[Pe]) -> bool
+/// Whether C is the carry-in in a column.
+pub(crate) fn any_carry(pes: &[Pe]) -> bool
     requires pes { length pes.now ≡ 16 }
-    ensures { result ≡ false → (k : ℕ) (d : Pe) → k < 16 → sum_mark (slice_index_or pes.now k d).mode ≡ 0 }
+    ensures { result ≡ false → (k : ℕ) (d : Pe) → k < 16 → c_carry (slice_index_or pes.now k d).c ≡ 0 }
 {
     for k in 0..16 {
-        if sum_byte(pes[k].mode) != 0 {
+        if carry_bit(pes[k].c) != 0 {
+            return true;
+        }
+    }
+    false
+}
+
+/// Whether a column takes a carry.
+pub(crate) fn any_sum(pes: &[Pe]) -> bool
+    requires pes { length pes.now ≡ 16 }
+    ensures { result ≡ false → (k : ℕ) (d : Pe) → k < 16 → takes_carry (slice_index_or pes.now k d).mode (slice_index_or pes.now k d).c ≡ false }
+{
+    for k in 0..16 {
+        if needs_carry(pes[k].mode, pes[k].c) {
             return true;
         }
     }

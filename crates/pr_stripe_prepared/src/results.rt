@@ -2,9 +2,10 @@
 
 ghost use Rattle.std.specs.Prelude.{ℕ, true, ◌≡◌, ◌<◌, length, slice_index};
 ghost use Rattle.pr_stripe_prepared.specs.Lanes.{HasLanes};
-ghost use Rattle.pr_stripe_prepared.specs.Operands.{found, found_by, sum_k, summed, result_k};
+ghost use Rattle.pr_stripe_prepared.specs.Operands.{carry_k, found, found_by, summed, result_k};
+ghost use Rattle.pr_lanes.specs.Rows.{row_by};
 
-use crate::lanes::{added, choose, masked, row_of, summed_row};
+use crate::lanes::{added, carries_of, choose, joined, masked, none_in, row_of};
 use crate::stages::{Prepared, Table};
 use std::simd::prelude::*;
 
@@ -37,41 +38,65 @@ fn look_up_all(q: &Prepared, a: u8x16, b: u8x16, c: u8x16) -> u8x16
     }
 }
 
-/// The results of all columns before the mask, where some column sums.
+/// The carry-ins of all columns, in one addition of 128 bits: a column's sum is its byte, and a test for 0 goes on where 255
+/// and the carry-in do.
 #[inline(always)]
-fn sums(q: &Prepared, a: u8x16, x: u8x16, c: u8x16) -> u8x16
+fn carries(q: &Prepared, a: u8x16, x: u8x16, c: u8x16) -> u8x16
     requires a { length a ≡ 16 }
     requires x { length x ≡ 16 }
     requires c { length c ≡ 16 }
-    ensures { HasLanes 16 result (sum_k q.now a x c) }
+    ensures { HasLanes 16 result (carry_k q.now a x c) }
 {
-    let cin = added(row_of(&q.cin), masked(c, row_of(&q.from_c)));
-    choose(x, summed_row(a, x, cin, row_of(&q.low)), row_of(&q.sums))
+    let low = row_of(&q.low);
+    let nothing = masked(none_in(x), row_of(&q.zeros));
+    let given = added(row_of(&q.cin), masked(c, row_of(&q.from_c)));
+    carries_of(joined(masked(a, low), nothing), masked(x, low), given)
 }
 
-/// The results of all columns before the mask.
+/// The results of all columns before the mask, and the carry-ins.
 #[inline(always)]
-fn sum_all(q: &Prepared, a: u8x16, x: u8x16, c: u8x16) -> u8x16
+fn sum_all(q: &Prepared, a: u8x16, x: u8x16, c: u8x16) -> (u8x16, u8x16)
     requires a { length a ≡ 16 }
     requires x { length x ≡ 16 }
     requires c { length c ≡ 16 }
-    ensures sums { HasLanes 16 result (summed q.now a x c) }
+    ensures sums { HasLanes 16 result.0 (summed q.now a x c) }
+    ensures carries { q.now.has_sums ≡ true → HasLanes 16 result.1 (carry_k q.now a x c) }
+    ensures long { length result.1 ≡ 16 }
     ensures small { (k : ℕ) → k < 16 → slice_index x k < 256 }
 {
-    if q.has_sums { sums(q, a, x, c) } else { x }
+    if q.has_sums {
+        let into = carries(q, a, x, c);
+        let sums = added(added(a, x), into);
+        (choose(x, sums, row_of(&q.sums)), into)
+    } else {
+        (x, u8x16::splat(0))
+    }
 }
 
-/// The outputs of all columns.
+/// What all columns make of their operands.
+#[derive(Clone, Copy)]
+pub(crate) struct Outputs {
+    pub(crate) output: u8x16,
+    pub(crate) carries: u8x16,
+}
+
+/// The outputs of all columns, and their carry-ins.
 #[inline(always)]
-pub(crate) fn outputs(q: &Prepared, a: u8x16, b: u8x16, c: u8x16) -> u8x16
+pub(crate) fn results(q: &Prepared, a: u8x16, b: u8x16, c: u8x16) -> Outputs
     requires a { length a ≡ 16 }
     requires b { length b ≡ 16 }
     requires c { length c ≡ 16 }
-    ensures outputs { HasLanes 16 result (result_k q.now a b c) }
+    ensures outputs { HasLanes 16 result.output (result_k q.now a (row_by 16 (found q.now a b c)) c) }
+    ensures carries { q.now.has_sums ≡ true → HasLanes 16 result.carries (carry_k q.now a (row_by 16 (found q.now a b c)) c) }
+    ensures long { length result.carries ≡ 16 }
     ensures operands { (k : ℕ) → k < 16 → (slice_index a k < 256) × (slice_index b k < 256) }
     ensures found { (k : ℕ) → k < 16 → found q.now a b c k < 256 }
     ensures halves { q.now.has_c ≡ true → (k : ℕ) → k < 16 → (found_by q.now.off a b k < 256) × (found_by q.now.on a b k < 256) }
 {
     let x = look_up_all(q, a, b, c);
-    masked(sum_all(q, a, x, c), row_of(&q.mask))
+    let (sums, carries) = sum_all(q, a, x, c);
+    Outputs {
+        output: masked(sums, row_of(&q.mask)),
+        carries,
+    }
 }

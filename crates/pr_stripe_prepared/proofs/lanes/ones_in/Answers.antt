@@ -3,15 +3,9 @@ use Rattle.std.specs.List.{range_with_len}
 use lib.Lanes.{zip2, top}
 use Rattle.std.proofs.lemmas.Simd.{tops_compared, zip2_of_maps}
 use Rattle.pr_lanes.proofs.Blocks.{sel_by}
-use Rattle.pr_lanes.specs.Rows.{row_by, ones_where}
-use Rattle.pr_stripe_prepared.proofs.LaneLaws.{own, splat_of, as_row, of_row}
+use Rattle.pr_lanes.specs.Rows.{ones_where}
+use Rattle.pr_stripe_prepared.proofs.LaneLaws.{of_row, row_of, all_of}
 use Rattle.pr_stripe_prepared.proofs.lanes.ones_in.Goals as goal
-
-row_of : (xs : List ℕ) → length xs ≡ 16 → xs ≡ row_by 16 (λ i. get_or xs i 0)
-row_of xs h = as_row 16 xs (λ i. get_or xs i 0) (own 16 xs h)
-
-all_of : (y : ℕ) → replicate 16 y ≡ row_by 16 (λ _. y)
-all_of y = as_row 16 (replicate 16 y) (λ _. y) (splat_of 16 y)
 
 -- whether a lane has none of these bits
 no_bits : (xs ys : List ℕ) → length xs ≡ 16 → length ys ≡ 16 → map (top 7) (zip2 (λ a b. cond (eqb a b) (2 ^ 8 - 1) 0) (zip2 bit_and xs ys) (replicate 16 0)) ≡ map (λ i. eqb (bit_and (get_or xs i 0) (get_or ys i 0)) 0) (range_with_len 0 16)
