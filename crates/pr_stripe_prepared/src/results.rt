@@ -38,8 +38,7 @@ fn look_up_all(q: &Prepared, a: u8x16, b: u8x16, c: u8x16) -> u8x16
     }
 }
 
-/// The carry-ins of all columns, in one addition of 128 bits: a column's sum is its byte, and a test for 0 goes on where 255
-/// and the carry-in do.
+/// The carry-ins of all columns, in one addition of 128 bits: a test for 0 gives 255 where it lets a carry through.
 #[inline(always)]
 fn carries(q: &Prepared, a: u8x16, x: u8x16, c: u8x16) -> u8x16
     requires a { length a ≡ 16 }
