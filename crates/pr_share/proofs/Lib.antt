@@ -1,0 +1,5 @@
+pub mod Shown
+pub mod Feeds
+pub mod Steps
+pub mod RoundSteps
+pub mod ItemSteps
