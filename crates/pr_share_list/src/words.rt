@@ -1,0 +1,49 @@
+//! The words of a line.
+ghost use Rattle.std.specs.Prelude.{◌≡◌, ◌≤◌, not, [], ◌∷◌, length, if◌then◌else◌};
+ghost use Rattle.std.specs.List.{position_or_len};
+ghost use Rattle.pr_samples.specs.Lines.{is_blank, words_of, is_empty, begins_apart};
+
+/// Whether a byte is a blank.
+fn is_blank(byte: u8) -> bool
+    ensures { result ≡ is_blank byte }
+{
+    byte == b' ' || byte == b'\t'
+}
+
+/// Whether a line begins with a blank, or is empty.
+pub(crate) fn begins_apart(line: &[u8]) -> bool
+    ensures { result ≡ begins_apart line.now }
+{
+    match line.first() {
+        None => true,
+        Some(byte) => is_blank(*byte),
+    }
+}
+
+/// The number of blanks at the front of a line.
+fn blanks(line: &[u8]) -> usize
+    ensures count { result ≡ position_or_len (λ b. not (is_blank b)) line.now }
+    ensures within { result ≤ length line.now }
+{
+    line.iter()
+        .position(|b| !is_blank(*b))
+        .unwrap_or(line.len())
+}
+
+/// The number of bytes before the first blank of a line.
+fn letters(line: &[u8]) -> usize
+    ensures count { result ≡ position_or_len is_blank line.now }
+    ensures within { result ≤ length line.now }
+{
+    line.iter()
+        .position(|b| is_blank(*b))
+        .unwrap_or(line.len())
+}
+
+/// The first word of a line, which is empty where there is none, and what follows it.
+pub(crate) fn next_word(line: &[u8]) -> (&[u8], &[u8])
+    ensures { words_of line.now ≡ (if is_empty result.0.now then [] else result.0.now ∷ words_of result.1.now) }
+{
+    let (_, rest) = line.split_at(blanks(line));
+    rest.split_at(letters(rest))
+}
