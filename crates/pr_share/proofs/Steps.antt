@@ -1,5 +1,5 @@
 -- The steps of a turn: what each makes of where the turn is.
-use Rattle.std.proofs.Common.{◌≡◌, ℕ, ◌+◌, ◌-◌, ◌<◌, ◌≤◌, ◌&&◌, nat_lt, ltb, eqb, Bool, true, false, List, [], ◌∷◌, ◌++◌, length, replicate, refl, sym, ap, ap₂, ◌∙◌, subst, arith, append_assoc, append-nil, eq-eqb, length-append, inl, inr, zero, suc, take, ◌^◌}
+use Rattle.std.proofs.Common.{◌≡◌, ◌⊎◌, ℕ, ◌+◌, ◌-◌, ◌<◌, ◌≤◌, ◌&&◌, nat_lt, ltb, eqb, Bool, true, false, List, [], ◌∷◌, ◌++◌, length, replicate, refl, sym, ap, ap₂, ◌∙◌, subst, arith, append_assoc, append-nil, eq-eqb, length-append, inl, inr, zero, suc, take, ◌^◌}
 use Rattle.std.proofs.lemmas.Bool.{lt-ltb, ltb-true, eqb-true, cond-true, cond-false}
 use Rattle.std.proofs.lemmas.List.{length-drop, length-map, map-append}
 use Rattle.std.proofs.lemmas.List.Sums.{count_by-le-length}
@@ -7,6 +7,7 @@ use Rattle.pr_base.specs.Rows.{row_bytes}
 use Rattle.pr_edge.specs.Tape.{Tape, Appends, AppendsFront}
 use Rattle.pr_samples.specs.declared.feed.Feed.{Feed}
 use Rattle.pr_samples.specs.declared.feed.Got.{Got}
+use Rattle.pr_samples.specs.Feed.{name_of}
 use Rattle.pr_samples.specs.Got.{is_sample}
 use Rattle.pr_edge.specs.Files.{Told, HasReadCause}
 use Rattle.pr_machine_account.specs.Account.{Account, Offer, Take, Cycle, account, left, done}
@@ -145,13 +146,14 @@ module _ {N P : ℕ} (s : Setting) (runs : List (List ℕ) → Run (List ℕ)) (
   }
 
   -- a write failed
-  pub turn_cut : (t' : Tape) (quota : ℕ) → used.count ≤ quota → ((h : History) → HasShown s m t h → AppendsFront s.tape t' (offered_text N P s h)) → IsCut N P s f told t' quota
-  turn_cut t' quota few step = record {
+  pub turn_cut : (t' : Tape) (quota b b' : ℕ) → used.count ≤ quota → ((h : History) → HasShown s m t h → AppendsFront s.tape t' (offered_text N P s h)) → (used.last ≡ Got.ReadFault → HasReadCause told (name_of s.first) b b') → IsCut N P s f told t' quota b b'
+  turn_cut t' quota b b' few step cause = record {
     rows = on.rows;
     last = used.last;
     fed = on.fed;
     text = subst (λ (xs : List (List ℕ)). AppendsFront s.tape t' (marked s.number (result_numbers N P s.conf xs))) on.offered (step on.history on.shown);
     few = (let c = on.count in omega (arith, few));
+    cause = cause;
   }
 
 -- ---- the end of a turn
@@ -306,6 +308,17 @@ cause_so_far told told' name name' first before now e f l h =
 pub cause_later : (told : Told) (name : List ℕ) (first before now : ℕ) → before ≤ now → HasReadCause told name first before → HasReadCause told name first now
 cause_later told name first before now l (inl missing) = inl missing
 cause_later told name first before now l (inr rose) = inr (omega (arith, l, rose))
+
+-- a read fault has its cause since the first call, where it had one so far, and in the last call
+pub cause_on : (told told' : Told) (name name' : List ℕ) (first before now : ℕ) (last last' : Got) → told' ≡ told → name' ≡ name → first ≤ before → before ≤ now → (last ≡ Got.ReadFault → HasReadCause told name first before)
+    → (last' ≡ Got.ReadFault → (last ≡ Got.ReadFault) ⊎ HasReadCause told' name' before now) → last' ≡ Got.ReadFault → HasReadCause told name first now
+cause_on told told' name name' first before now last last' e f l m old new is = elim (new is) [
+  | inl same ↦ cause_later told name first before now m (old same)
+  | inr cause ↦ cause_so_far told told' name name' first before now e f l cause
+]
+
+pub cause_as : (told told' : Told) (name name' : List ℕ) (before now : ℕ) → told ≡ told' → name ≡ name' → HasReadCause told name before now → HasReadCause told' name' before now
+cause_as told told' name name' before now e f h = subst (λ (w : Told). HasReadCause w name' before now) e (subst (λ (x : List ℕ). HasReadCause told x before now) f h)
 
 -- a machine that was just resumed is at cycle 0
 pub time_start : {N P : ℕ} (m : Going N P) (c : Shape) (p : ℕ) → Stands m c p [] → time_of m ≡ 0

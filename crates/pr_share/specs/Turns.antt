@@ -1,10 +1,11 @@
 -- One turn of one program: it begins with a machine that was just resumed, and ends when nothing is in flight.
 use Rattle.std.specs.Prelude.{◌≡◌, ◌<◌, ◌≤◌, ◌-◌, ◌==◌, ◌&&◌, ℕ, Bool, true, false, List, [], ◌++◌, length, map, take}
 use Rattle.pr_base.specs.Rows.{row_bytes}
-use Rattle.pr_edge.specs.Files.{Told}
+use Rattle.pr_edge.specs.Files.{Told, HasReadCause}
 use Rattle.pr_edge.specs.Tape.{Tape, Appends, AppendsFront}
 use Rattle.pr_samples.specs.declared.feed.Feed.{Feed}
 use Rattle.pr_samples.specs.declared.feed.Got.{Got}
+use Rattle.pr_samples.specs.Feed.{name_of}
 use Rattle.pr_samples.specs.Got.{is_sample}
 use Rattle.pr_machine_account.specs.Account.{account, left}
 use Rattle.pr_conf.specs.Shape.{Shape}
@@ -101,13 +102,15 @@ pub record IsTurned {N P : ℕ} (s : Setting) (m : Going N P) (f : Feed) (told :
   pub few : length rows ≤ quota
   pub full : is_sample last ≡ true → length rows ≡ quota
 
--- a write failed on the way: of the lines of the samples that were read some first bytes are written
-pub record IsCut (N P : ℕ) (s : Setting) (f : Feed) (told : Told) (t : Tape) (quota : ℕ) : Type 0 where
+-- a write failed on the way: of the lines of the samples that were read some first bytes are written. The feed answered so
+-- last, a read fault only by its cause since the shelf's faults were so many
+pub record IsCut (N P : ℕ) (s : Setting) (f : Feed) (told : Told) (t : Tape) (quota before now : ℕ) : Type 0 where
   pub rows : List (List ℕ)
   pub last : Got
   pub fed : HasFed s.first told f (s.earlier ++ rows) last
   pub text : AppendsFront s.tape t (whole_text N P s rows)
   pub few : length rows ≤ quota
+  pub cause : last ≡ Got.ReadFault → HasReadCause told (name_of s.first) before now
 
 -- a turn begins so: the machine was just resumed, and the feed has given the samples of earlier turns
 pub record Begins {N P : ℕ} (s : Setting) (m : Going N P) (f : Feed) (told : Told) (t : Tape) (number : ℕ) : Type 0 where

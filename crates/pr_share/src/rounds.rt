@@ -1,9 +1,9 @@
 //! Rounds of programs.
 ghost use Rattle.std.specs.Prelude.{ℕ, ◌≡◌, ◌≤◌, ◌<◌, ◌+◌, true, false, List, OnOk, OnErr, length, None};
 ghost use Rattle.pr_edge.specs.Count.{Rose};
-ghost use Rattle.pr_edge.specs.Tape.{Tape};
 ghost use Rattle.pr_share.specs.declared.items.ShareItem.{ShareItem};
-ghost use Rattle.pr_share.specs.Items.{ended_after, HasTaken, IsTurn, IsSharing, AreReady, AreShared, IsGoing, AreEnded};
+ghost use Rattle.pr_share.specs.Items.{World, world, ended_after, HasTaken, IsTurn, IsHalf, IsSharing};
+ghost use Rattle.pr_share.specs.Items.{AreReady, AreShared, AreStopped, IsGoing, AreEnded};
 
 use crate::items::ShareItem;
 use crate::turns::run_turn;
@@ -39,10 +39,18 @@ fn take_turn<const N: usize, const P: usize, S: Shelf, K: Sink>(
 ) -> Result<Machine<N, P, Bare>, WriteFault>
     requires number { number < 10 }
     requires going { item.old.ended ≡ None }
-    requires taken { (first : ShareItem N P) × ((rows : List (List ℕ)) × HasTaken (S.told shelf.old) first item.old rows) }
-    ensures turn { (first : ShareItem N P) (rows : List (List ℕ)) → HasTaken (S.told shelf.old) first item.old rows → OnOk result (IsTurn (S.told shelf.new) first item.new rows number (K.told out.old) (K.told out.new)) }
+    requires taken { (first : ShareItem N P) × (rows : List (List ℕ)) × HasTaken (S.told shelf.old) first item.old rows }
+    ensures turn { let old = world (S.told shelf.old) (S.faults shelf.old) (K.told out.old) in
+        let new = world (S.told shelf.new) (S.faults shelf.new) (K.told out.new) in
+        (first : ShareItem N P) (rows : List (List ℕ)) → HasTaken old.told first item.old rows
+        → OnOk result (IsTurn first item.new rows number old new) }
+    ensures half { let old = world (S.told shelf.old) (S.faults shelf.old) (K.told out.old) in
+        let new = world (S.told shelf.new) (S.faults shelf.new) (K.told out.new) in
+        (first : ShareItem N P) (rows : List (List ℕ)) → HasTaken old.told first item.old rows
+        → OnErr result (IsHalf first item.new rows number old new) }
     ensures cause { OnErr result (Rose (K.faults out.old) (K.faults out.new)) }
     ensures told { S.told shelf.new ≡ S.told shelf.old }
+    ensures shelf_later { S.faults shelf.old ≤ S.faults shelf.new }
     ensures out_later { K.faults out.old ≤ K.faults out.new }
 {
     let parked = match item.parked.take() {
@@ -82,12 +90,20 @@ fn take_place<const N: usize, const P: usize, S: Shelf, K: Sink>(
 ) -> Result<Machine<N, P, Bare>, WriteFault>
     requires at { number < length items.old }
     requires few { length items.old ≤ 8 }
-    requires sharing { (firsts : List (ShareItem N P)) × ((t : Tape) × ((r : ℕ) × IsSharing (S.told shelf.old) firsts items.old t (K.told out.old) r number)) }
-    ensures next { (firsts : List (ShareItem N P)) (t : Tape) (r : ℕ) → IsSharing (S.told shelf.old) firsts items.old t (K.told out.old) r number
-        → OnOk result (IsSharing (S.told shelf.new) firsts items.new t (K.told out.new) r (number + 1)) }
+    requires sharing { let old = world (S.told shelf.old) (S.faults shelf.old) (K.told out.old) in
+        (firsts : List (ShareItem N P)) × (start : World) × (r : ℕ) × IsSharing firsts items.old start old r number }
+    ensures next { let old = world (S.told shelf.old) (S.faults shelf.old) (K.told out.old) in
+        let new = world (S.told shelf.new) (S.faults shelf.new) (K.told out.new) in
+        (firsts : List (ShareItem N P)) (start : World) (r : ℕ) → IsSharing firsts items.old start old r number
+        → OnOk result (IsSharing firsts items.new start new r (number + 1)) }
+    ensures stopped { let old = world (S.told shelf.old) (S.faults shelf.old) (K.told out.old) in
+        let new = world (S.told shelf.new) (S.faults shelf.new) (K.told out.new) in
+        (firsts : List (ShareItem N P)) (start : World) (r : ℕ) → IsSharing firsts items.old start old r number
+        → OnErr result (AreStopped firsts items.new start new) }
     ensures count { length items.new ≡ length items.old }
     ensures cause { OnErr result (Rose (K.faults out.old) (K.faults out.new)) }
     ensures told { S.told shelf.new ≡ S.told shelf.old }
+    ensures shelf_later { S.faults shelf.old ≤ S.faults shelf.new }
     ensures out_later { K.faults out.old ≤ K.faults out.new }
 {
     if items[number].ended.is_some() {
@@ -105,11 +121,20 @@ fn make_round<const N: usize, const P: usize, S: Shelf, K: Sink>(
     room: &mut Room,
 ) -> Result<Machine<N, P, Bare>, WriteFault>
     requires few { length items.old ≤ 8 }
-    requires sharing { (firsts : List (ShareItem N P)) × ((t : Tape) × ((r : ℕ) × IsSharing (S.told shelf.old) firsts items.old t (K.told out.old) r 0)) }
-    ensures round { (firsts : List (ShareItem N P)) (t : Tape) (r : ℕ) → IsSharing (S.told shelf.old) firsts items.old t (K.told out.old) r 0 → OnOk result (IsSharing (S.told shelf.new) firsts items.new t (K.told out.new) (r + 1) 0) }
+    requires sharing { let old = world (S.told shelf.old) (S.faults shelf.old) (K.told out.old) in
+        (firsts : List (ShareItem N P)) × (start : World) × (r : ℕ) × IsSharing firsts items.old start old r 0 }
+    ensures round { let old = world (S.told shelf.old) (S.faults shelf.old) (K.told out.old) in
+        let new = world (S.told shelf.new) (S.faults shelf.new) (K.told out.new) in
+        (firsts : List (ShareItem N P)) (start : World) (r : ℕ) → IsSharing firsts items.old start old r 0
+        → OnOk result (IsSharing firsts items.new start new (r + 1) 0) }
+    ensures stopped { let old = world (S.told shelf.old) (S.faults shelf.old) (K.told out.old) in
+        let new = world (S.told shelf.new) (S.faults shelf.new) (K.told out.new) in
+        (firsts : List (ShareItem N P)) (start : World) (r : ℕ) → IsSharing firsts items.old start old r 0
+        → OnErr result (AreStopped firsts items.new start new) }
     ensures count { length items.new ≡ length items.old }
     ensures cause { OnErr result (Rose (K.faults out.old) (K.faults out.new)) }
     ensures told { S.told shelf.new ≡ S.told shelf.old }
+    ensures shelf_later { S.faults shelf.old ≤ S.faults shelf.new }
     ensures out_later { K.faults out.old ≤ K.faults out.new }
 {
     let mut machine = machine;
@@ -138,8 +163,9 @@ fn is_going<const N: usize, const P: usize>(items: &[ShareItem<N, P>]) -> bool
 /// Runs up to eight programs in rounds on the same stripes until the samples of all have ended. No memory is taken.
 ///
 /// In each round each program whose samples have not ended takes up the machine, is fed up to its quota, and is parked
-/// again when nothing is in flight; each line of its results is written after its number. After a write fault the
-/// program whose turn it was is given up.
+/// again when nothing is in flight; each line of its results is written after its number. Where a read fails, the samples
+/// of that program alone have ended. After a write fault the program whose turn it was is given up, and the others are
+/// parked.
 pub fn share<const N: usize, const P: usize, S: Shelf, K: Sink>(
     machine: Machine<N, P, Bare>,
     parts: &mut [ShareItem<N, P>],
@@ -149,9 +175,16 @@ pub fn share<const N: usize, const P: usize, S: Shelf, K: Sink>(
 ) -> ShareEnd
     requires few { length parts.old ≤ 8 }
     requires ready { AreReady parts.old }
-    ensures shared { result ≡ ShareEnd.Done → AreShared (S.told shelf.new) parts.old parts.new (K.told out.old) (K.told out.new) }
+    ensures shared { let old = world (S.told shelf.old) (S.faults shelf.old) (K.told out.old) in
+        let new = world (S.told shelf.new) (S.faults shelf.new) (K.told out.new) in
+        result ≡ ShareEnd.Done → AreShared parts.old parts.new old new }
+    ensures stopped { let old = world (S.told shelf.old) (S.faults shelf.old) (K.told out.old) in
+        let new = world (S.told shelf.new) (S.faults shelf.new) (K.told out.new) in
+        result ≡ ShareEnd.WriteFault → AreStopped parts.old parts.new old new }
     ensures write_fault { result ≡ ShareEnd.WriteFault → Rose (K.faults out.old) (K.faults out.new) }
     ensures told { S.told shelf.new ≡ S.told shelf.old }
+    ensures shelf_later { S.faults shelf.old ≤ S.faults shelf.new }
+    ensures out_later { K.faults out.old ≤ K.faults out.new }
 {
     let mut machine = machine;
     for _ in 0..u64::MAX {

@@ -45,8 +45,10 @@ pub(crate) fn run_turn<const N: usize, const P: usize, S: Shelf, K: Sink>(
     requires outputs { widths.now ≡ output_widths (conf_of machine.old) }
     requires number { number < 10 }
     requires fed { (first : Feed) × ((earlier : List (List ℕ)) × HasFed first (S.told shelf.old) feed.old earlier Got.Sample) }
-    ensures turned { (s : Setting) → Begins s machine.old feed.old (S.told shelf.old) (K.told out.old) number → IfOk result (λ last. IsTurned s machine.new feed.new (S.told shelf.new) (K.told out.new) quota last) }
-    ensures cut { (s : Setting) → Begins s machine.old feed.old (S.told shelf.old) (K.told out.old) number → OnErr result (IsCut N P s feed.new (S.told shelf.new) (K.told out.new) quota) }
+    ensures turned { (s : Setting) → Begins s machine.old feed.old (S.told shelf.old) (K.told out.old) number
+        → IfOk result (λ last. IsTurned s machine.new feed.new (S.told shelf.new) (K.told out.new) quota last) }
+    ensures cut { (s : Setting) → Begins s machine.old feed.old (S.told shelf.old) (K.told out.old) number
+        → OnErr result (IsCut N P s feed.new (S.told shelf.new) (K.told out.new) quota (S.faults shelf.old) (S.faults shelf.new)) }
     ensures idle { OnOk result (IsIdle machine.new) }
     ensures read_fault { IfOk result (λ last. last ≡ Got.ReadFault → HasReadCause (S.told shelf.old) (name_of feed.old) (S.faults shelf.old) (S.faults shelf.new)) }
     ensures cause { OnErr result (Rose (K.faults out.old) (K.faults out.new)) }

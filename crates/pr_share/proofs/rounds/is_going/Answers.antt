@@ -1,7 +1,7 @@
 use Rattle.std.proofs.Common.{◌≡◌, is_some, slice_get, ap, sym, ◌∙◌, arith, rules, inl, inr}
 use Rattle.std.proofs.lemmas.Bool.{cases_lt}
 use Rattle.pr_share.specs.declared.items.ShareItem.{ShareItem}
-use Rattle.pr_share.proofs.RoundSteps.{got_from, got_within, same_some, none_from}
+use Rattle.pr_share.proofs.ListFacts.{got_from, got_within, same_some, none_from}
 use Rattle.pr_share.proofs.rounds.is_going.Goals as goal
 
 pub returns-then-is_none-clause-going : goal.returns-then-is_none-clause-going

@@ -1,4 +1,4 @@
-use Rattle.std.proofs.Common.{◌≡◌, List, [], ℕ, refl, sym, ap, ◌∙◌, arith, inl, inr}
+use Rattle.std.proofs.Common.{◌≡◌, List, [], ℕ, refl, sym, ap, ◌∙◌, arith}
 use Rattle.pr_samples.specs.Feed.{name_of}
 use Rattle.pr_conf.specs.declared.configurations.Configuration.{Configuration}
 use Rattle.pr_conf.specs.Configuration.{shape_of}
@@ -6,7 +6,7 @@ use Rattle.pr_conf.specs.Through.{output_widths}
 use Rattle.pr_run_script.specs.Script.{Run, free, fed, begun, turns}
 use Rattle.pr_run.proofs.NextSamples.{same_file}
 use Rattle.pr_share.specs.Turns.{stages_of}
-use Rattle.pr_share.proofs.Steps.{turn_begin, time_start, set_of, few_turns, given_setting, given_begins, turn_drained, turn_cycle, turn_over, turn_cut, gone_ended, cause_so_far, cause_later, kept_time, kept_stripes}
+use Rattle.pr_share.proofs.Steps.{turn_begin, time_start, set_of, few_turns, given_setting, given_begins, turn_drained, turn_cycle, turn_over, turn_cut, gone_ended, cause_on, cause_as, kept_time, kept_stripes}
 use Rattle.pr_share.proofs.turns.run_turn.Goals as goal
 
 pub loop-init : goal.loop-init
@@ -38,7 +38,10 @@ returns-in-Err-clause-cut g c = λ s b.
     let runs : List (List ℕ) → Run (List ℕ) = λ xs. turns (stages_of s) s.stripes [] c.loop.counter (begun xs) in
     let on = c.feed_step-used.ensures.turning s runs (g.K.Sink.told c.loop.out) hv (inv.on s b) in
     turn_cut s (λ xs. fed (stages_of s) s.stripes free (runs xs)) c.feed_step-used.new.machine c.feed_step-used.new.feed (g.S.Shelf.told c.feed_step-used.new.shelf) (g.K.Sink.told c.loop.out) c.feed_step-used.result on
-    (g.K.Sink.told c.write_step.new.out) c.args.quota c.feed_step-used.ensures.quota (λ h shown. c.in-Err.ensures.front s h b.number_is shown)
+    (g.K.Sink.told c.write_step.new.out) c.args.quota (g.S.Shelf.faults c.args.shelf.now) (g.S.Shelf.faults c.feed_step-used.new.shelf) c.feed_step-used.ensures.quota (λ h shown. c.in-Err.ensures.front s h b.number_is shown)
+    (λ e. cause_as (g.S.Shelf.told c.args.shelf.now) (g.S.Shelf.told c.feed_step-used.new.shelf) (name_of c.args.feed.now) (name_of s.first) _ _ (sym (c.feed_step-used.ensures.told ∙ inv.told)) b.fed.file.name
+    (cause_on (g.S.Shelf.told c.args.shelf.now) (g.S.Shelf.told c.loop.shelf) (name_of c.args.feed.now) (name_of c.loop.feed) (g.S.Shelf.faults c.args.shelf.now) (g.S.Shelf.faults c.loop.shelf) (g.S.Shelf.faults c.feed_step-used.new.shelf) c.loop.used.last c.feed_step-used.result.last
+    inv.told inv.file.name inv.shelf_later c.feed_step-used.ensures.later inv.cause c.feed_step-used.ensures.cause e))
 
 pub returns-then-is_over-clause-turned : goal.returns-then-is_over-clause-turned
 returns-then-is_over-clause-turned g c = λ s b.
@@ -81,10 +84,8 @@ loop-preserved g c =
           (sym (c.is_over.ensures.test s drained.history drained.shown.stands) ∙ c.if-is_over.false) (c.cycle-turn.ensures.stands s.conf s.stripes drained.history drained.shown.stands));
       count = c.feed_step-used.ensures.quota;
       spent = c.feed_step-used.ensures.spent;
-      cause = λ e. elim (c.feed_step-used.ensures.cause e) [
-        | inl old ↦ cause_later (g.S.Shelf.told c.args.shelf.now) (name_of c.args.feed.now) (g.S.Shelf.faults c.args.shelf.now) (g.S.Shelf.faults c.loop.shelf) (g.S.Shelf.faults c.feed_step-used.new.shelf) c.feed_step-used.ensures.later (inv.cause old)
-        | inr new ↦ cause_so_far (g.S.Shelf.told c.args.shelf.now) (g.S.Shelf.told c.loop.shelf) (name_of c.args.feed.now) (name_of c.loop.feed) (g.S.Shelf.faults c.args.shelf.now) (g.S.Shelf.faults c.loop.shelf) (g.S.Shelf.faults c.feed_step-used.new.shelf) inv.told inv.file.name inv.shelf_later new
-      ];
+      cause = cause_on (g.S.Shelf.told c.args.shelf.now) (g.S.Shelf.told c.loop.shelf) (name_of c.args.feed.now) (name_of c.loop.feed) (g.S.Shelf.faults c.args.shelf.now) (g.S.Shelf.faults c.loop.shelf) (g.S.Shelf.faults c.feed_step-used.new.shelf) c.loop.used.last c.feed_step-used.result.last
+          inv.told inv.file.name inv.shelf_later c.feed_step-used.ensures.later inv.cause c.feed_step-used.ensures.cause;
       inputs = file.widths ∙ (c.requires.inputs ∙ ap (λ (k : Configuration g.row.N g.row.P). (shape_of k).inputs) (sym conf));
       file = file;
       conf = conf;
