@@ -1,10 +1,10 @@
 -- A turn that stops on the way: what was written until then begins the whole text, whatever rows may follow.
-use Rattle.std.proofs.Common.{◌≡◌, ℕ, zero, suc, ◌+◌, ◌-◌, ◌*◌, ◌<◌, ◌≤◌, ltb, cond, List, [], ◌∷◌, ◌++◌, length, take, drop, Some, slice_get, refl, sym, ap, ap₂, ◌∙◌, subst, arith, append_assoc, inl, inr}
+use Rattle.std.proofs.Common.{◌≡◌, ℕ, zero, suc, ◌+◌, ◌-◌, ◌*◌, ◌<◌, ◌≤◌, ltb, cond, Bool, true, false, List, [], ◌∷◌, ◌++◌, length, take, drop, Some, slice_get, refl, sym, ap, ap₂, ◌∙◌, subst, arith, append_assoc, append-nil}
 use Rattle.std.specs.List.{sum_by}
-use Rattle.std.proofs.Math.Nat.{mul-le-mul_left, mul-le-mul_right}
-use Rattle.std.proofs.lemmas.Bool.{cases_eq, lt-ltb, cond-true}
+use Rattle.std.proofs.Math.Nat.{mul-le-mul_left}
+use Rattle.std.proofs.lemmas.Bool.{lt-ltb, cond-true}
 use Rattle.std.proofs.lemmas.Grind.{flat_map-append}
-use Rattle.std.proofs.lemmas.List.{take_all, take-append-drop, drop_at, take_at}
+use Rattle.std.proofs.lemmas.List.{take_all, take-append-drop, drop_at}
 use Rattle.pr_base.specs.Rows.{row_line}
 use Rattle.pr_share_text.specs.Text.{Part, mark, marked, rows_in, round_from, rounds, share_text, HaveQuotas}
 use Rattle.pr_share_text.specs.Turns.{so_far}
@@ -50,7 +50,7 @@ turns_before r k i = cond (ltb i k) (r + 1) r
 fewer_turns : (r k i q : ℕ) → q < r → q < turns_before r k i
 fewer_turns r k i q h = by_test (ltb i k)
   where
-    by_test : (t : _) → q < cond t (r + 1) r
+    by_test : (t : Bool) → q < cond t (r + 1) r
     by_test true = omega arith
     by_test false = h
 
