@@ -1,8 +1,11 @@
 -- What programs are in the text, and the reads that failed.
 use Rattle.std.proofs.Common.{◌≡◌, ℕ, zero, suc, ◌+◌, ◌<◌, ◌≤◌, ltb, cond, true, false, Bool, not, ◌&&◌, List, [], ◌∷◌, ◌++◌, length, map, Option, Some, None, is_some, slice_get, refl, sym, ap, ap₂, ◌∙◌, subst, arith, true≢false, inl, inr}
+use Rattle.std.specs.List.{count_by}
+use Rattle.std.specs.Simd.Lanes.{zip2}
 use Rattle.std.proofs.Math.ListN.{set}
 use Rattle.std.proofs.lemmas.Bool.{cases_lt, lt-ltb, ltb-true, cond-true}
 use Rattle.std.proofs.lemmas.List.{length-map, map-append}
+use Rattle.std.proofs.lemmas.Simd.{length-zip2}
 use Rattle.pr_base.specs.Rows.{row_bytes, row_numbers}
 use Rattle.pr_edge.specs.Count.{RoseBy}
 use Rattle.pr_edge.specs.Files.{Told, IsMissing, HasReadCause}
@@ -17,6 +20,7 @@ use Rattle.pr_share_text.specs.Text.{Part, HaveQuotas}
 use Rattle.pr_share.specs.declared.items.ShareItem.{ShareItem}
 use Rattle.pr_share.specs.Turns.{pieces}
 use Rattle.pr_share.specs.Items.{conf_in, turn_rows, Given, part_of, parts_of, is_lost, has_failed, read_faults}
+use Rattle.pr_share.proofs.ListFacts.{zip_at, zip_set, zip_map, count_set, count_none}
 use Rattle.pr_share.proofs.Shown.{length-results}
 
 -- ---- results of further samples
@@ -46,27 +50,31 @@ length-turn {N} {P} first rows more =
 -- ---- all parts
 pub parts_at : {N P : ℕ} (firsts : List (ShareItem N P)) (givens : List Given) (i : ℕ) (first : ShareItem N P) (given : Given) → slice_get firsts i ≡ Some first → slice_get givens i ≡ Some given
     → slice_get (parts_of firsts givens) i ≡ Some (part_of first given.rows)
-parts_at {N} {P} [] givens i first given a b = absurd (let z = a in cc)
-parts_at {N} {P} (x ∷ firsts) [] i first given a b = absurd (let z = b in cc)
-parts_at {N} {P} (x ∷ firsts) (y ∷ givens) zero first given a b =
-    let e : x ≡ first = cc in
-    let d : y ≡ given = cc in
-    ap₂ (λ (u : ShareItem N P) (w : Given). Some (part_of u w.rows)) e d
-parts_at {N} {P} (x ∷ firsts) (y ∷ givens) (suc i) first given a b = parts_at firsts givens i first given a b
+parts_at {N} {P} firsts givens i first given a b = zip_at (λ (x : ShareItem N P) (g : Given). part_of x g.rows) firsts givens i first given a b
 
 pub length-parts : {N P : ℕ} (firsts : List (ShareItem N P)) (givens : List Given) → length givens ≡ length firsts → length (parts_of firsts givens) ≡ length firsts
-length-parts {N} {P} [] givens h = refl
-length-parts {N} {P} (x ∷ firsts) [] h = h
-length-parts {N} {P} (x ∷ firsts) (y ∷ givens) h = ap suc (length-parts firsts givens (omega (arith, h)))
+length-parts {N} {P} firsts givens h = length-zip2 (λ (x : ShareItem N P) (g : Given). part_of x g.rows) firsts givens (sym h)
 
 pub parts_set : {N P : ℕ} (firsts : List (ShareItem N P)) (givens : List Given) (k : ℕ) (first : ShareItem N P) (given : Given) → slice_get firsts k ≡ Some first
     → parts_of firsts (set givens k given) ≡ set (parts_of firsts givens) k (part_of first given.rows)
-parts_set {N} {P} [] givens k first given a = absurd (let z = a in cc)
-parts_set {N} {P} (x ∷ firsts) [] k first given a = refl
-parts_set {N} {P} (x ∷ firsts) (y ∷ givens) zero first given a =
-    let e : x ≡ first = cc in
-    ap (λ (u : ShareItem N P). part_of u given.rows ∷ parts_of firsts givens) e
-parts_set {N} {P} (x ∷ firsts) (y ∷ givens) (suc k) first given a = ap (λ zs. part_of x y.rows ∷ zs) (parts_set firsts givens k first given a)
+parts_set {N} {P} firsts givens k first given a = zip_set (λ (x : ShareItem N P) (g : Given). part_of x g.rows) firsts givens k first given a
+
+zip_quotas : {X Y : Type 0} (f : X → Y → Part) (q : X → ℕ) → ((x : X) (y : Y) → (f x y).quota ≡ q x) → (xs : List X) (ys zs : List Y) → length zs ≡ length ys → HaveQuotas (zip2 f xs ys) → HaveQuotas (zip2 f xs zs)
+zip_quotas f q e [] ys zs l h = tt
+zip_quotas f q e (x ∷ xs) ys [] l h = tt
+zip_quotas f q e (x ∷ xs) [] (z ∷ zs) l h = absurd (omega (arith, l))
+zip_quotas f q e (x ∷ xs) (y ∷ ys) (z ∷ zs) l h = (subst (λ n. 1 ≤ n) (e x y ∙ sym (e x z)) h.0, zip_quotas f q e xs ys zs (omega (arith, l)) h.1)
+
+-- other samples change no quota
+pub quotas_same : {N P : ℕ} (firsts : List (ShareItem N P)) (givens wholes : List Given) → length wholes ≡ length givens → HaveQuotas (parts_of firsts givens) → HaveQuotas (parts_of firsts wholes)
+quotas_same {N} {P} firsts givens wholes l h = zip_quotas (λ (x : ShareItem N P) (g : Given). part_of x g.rows) (λ (x : ShareItem N P). x.quota) (λ x g. refl) firsts givens wholes l h
+
+map_quotas : {X Y : Type 0} (f : X → Y → Part) (g : X → Y) (xs : List X) → ((i : ℕ) (x : X) → slice_get xs i ≡ Some x → 1 ≤ (f x (g x)).quota) → HaveQuotas (zip2 f xs (map g xs))
+map_quotas f g [] h = tt
+map_quotas f g (x ∷ xs) h = (h 0 x refl, map_quotas f g xs (λ i y e. h (suc i) y e))
+
+pub quotas_first : {N P : ℕ} (firsts : List (ShareItem N P)) (g : ShareItem N P → Given) → ((i : ℕ) (x : ShareItem N P) → slice_get firsts i ≡ Some x → 1 ≤ x.quota) → HaveQuotas (parts_of firsts (map g firsts))
+quotas_first {N} {P} firsts g h = map_quotas (λ (x : ShareItem N P) (y : Given). part_of x y.rows) g firsts h
 
 pub quotas_set : (parts : List Part) (k : ℕ) (part more : Part) → slice_get parts k ≡ Some part → more.quota ≡ part.quota → HaveQuotas parts → HaveQuotas (set parts k more)
 quotas_set [] k part more e q h = h
@@ -77,7 +85,7 @@ quotas_set (first ∷ parts) (suc k) part more e q h = (h.0, quotas_set parts k 
 -- ---- turns
 -- the number of turns of a program, in round r before the turn of number k, and before the next
 pub turns_other : (r k i : ℕ) → (i ≡ k → ⊥) → cond (ltb i (k + 1)) (r + 1) r ≡ cond (ltb i k) (r + 1) r
-pub turns_other r k i h = ap (λ b. cond b (r + 1) r) (same_test (ltb i k) refl)
+turns_other r k i h = ap (λ b. cond b (r + 1) r) (same_test (ltb i k) refl)
   where
     not_less : (b : Bool) → ltb i (k + 1) ≡ b → ltb i k ≡ false → ltb i (k + 1) ≡ ltb i k
     not_less false e f = e ∙ sym f
@@ -88,17 +96,17 @@ pub turns_other r k i h = ap (λ b. cond b (r + 1) r) (same_test (ltb i k) refl)
     same_test false e = not_less (ltb i (k + 1)) refl e
 
 pub turns_this : (r k : ℕ) → cond (ltb k (k + 1)) (r + 1) r ≡ r + 1
-pub turns_this r k = cond-true (ltb k (k + 1)) (r + 1) r (lt-ltb k (k + 1) (omega arith))
+turns_this r k = cond-true (ltb k (k + 1)) (r + 1) r (lt-ltb k (k + 1) (omega arith))
 
 pub turns_yet : (r k : ℕ) → cond (ltb k k) (r + 1) r ≡ r
-pub turns_yet r k = by_test (ltb k k) refl
+turns_yet r k = by_test (ltb k k) refl
   where
     by_test : (b : Bool) → ltb k k ≡ b → cond b (r + 1) r ≡ r
     by_test true e = let l = ltb-true k k e in absurd (omega arith)
     by_test false e = refl
 
 pub turns_none : (r i : ℕ) → cond (ltb i 0) (r + 1) r ≡ r
-pub turns_none r i = by_test (ltb i 0) refl
+turns_none r i = by_test (ltb i 0) refl
   where
     by_test : (b : Bool) → ltb i 0 ≡ b → cond b (r + 1) r ≡ r
     by_test true e = let l = ltb-true i 0 e in absurd (omega arith)
@@ -127,19 +135,12 @@ rose_more told f last first before now n rose later cause = by_test (has_failed 
 
 pub faults_set : {N P : ℕ} (told : Told) (firsts : List (ShareItem N P)) (givens : List Given) (k : ℕ) (first : ShareItem N P) (old new : Given) → slice_get firsts k ≡ Some first → slice_get givens k ≡ Some old
     → has_failed told first.feed old.last ≡ false → read_faults told firsts (set givens k new) ≡ read_faults told firsts givens + cond (has_failed told first.feed new.last) 1 0
-faults_set {N} {P} told [] givens k first old new a b none = absurd (let z = a in cc)
-faults_set {N} {P} told (x ∷ firsts) [] k first old new a b none = absurd (let z = b in cc)
-faults_set {N} {P} told (x ∷ firsts) (y ∷ givens) zero first old new a b none =
-    let e : x ≡ first = cc in
-    let d : y ≡ old = cc in
-    let more = cond (has_failed told first.feed new.last) 1 0 in
-    let z : cond (has_failed told x.feed y.last) 1 0 ≡ 0 = ap₂ (λ (u : ShareItem N P) (w : Given). cond (has_failed told u.feed w.last) 1 0) e d ∙ ap (λ t. cond t 1 0) none in
-    let s : cond (has_failed told x.feed new.last) 1 0 ≡ more = ap (λ (u : ShareItem N P). cond (has_failed told u.feed new.last) 1 0) e in
-    omega (arith, z, s)
-faults_set {N} {P} told (x ∷ firsts) (y ∷ givens) (suc k) first old new a b none =
-    let h = faults_set told firsts givens k first old new a b none in
-    omega (arith, h)
+faults_set {N} {P} told firsts givens k first old new a b none =
+    let f : ShareItem N P → Given → Bool = λ x g. has_failed told x.feed g.last in
+    ap (count_by (λ t. t)) (zip_set f firsts givens k first new a)
+    ∙ count_set (zip2 f firsts givens) k (f first new) (zip_at f firsts givens k first old a b ∙ ap (λ t. Some t) none)
 
-pub no_faults : {N P : ℕ} (told : Told) (firsts : List (ShareItem N P)) → read_faults told firsts (map (λ (x : ShareItem N P). record { rows = []; last = Got.Sample }) firsts) ≡ 0
-no_faults {N} {P} told [] = refl
-no_faults {N} {P} told (x ∷ firsts) = no_faults told firsts
+pub no_faults : {N P : ℕ} (told : Told) (firsts : List (ShareItem N P)) (g : ShareItem N P → Given) → ((x : ShareItem N P) → (g x).last ≡ Got.Sample) → read_faults told firsts (map g firsts) ≡ 0
+no_faults {N} {P} told firsts g h =
+    let f : ShareItem N P → Given → Bool = λ x y. has_failed told x.feed y.last in
+    ap (count_by (λ t. t)) (zip_map f g firsts) ∙ count_none (λ x. f x (g x)) firsts (λ x. ap (has_failed told x.feed) (h x))

@@ -4,6 +4,7 @@ use Rattle.std.proofs.Math.Nat.{mul-le-mul_left}
 use Rattle.std.proofs.Math.ListN.{set}
 use Rattle.std.proofs.lemmas.Bool.{cases_eq, lt-ltb, cond-true}
 use Rattle.std.proofs.lemmas.List.{length-map, length-set}
+use Rattle.pr_edge.specs.Count.{RoseBy}
 use Rattle.pr_edge.specs.Files.{Told}
 use Rattle.pr_edge.specs.Tape.{Tape, Appends}
 use Rattle.pr_edge.proofs.Appending.{Appends-append}
@@ -19,7 +20,7 @@ use Rattle.pr_share.specs.Fed.{HasFed}
 use Rattle.pr_share.specs.Items.{conf_in, last_of, IsReady, AreReady, HasTaken, turn_rows, turn_text, World, world, IsTurn, Given, part_of, parts_of, has_failed, read_faults, IsResting, IsMember, IsSharing, AreShared}
 use Rattle.pr_run.proofs.Lines.{nothing_appended}
 use Rattle.pr_share.proofs.ListFacts.{got_at, got_within, set_same, set_other, same_some, mapped_at}
-use Rattle.pr_share.proofs.Parts.{more_results, part_rows, length-turn, parts_at, length-parts, parts_set, quotas_set, turns_other, turns_this, turns_yet, turns_none, rose_more, faults_set, no_faults}
+use Rattle.pr_share.proofs.Parts.{more_results, part_rows, length-turn, parts_at, length-parts, parts_set, quotas_set, quotas_first, turns_other, turns_this, turns_yet, turns_none, rose_more, faults_set, no_faults}
 
 -- ---- one program
 -- a program that goes on has its quota of samples from each of its turns
@@ -81,7 +82,7 @@ module _ {N P : ℕ} (told : Told) (firsts items : List (ShareItem N P)) (start 
     givens_count = st.givens_count;
     each = λ i f n g a b c. elim (cases_eq i k) [ inl same ↦ skip_this over i f n g a b c same | inr other ↦ subst (λ m. IsMember told f n g m) (sym (turns_other r k i other)) (st.each i f n g a b c) ];
     quotas = st.quotas;
-    text = rw (turn_skipped r k (parts_of firsts st.givens) (part_of first given_here.0.rows) part_here skip_few) st.text;
+    text = subst (λ xs. Appends start.tape t xs) (sym (turn_skipped r k (parts_of firsts st.givens) (part_of first given_here.0.rows) part_here skip_few)) st.text;
     faults = st.faults;
   }
 
@@ -113,12 +114,12 @@ module _ {N P : ℕ} (told : Told) (firsts items : List (ShareItem N P)) (start 
             | inr other ↦ subst (λ m. IsMember told f n g m) (sym (turns_other r k i other)) (st.each i f n g a (sym (set_other items k i now' other) ∙ b) (sym (set_other st.givens k i more_given other) ∙ c))
           ];
           quotas = subst HaveQuotas (sym grow) (quotas_set parts k (part_of first g.rows) (part_of first more_given.rows) part_here refl st.quotas);
-          text = rw (grow, turn_added r k parts (part_of first g.rows) (part_of first more_given.rows) (turn_rows first g.rows turn.more) part_here refl
+          text = subst (λ xs. Appends start.tape t' xs) (sym (ap (so_far r (k + 1)) grow ∙ turn_added r k parts (part_of first g.rows) (part_of first more_given.rows) (turn_rows first g.rows turn.more) part_here refl
               (rows_more told first now now' g r k b b' t t' member_here going turn)
               (rows_due told first now g r member_here going)
-              (rows_few told first now now' g r k b b' t t' member_here going turn))
+              (rows_few told first now now' g r k b b' t t' member_here going turn)))
               (Appends-append start.tape t t' _ _ st.text turn.text);
-          faults = rw (faults_set told firsts st.givens k first g more_given ef given_here.1 (none_failed told first now g r member_here going))
+          faults = subst (λ n. RoseBy start.faults b' n) (sym (faults_set told firsts st.givens k first g more_given ef given_here.1 (none_failed told first now g r member_here going)))
               (rose_more told first.feed (last_of now'.ended) start.faults b b' (read_faults told firsts st.givens) st.faults later turn.cause);
         }
 
@@ -127,7 +128,7 @@ module _ {N P : ℕ} (told : Told) (firsts items : List (ShareItem N P)) (start 
   pub first_here : (first : ShareItem N P) × (slice_get firsts k ≡ Some first)
   first_here = got_at firsts k (let a = got_within items k now ei in let b = st.items_count in omega arith)
 
-  pub taken_here : (first : ShareItem N P) × ((rows : List (List ℕ)) × HasTaken told first now rows)
+  unfoldable pub taken_here : (first : ShareItem N P) × ((rows : List (List ℕ)) × HasTaken told first now rows)
   taken_here =
       let g = given_here told firsts items start b t r k st first_here.0 now first_here.1 ei in
       let m = member_here told firsts items start b t r k st first_here.0 now first_here.1 ei in
@@ -154,7 +155,7 @@ sharing_round told firsts items start b t r n st all = record {
       (let within = got_within items i x b in
       subst (λ m. IsMember told f x g m) (cond-true (ltb i n) (r + 1) r (lt-ltb i n (omega arith)) ∙ sym (turns_none (r + 1) i)) (st.each i f x g a b c));
   quotas = st.quotas;
-  text = rw (sym (round_over r n (parts_of firsts st.givens) (let e = length-parts firsts st.givens st.givens_count in let d = st.items_count in omega arith))) st.text;
+  text = subst (λ xs. Appends start.tape t xs) (round_over r n (parts_of firsts st.givens) (let e = length-parts firsts st.givens st.givens_count in let d = st.items_count in omega arith)) st.text;
   faults = st.faults;
 }
 
@@ -178,10 +179,6 @@ few_rounds told firsts items start b t r i now st e going =
 -- ---- the first round
 abbrev begun : {N P : ℕ} → ShareItem N P → Given
 begun item = record { rows = []; last = Got.Sample }
-
-start_quotas : {N P : ℕ} (items : List (ShareItem N P)) → AreReady items → HaveQuotas (parts_of items (map begun items))
-start_quotas {N} {P} [] h = tt
-start_quotas {N} {P} (x ∷ items) h = ((h 0 x refl).quota, start_quotas items (λ i y e. h (suc i) y e))
 
 taken_none : {N P : ℕ} (told : Told) (item : ShareItem N P) → IsReady item → HasTaken told item item []
 taken_none {N} {P} told item h = record {
@@ -214,9 +211,9 @@ sharing_start {N} {P} told items b t ready = record {
         few = omega arith;
         due = λ e. (let z = turns_none 0 i in let y : cond (ltb i 0) (0 + 1) 0 * f.quota ≡ 0 * f.quota = ap (λ n. n * f.quota) z in omega arith);
       })));
-  quotas = start_quotas items ready;
-  text = rw (nothing_yet (parts_of items (map begun items))) (nothing_appended t);
-  faults = (let z = no_faults told items in omega (arith, z));
+  quotas = quotas_first items begun (λ i x e. (ready i x e).quota);
+  text = subst (λ xs. Appends t t xs) (sym (nothing_yet (parts_of items (map begun items)))) (nothing_appended t);
+  faults = (let z = no_faults told items begun (λ x. refl) in omega (arith, z));
 }
 
 -- ---- the end
@@ -231,7 +228,7 @@ sharing_end {N} {P} told firsts items start b t r st over = record {
   items_count = st.items_count;
   givens_count = st.givens_count;
   each = λ i f x g a b c. (let m = st.each i f x g a b c in record { taken = m.resting.taken; ended = some_last x.ended (over i x b) ∙ ap Some (sym m.resting.last) });
-  text = rw (sym (all_over r (parts_of firsts st.givens) st.quotas few)) st.text;
+  text = subst (λ xs. Appends start.tape t xs) (all_over r (parts_of firsts st.givens) st.quotas few) st.text;
   faults = st.faults;
 }
   where

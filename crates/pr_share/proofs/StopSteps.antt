@@ -3,6 +3,7 @@ use Rattle.std.proofs.Common.{◌≡◌, ◌≢◌, ℕ, zero, suc, ◌+◌, ◌
 use Rattle.std.proofs.Math.ListN.{set}
 use Rattle.std.proofs.lemmas.Bool.{cases_eq}
 use Rattle.std.proofs.lemmas.List.{length-set}
+use Rattle.pr_edge.specs.Count.{RoseBy}
 use Rattle.pr_edge.specs.Files.{Told}
 use Rattle.pr_edge.specs.Tape.{Tape, AppendsFront}
 use Rattle.pr_samples.specs.declared.feed.Got.{Got}
@@ -15,7 +16,7 @@ use Rattle.pr_share_text.proofs.StopLaws.{SameRows, same_rows, turns_before, so_
 use Rattle.pr_share.specs.declared.items.ShareItem.{ShareItem}
 use Rattle.pr_share.specs.Items.{conf_in, last_of, turn_rows, World, world, IsBroken, IsHalf, Given, part_of, parts_of, read_faults, IsResting, IsMember, IsSharing, MayBecome, MayAllBecome, AreStopped}
 use Rattle.pr_share.proofs.ListFacts.{got_at, got_within, set_same, set_other, same_some}
-use Rattle.pr_share.proofs.Parts.{more_results, part_rows, length-turn, parts_at, length-parts, turns_yet, rose_more, faults_set}
+use Rattle.pr_share.proofs.Parts.{more_results, part_rows, length-turn, parts_at, length-parts, quotas_same, turns_yet, rose_more, faults_set}
 use Rattle.pr_share.proofs.RoundSteps.{rows_due, none_failed, given_here, member_here, first_here, taken_here}
 
 -- ---- what programs may come to
@@ -31,12 +32,6 @@ length-become [] [] h = refl
 length-become [] (y ∷ wholes) h = absurd h
 length-become (x ∷ givens) [] h = absurd h
 length-become (x ∷ givens) (y ∷ wholes) h = ap suc (length-become givens wholes h.1)
-
-quotas_become : {N P : ℕ} (firsts : List (ShareItem N P)) (givens wholes : List Given) → length wholes ≡ length givens → HaveQuotas (parts_of firsts givens) → HaveQuotas (parts_of firsts wholes)
-quotas_become {N} {P} [] givens wholes l h = tt
-quotas_become {N} {P} (f ∷ firsts) givens [] l h = tt
-quotas_become {N} {P} (f ∷ firsts) [] (y ∷ wholes) l h = absurd (omega (arith, l))
-quotas_become {N} {P} (f ∷ firsts) (x ∷ givens) (y ∷ wholes) l h = (h.0, quotas_become firsts givens wholes (omega (arith, l)) h.1)
 
 -- a program that is not stopped has the same rows in all its turns, whatever samples may follow
 module _ {N P : ℕ} (told : Told) (first now : ShareItem N P) (given whole : Given) (n : ℕ) (m : IsMember told first now given n) (become : MayBecome given whole) where
@@ -135,15 +130,18 @@ module _ {N P : ℕ} (told : Told) (firsts items : List (ShareItem N P)) (start 
     same_text : so_far r k before ≡ so_far r k after
     same_text = so_far_same r k before after (length-parts firsts st.givens st.givens_count ∙ sym (length-parts firsts wholes count)) same_parts
 
+    new_few : length (turn_rows first given.rows half.more) ≤ first.quota
+    new_few = let n = length-turn first given.rows half.more in let few = half.few in omega arith
+
     whole_quotas : HaveQuotas after
-    whole_quotas = quotas_become firsts st.givens wholes (count ∙ sym st.givens_count) st.quotas
+    whole_quotas = quotas_same firsts st.givens wholes (count ∙ sym st.givens_count) st.quotas
 
     stopped_text : AppendsFront start.tape t' (share_text after)
     stopped_text =
         let new = turn_rows first given.rows half.more in
         let begins = turn_begins r k before after (part_of first given.rows) (part_of first whole_here.0.rows) new (turn_rows first left.rows become_here.more)
             (parts_at firsts st.givens k first given ef eg) (parts_at firsts wholes k first whole_here.0 ef whole_here.1) refl rows_here due
-            (let n = length-turn first given.rows half.more in let few = half.few in omega arith) whole_quotas same_text in
+            new_few whole_quotas same_text in
         let front = front_after start.tape t t' (so_far r k before) (marked k new) st.text half.text in
         subst (λ xs. AppendsFront start.tape t' xs) begins.1 (front_longer start.tape t' (so_far r k before ++ marked k new) begins.0 front)
 
@@ -157,7 +155,7 @@ module _ {N P : ℕ} (told : Told) (firsts items : List (ShareItem N P)) (start 
     here = stopped_here;
     others = λ i f n x other a c d. (st.each i f n x a (sym (set_other items k i now' other) ∙ c) (sym (set_other st.givens k i left other) ∙ d)).resting;
     text = stopped_text;
-    faults = rw (faults_set told firsts st.givens k first given left ef eg (none_failed told first now given r m going))
+    faults = subst (λ n. RoseBy start.faults b' n) (sym (faults_set told firsts st.givens k first given left ef eg (none_failed told first now given r m going)))
         (rose_more told first.feed half.last start.faults b b' (read_faults told firsts st.givens) st.faults later half.cause);
   }
 

@@ -1,5 +1,7 @@
 -- Programs that take turns.
 use Rattle.std.specs.Prelude.{◌≡◌, ◌≢◌, ◌≤◌, ◌<◌, ◌+◌, ◌*◌, ◌^◌, ◌&&◌, not, ℕ, Bool, true, false, nat_lt, List, [], ◌∷◌, ◌++◌, length, ⊤, Option, Some, None, slice_get, is_some, if◌then◌else◌}
+use Rattle.std.specs.List.{count_by}
+use Rattle.std.specs.Simd.Lanes.{zip2}
 use Rattle.pr_edge.specs.Count.{RoseBy}
 use Rattle.pr_edge.specs.Files.{Told, HasReadCause}
 use Rattle.pr_edge.specs.Tape.{Tape, Appends, AppendsFront}
@@ -122,19 +124,15 @@ part_of {N} {P} first rows = record { quota = first.quota; rows = result_numbers
 
 -- what programs that were given these are in the text
 abbrev pub parts_of : {N P : ℕ} → List (ShareItem N P) → List Given → List Part
-parts_of [] givens = []
-parts_of (first ∷ firsts) [] = []
-parts_of (first ∷ firsts) (given ∷ givens) = part_of first given.rows ∷ parts_of firsts givens
+parts_of firsts givens = zip2 (λ first given. part_of first given.rows) firsts givens
 
 -- a read of a feed failed, and not since its file is told not to be there
 abbrev pub has_failed : Told → Feed → Got → Bool
 has_failed told f last = is_read_fault last && not (is_lost told (name_of f))
 
--- the programs of which a read failed so
+-- the number of programs of which a read failed so
 abbrev pub read_faults : {N P : ℕ} → Told → List (ShareItem N P) → List Given → ℕ
-read_faults told [] givens = 0
-read_faults told (first ∷ firsts) [] = 0
-read_faults told (first ∷ firsts) (given ∷ givens) = (if has_failed told first.feed given.last then 1 else 0) + read_faults told firsts givens
+read_faults told firsts givens = count_by (λ failed. failed) (zip2 (λ first given. has_failed told first.feed given.last) firsts givens)
 
 -- a program that was given these samples is parked after them, and how they ended is told where they have
 pub record IsResting {N P : ℕ} (told : Told) (first now : ShareItem N P) (given : Given) : Type 0 where
@@ -155,7 +153,7 @@ pub record IsSharing {N P : ℕ} (firsts items : List (ShareItem N P)) (start no
   pub each : (i : ℕ) (first item : ShareItem N P) (given : Given) → slice_get firsts i ≡ Some first → slice_get items i ≡ Some item → slice_get givens i ≡ Some given → IsMember now.told first item given (if nat_lt i k then r + 1 else r)
   pub quotas : HaveQuotas (parts_of firsts givens)
   pub text : Appends start.tape now.tape (so_far r k (parts_of firsts givens))
-  pub faults : RoseBy before now (read_faults now.told firsts givens)
+  pub faults : RoseBy start.faults now.faults (read_faults now.told firsts givens)
 
 -- ---- the end
 -- all samples of a program have ended, and its configuration is parked after them
@@ -171,7 +169,7 @@ pub record AreShared {N P : ℕ} (firsts items : List (ShareItem N P)) (start no
   pub givens_count : length givens ≡ length firsts
   pub each : (i : ℕ) (first item : ShareItem N P) (given : Given) → slice_get firsts i ≡ Some first → slice_get items i ≡ Some item → slice_get givens i ≡ Some given → IsShared now.told first item given
   pub text : Appends start.tape now.tape (share_text (parts_of firsts givens))
-  pub faults : RoseBy before now (read_faults now.told firsts givens)
+  pub faults : RoseBy start.faults now.faults (read_faults now.told firsts givens)
 
 -- ---- a write fault
 -- a program that was given samples may come to be given more, where its feed gave a sample last
@@ -197,7 +195,7 @@ pub record AreStopped {N P : ℕ} (firsts items : List (ShareItem N P)) (start n
   pub here : (first item : ShareItem N P) (given : Given) → slice_get firsts place ≡ Some first → slice_get items place ≡ Some item → slice_get givens place ≡ Some given → IsBroken now.told first item given.rows given.last
   pub others : (i : ℕ) (first item : ShareItem N P) (given : Given) → i ≢ place → slice_get firsts i ≡ Some first → slice_get items i ≡ Some item → slice_get givens i ≡ Some given → IsResting now.told first item given
   pub text : (wholes : List Given) → MayAllBecome givens wholes → AppendsFront start.tape now.tape (share_text (parts_of firsts wholes))
-  pub faults : RoseBy before now (read_faults now.told firsts givens)
+  pub faults : RoseBy start.faults now.faults (read_faults now.told firsts givens)
 
 -- the samples of some program have not ended
 pub record IsGoing {N P : ℕ} (items : List (ShareItem N P)) : Type 0 where

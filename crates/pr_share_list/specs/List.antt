@@ -64,4 +64,4 @@ pub record IsBare (text : List ℕ) (line : ℕ) : Type 0 where
 
 -- the list is bad at this line, counted from 1
 abbrev pub IsBadAt : List ℕ → ℕ → Type 0
-IsBadAt text line = (before : ℕ) × (line ≡ before + 1) × (IsWrong text before ⊎ IsBare text before)
+IsBadAt text line = (before : ℕ) × ((line ≡ before + 1) × (IsWrong text before ⊎ IsBare text before))

@@ -2,6 +2,7 @@
 #![tactic(auto)]
 
 mod faults;
+mod laws;
 mod lines;
 mod lists;
 #[cfg(test)]
@@ -9,5 +10,6 @@ mod tests;
 mod words;
 
 pub use faults::ListFault;
+pub use laws::list_law;
 pub use lines::Entry;
 pub use lists::read_list;

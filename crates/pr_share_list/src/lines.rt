@@ -68,11 +68,10 @@ fn without_return(line: &[u8]) -> &[u8]
 fn program_of(line: &[u8]) -> Option<Said>
     ensures { option_map entry_said result ≡ entry_by (words_of line.now) }
 {
-    let (program, rest) = next_word(line);
-    let (samples, rest) = next_word(rest);
-    let (quota, rest) = next_word(rest);
-    let (more, _) = next_word(rest);
-    if quota.is_empty() || !more.is_empty() {
+    let (program, rest) = next_word(line)?;
+    let (samples, rest) = next_word(rest)?;
+    let (quota, rest) = next_word(rest)?;
+    if next_word(rest).is_some() {
         return None;
     }
     let program = from_utf8(program).ok()?;
@@ -90,7 +89,7 @@ pub(crate) fn line_of(alloc: Global, line: &[u8]) -> Result<Line, AllocError>
     ensures { IfOk result (λ said. IsLine line.now said) }
 {
     let line = without_return(line);
-    if next_word(line).0.is_empty() {
+    if next_word(line).is_none() {
         return Ok(Line::Blank);
     }
     if begins_apart(line) {

@@ -1,7 +1,7 @@
 //! The words of a line.
-ghost use Rattle.std.specs.Prelude.{◌≡◌, ◌≤◌, not, [], ◌∷◌, length, if◌then◌else◌};
+ghost use Rattle.std.specs.Prelude.{◌≡◌, ◌≤◌, not, [], ◌∷◌, length, MatchOption};
 ghost use Rattle.std.specs.List.{position_or_len};
-ghost use Rattle.pr_samples.specs.Lines.{is_blank, words_of, is_empty, begins_apart};
+ghost use Rattle.pr_samples.specs.Lines.{is_blank, words_of, begins_apart};
 
 /// Whether a byte is a blank.
 fn is_blank(byte: u8) -> bool
@@ -40,10 +40,15 @@ fn letters(line: &[u8]) -> usize
         .unwrap_or(line.len())
 }
 
-/// The first word of a line, which is empty where there is none, and what follows it.
-pub(crate) fn next_word(line: &[u8]) -> (&[u8], &[u8])
-    ensures { words_of line.now ≡ (if is_empty result.0.now then [] else result.0.now ∷ words_of result.1.now) }
+/// The first word of a line, and what follows it.
+pub(crate) fn next_word(line: &[u8]) -> Option<(&[u8], &[u8])>
+    ensures { MatchOption result (words_of line.now ≡ []) (λ p. words_of line.now ≡ p.0.now ∷ words_of p.1.now) }
 {
     let (_, rest) = line.split_at(blanks(line));
-    rest.split_at(letters(rest))
+    let (word, rest) = rest.split_at(letters(rest));
+    if word.is_empty() {
+        None
+    } else {
+        Some((word, rest))
+    }
 }

@@ -19,7 +19,7 @@ loop-number-preserved g c =
 pub take_place-requires : goal.take_place-requires
 take_place-requires g c =
     let q = c.requires.sharing in
-    (omega arith, (omega arith, (omega arith, (omega (arith, c.loop-number.invariant.count), (omega (arith, c.loop-number.invariant.count), (q.0, (q.1.0, (q.1.1.0, c.loop-number.invariant.sharing q.0 q.1.0 q.1.1.0 q.1.1.1))))))))
+    (omega arith, (omega arith, (omega arith, (omega (arith, c.loop-number.invariant.count), (omega (arith, c.loop-number.invariant.count), (q.0, q.1, q.2, c.loop-number.invariant.sharing q.0 q.1 q.2 q.3))))))
 
 pub returns-in-Err-clause-stopped : goal.returns-in-Err-clause-stopped
 returns-in-Err-clause-stopped g c = λ firsts start r st. c.in-Err.ensures.stopped firsts start r (c.loop-number.invariant.sharing firsts start r st)

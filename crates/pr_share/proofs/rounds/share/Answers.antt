@@ -41,4 +41,4 @@ loop-preserved g c =
 pub make_round-requires : goal.make_round-requires
 make_round-requires g c =
     let start = world (g.S.Shelf.told c.args.shelf.now) (g.S.Shelf.faults c.args.shelf.now) (g.K.Sink.told c.args.out.now) in
-    (omega arith, (omega arith, (omega arith, (omega (arith, c.loop.invariant.count), (c.args.parts.now, (start, (c.loop.counter, c.loop.invariant.sharing)))))))
+    (omega arith, (omega arith, (omega arith, (omega (arith, c.loop.invariant.count), (c.args.parts.now, start, c.loop.counter, c.loop.invariant.sharing)))))

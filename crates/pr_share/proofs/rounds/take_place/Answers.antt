@@ -18,7 +18,8 @@ pub take_turn-requires : goal.take_turn-requires
 take_turn-requires g c =
     let q = c.requires.sharing in
     let now = get_or c.args.items.now c.args.number c.index-items-number-2.result in
-    let going = ap (λ (x : ShareItem g.row.N g.row.P). is_some x.ended) (get_or_default c.args.items.now c.args.number c.index-items-number-2.result c.index-items-number.result c.requires.at) ∙ (sym c.is_some.ensures ∙ c.if-is_some.false) in (
+    let going = ap (λ (x : ShareItem g.row.N g.row.P). is_some x.ended) (get_or_default c.args.items.now c.args.number c.index-items-number-2.result c.index-items-number.result c.requires.at) ∙ (sym c.is_some.ensures ∙ c.if-is_some.false) in
+    let w = taken_here (g.S.Shelf.told c.args.shelf.now) q.0 c.args.items.now q.1 (g.S.Shelf.faults c.args.shelf.now) (g.K.Sink.told c.args.out.now) q.2 c.args.number q.3 now (got_any c.args.items.now c.args.number c.index-items-number-2.result c.requires.at) in (
       omega arith,
       (
         omega arith,
@@ -28,7 +29,7 @@ take_turn-requires g c =
             omega (arith, c.requires.at, c.requires.few),
             (
               none_from now.ended going,
-              taken_here (g.S.Shelf.told c.args.shelf.now) q.0 c.args.items.now q.1.0 (g.S.Shelf.faults c.args.shelf.now) (g.K.Sink.told c.args.out.now) q.1.1.0 c.args.number q.1.1.1 now (got_any c.args.items.now c.args.number c.index-items-number-2.result c.requires.at),
+              (w.0, w.1.0, w.1.1),
             ),
           ),
         ),

@@ -5,6 +5,7 @@ use Rattle.pr_samples.specs.Feed.{name_of}
 use Rattle.pr_conf.specs.declared.configurations.Configuration.{Configuration}
 use Rattle.pr_conf.specs.Configuration.{shape_of}
 use Rattle.pr_conf.specs.Through.{output_widths}
+use Rattle.pr_machine.specs.declared.parking.Parked.{Parked}
 use Rattle.pr_machine.specs.Stands.{conf_of, stripes_of}
 use Rattle.pr_share.specs.Turns.{Begins}
 use Rattle.pr_share.specs.declared.items.ShareItem.{ShareItem}
@@ -23,10 +24,10 @@ run_turn-requires g c =
         (
           stands_self c.resume-running.result _ _ [] c.resume-running.ensures.stands,
           (
-            inputs_are (g.S.Shelf.told c.args.shelf.now) q.0 c.args.item.now q.1.0 (conf_of c.resume-running.result) q.1.1 is,
+            inputs_are (g.S.Shelf.told c.args.shelf.now) q.0 c.args.item.now q.1 (conf_of c.resume-running.result) q.2 is,
             (
               c.put_widths-count.ensures.widths ∙ ap (λ (k : Configuration g.row.N g.row.P). output_widths (shape_of k)) c.conf.ensures.is,
-              (c.requires.number, (q.0.feed, (q.1.0, fed_yet (g.S.Shelf.told c.args.shelf.now) q.0 c.args.item.now q.1.0 q.1.1 c.requires.going))),
+              (c.requires.number, (q.0.feed, (q.1, fed_yet (g.S.Shelf.told c.args.shelf.now) q.0 c.args.item.now q.1 q.2 c.requires.going))),
             ),
           ),
         ),
@@ -68,5 +69,6 @@ returns-in-Err-clause-half g c = λ first rows h.
     let s = turn_setting first rows (conf_of m) (stripes_of m) c.args.number t in
     let begins : Begins s m c.args.item.now.feed told t c.args.number = record { conf = refl; stripes = refl; number_is = refl; tape = refl; fed = fed_yet told first c.args.item.now rows h c.requires.going } in
     let left : ShareItem g.row.N g.row.P = record { parked = None; feed = c.run_turn.new.feed; quota = c.args.item.now.quota; ended = c.args.item.now.ended } in
-    subst (λ (w : Told). IsHalf first left rows c.args.number (world w b t) (world told' b' t')) same
-    (half_item told' first c.args.item.now rows c.args.number (stripes_of m) t t' (subst (λ (w : Told). HasTaken w first c.args.item.now rows) (sym same) h) (conf_of m) is c.run_turn.new.feed b b' c.requires.going (c.in-Err.ensures.cut s begins))
+    subst (λ (o : Option (Parked g.row.N g.row.P)). IsHalf first (record { parked = o; feed = c.run_turn.new.feed; quota = c.args.item.now.quota; ended = c.args.item.now.ended }) rows c.args.number (world told b t) (world told' b' t')) (sym c.take.ensures.after)
+    (subst (λ (w : Told). IsHalf first left rows c.args.number (world w b t) (world told' b' t')) same
+    (half_item told' first c.args.item.now rows c.args.number (stripes_of m) t t' (subst (λ (w : Told). HasTaken w first c.args.item.now rows) (sym same) h) (conf_of m) is c.run_turn.new.feed b b' c.requires.going (c.in-Err.ensures.cut s begins)))
