@@ -1,5 +1,5 @@
 -- What programs are in the text, and the reads that failed.
-use Rattle.std.proofs.Common.{◌≡◌, ℕ, zero, suc, ◌+◌, ◌<◌, ◌≤◌, ltb, cond, true, false, Bool, not, ◌&&◌, List, [], ◌∷◌, ◌++◌, length, map, Option, Some, None, is_some, slice_get, refl, sym, ap, ap₂, ◌∙◌, subst, arith, true≢false, inl, inr}
+use Rattle.std.proofs.Common.{◌≡◌, ℕ, zero, suc, ◌+◌, ◌≤◌, ltb, cond, true, false, Bool, not, List, [], ◌∷◌, ◌++◌, length, map, Some, None, is_some, slice_get, refl, sym, ap, ◌∙◌, subst, arith, true≢false, inl, inr}
 use Rattle.std.specs.List.{count_by}
 use Rattle.std.specs.Simd.Lanes.{zip2}
 use Rattle.std.proofs.Math.ListN.{set}
@@ -19,7 +19,7 @@ use Rattle.pr_conf.proofs.AfterLaws.{results_after, outputs_after}
 use Rattle.pr_share_text.specs.Text.{Part, HaveQuotas}
 use Rattle.pr_share.specs.declared.items.ShareItem.{ShareItem}
 use Rattle.pr_share.specs.Turns.{pieces}
-use Rattle.pr_share.specs.Items.{conf_in, turn_rows, Given, part_of, parts_of, is_lost, has_failed, read_faults}
+use Rattle.pr_share.specs.Items.{conf_in, turn_rows, Given, part_of, parts_of, has_failed, read_faults}
 use Rattle.pr_share.proofs.ListFacts.{zip_at, zip_set, zip_map, count_set, count_none}
 use Rattle.pr_share.proofs.Shown.{length-results}
 

@@ -1,5 +1,5 @@
 -- Turns and rounds of programs.
-use Rattle.std.proofs.Common.{◌≡◌, ℕ, zero, suc, ◌+◌, ◌*◌, ◌<◌, ◌≤◌, ltb, cond, true, false, Bool, List, [], ◌∷◌, ◌++◌, length, map, take, Option, Some, None, is_some, slice_get, refl, sym, ap, ◌∙◌, subst, arith, length-append, true≢false, inl, inr, ◌^◌}
+use Rattle.std.proofs.Common.{◌≡◌, ℕ, ◌+◌, ◌*◌, ◌≤◌, ltb, cond, true, false, List, [], ◌++◌, length, map, take, Option, Some, None, is_some, slice_get, refl, sym, ap, ◌∙◌, subst, arith, length-append, true≢false, inl, inr, ◌^◌}
 use Rattle.std.proofs.Math.Nat.{mul-le-mul_left}
 use Rattle.std.proofs.Math.ListN.{set}
 use Rattle.std.proofs.lemmas.Bool.{cases_eq, lt-ltb, cond-true}
@@ -11,13 +11,12 @@ use Rattle.pr_edge.proofs.Appending.{Appends-append}
 use Rattle.pr_samples.specs.declared.feed.Got.{Got}
 use Rattle.pr_samples.specs.Feed.{fed}
 use Rattle.pr_conf.proofs.AfterLaws.{none_after}
-use Rattle.pr_share_text.specs.Text.{Part, HaveQuotas, share_text}
+use Rattle.pr_share_text.specs.Text.{Part, HaveQuotas}
 use Rattle.pr_share_text.specs.Turns.{so_far}
 use Rattle.pr_share_text.proofs.TurnLaws.{turn_added, turn_skipped, round_over, nothing_yet, all_over}
 use Rattle.pr_share.specs.declared.items.ShareItem.{ShareItem}
-use Rattle.pr_share.specs.Turns.{pieces}
 use Rattle.pr_share.specs.Fed.{HasFed}
-use Rattle.pr_share.specs.Items.{conf_in, last_of, IsReady, AreReady, HasTaken, turn_rows, turn_text, World, world, IsTurn, Given, part_of, parts_of, has_failed, read_faults, IsResting, IsMember, IsSharing, AreShared}
+use Rattle.pr_share.specs.Items.{conf_in, last_of, IsReady, AreReady, HasTaken, turn_rows, World, world, IsTurn, Given, part_of, parts_of, has_failed, read_faults, IsMember, IsSharing, AreShared}
 use Rattle.pr_run.proofs.Lines.{nothing_appended}
 use Rattle.pr_share.proofs.ListFacts.{got_at, got_within, set_same, set_other, same_some, mapped_at}
 use Rattle.pr_share.proofs.Parts.{more_results, part_rows, length-turn, parts_at, length-parts, parts_set, quotas_set, quotas_first, turns_other, turns_this, turns_yet, turns_none, rose_more, faults_set, no_faults}

@@ -1,5 +1,5 @@
 -- A write fails in the turn of a program.
-use Rattle.std.proofs.Common.{◌≡◌, ◌≢◌, ℕ, zero, suc, ◌+◌, ◌*◌, ◌<◌, ◌≤◌, ltb, cond, true, false, Bool, List, [], ◌∷◌, ◌++◌, length, Option, Some, None, is_some, slice_get, refl, sym, ap, ◌∙◌, subst, arith, append_assoc, append-nil, inl, inr}
+use Rattle.std.proofs.Common.{◌≡◌, ℕ, zero, suc, ◌*◌, ◌<◌, ◌≤◌, true, List, [], ◌∷◌, ◌++◌, length, Option, Some, None, is_some, slice_get, refl, sym, ap, ◌∙◌, subst, arith, append_assoc, append-nil, inl, inr}
 use Rattle.std.proofs.Math.ListN.{set}
 use Rattle.std.proofs.lemmas.Bool.{cases_eq}
 use Rattle.std.proofs.lemmas.List.{length-set}
@@ -14,7 +14,7 @@ use Rattle.pr_share_text.specs.Text.{Part, HaveQuotas, marked, share_text}
 use Rattle.pr_share_text.specs.Turns.{so_far}
 use Rattle.pr_share_text.proofs.StopLaws.{SameRows, same_rows, turns_before, so_far_same, turn_begins}
 use Rattle.pr_share.specs.declared.items.ShareItem.{ShareItem}
-use Rattle.pr_share.specs.Items.{conf_in, last_of, turn_rows, World, world, IsBroken, IsHalf, Given, part_of, parts_of, read_faults, IsResting, IsMember, IsSharing, MayBecome, MayAllBecome, AreStopped}
+use Rattle.pr_share.specs.Items.{conf_in, turn_rows, World, world, IsBroken, IsHalf, Given, part_of, parts_of, read_faults, IsMember, IsSharing, MayBecome, MayAllBecome, AreStopped}
 use Rattle.pr_share.proofs.ListFacts.{got_at, got_within, set_same, set_other, same_some}
 use Rattle.pr_share.proofs.Parts.{more_results, part_rows, length-turn, parts_at, length-parts, quotas_same, turns_yet, rose_more, faults_set}
 use Rattle.pr_share.proofs.RoundSteps.{rows_due, none_failed, given_here, member_here, first_here, taken_here}
