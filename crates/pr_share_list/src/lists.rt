@@ -1,5 +1,5 @@
 //! Whole lists.
-ghost use Rattle.std.specs.Prelude.{◌≡◌, ℕ, ◌→◌, IfOk, IsErrOf, map};
+ghost use Rattle.std.specs.Prelude.{◌≡◌, ℕ, IfOk, IsErrOf, map};
 ghost use Rattle.pr_share_list.specs.List.{IsListed, IsBadAt, entry_in};
 
 use crate::faults::ListFault;
