@@ -53,7 +53,7 @@ got_after (x ∷ done) line more = got_after done line more
 pub wrong_here : (text line : List ℕ) (done more : List (List ℕ)) (entries : List Entry) → list_lines text ≡ done ++ line ∷ more → Say done entries → counts line ≡ true → (entry_of line ≡ None) ⊎ (length entries ≡ 8) → IsWrong text (length done)
 wrong_here text line done more entries is s e wrong = record {
   entries = entries;
-  before = subst (λ lines. Say lines entries) (sym (ap (take (length done)) is ∙ take_at done (line ∷ more))) s;
+  before = subst (λ lines. Say lines entries) (sym (ap (take (length done)) is ∙ take_at done (line ∷ more) (length done) refl)) s;
   bytes = line;
   here = ap (λ lines. slice_get lines (length done)) is ∙ got_after done line more;
   counted = e;
@@ -130,11 +130,11 @@ wrong_first text m n a b h =
     not_wrong (take n lines) m a.bytes a.entries b.entries (got_less lines m n h ∙ a.here) a.counted (subst (λ xs. Say xs a.entries) (sym (take_less lines m n (omega arith))) a.before) a.wrong b.before
 
 not_bare : (text : List ℕ) (m n : ℕ) → IsWrong text m → IsBare text n → ⊥
-not_bare text m n a b = absurd (none (filter counts (take m (list_lines text))) (sym b.bare ∙ counted_here (list_lines text) m a.bytes a.here a.counted))
+not_bare text m n a b = absurd (none (filter counts (take m (list_lines text))) _ _ (sym b.bare ∙ counted_here (list_lines text) m a.bytes a.here a.counted))
   where
-    none : (xs : List (List ℕ)) {y : List ℕ} {ys : List (List ℕ)} → [] ≡ xs ++ y ∷ ys → ⊥
-    none [] e = absurd (let z = e in cc)
-    none (x ∷ xs) e = absurd (let z = e in cc)
+    none : (xs : List (List ℕ)) (y : List ℕ) (ys : List (List ℕ)) → [] ≡ xs ++ y ∷ ys → ⊥
+    none [] y ys e = absurd (let z = e in cc)
+    none (x ∷ xs) y ys e = absurd (let z = e in cc)
 
 pub one_list : (text : List ℕ) (a b : List Entry) → IsListed text a → IsListed text b → a ≡ b
 one_list text a b h k = somes_same a b (sym h.say.entries_are ∙ k.say.entries_are)

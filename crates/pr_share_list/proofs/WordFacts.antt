@@ -7,11 +7,11 @@ use Rattle.pr_samples.specs.Lines.{Lines, lines_of, is_blank, with_letter, begin
 -- ---- places
 pub position_or_len-le : (p : ℕ → Bool) (xs : List ℕ) → position_or_len p xs ≤ length xs
 position_or_len-le p [] = omega arith
-position_or_len-le p (x ∷ xs) = by_test (p x)
+position_or_len-le p (x ∷ xs) = by_test (p x) (position_or_len-le p xs)
   where
-    by_test : (t : Bool) → cond (not t) (1 + position_or_len p xs) 0 ≤ suc (length xs)
-    by_test true = omega arith
-    by_test false = let h = position_or_len-le p xs in omega arith
+    by_test : (t : Bool) → position_or_len p xs ≤ length xs → cond (not t) (1 + position_or_len p xs) 0 ≤ suc (length xs)
+    by_test true h = omega arith
+    by_test false h = omega arith
 
 pub place_or_len : (p : ℕ → Bool) (xs : List ℕ) → unwrap_or (position p xs) (length xs) ≡ position_or_len p xs
 place_or_len p xs = by_test (ltb (position_or_len p xs) (length xs)) refl
@@ -56,14 +56,14 @@ blanks-letter b bytes e = rw e refl
 -- a letter and the letters after it are a word
 word_run : (b : ℕ) (bytes : List ℕ) → with_letter b (begins_apart bytes) (words_of bytes) ≡ (b ∷ take (letters bytes) bytes) ∷ words_of (drop (letters bytes) bytes)
 word_run b [] = rw words_none refl
-word_run b (c ∷ more) = by_test (is_blank c) refl
+word_run b (c ∷ more) = by_test (is_blank c) refl (word_run c more)
   where
-    by_test : (t : Bool) → is_blank c ≡ t → with_letter b (is_blank c) (words_of (c ∷ more)) ≡ (b ∷ take (letters (c ∷ more)) (c ∷ more)) ∷ words_of (drop (letters (c ∷ more)) (c ∷ more))
-    by_test true e =
+    by_test : (t : Bool) → is_blank c ≡ t → with_letter c (begins_apart more) (words_of more) ≡ (c ∷ take (letters more) more) ∷ words_of (drop (letters more) more) → with_letter b (is_blank c) (words_of (c ∷ more)) ≡ (b ∷ take (letters (c ∷ more)) (c ∷ more)) ∷ words_of (drop (letters (c ∷ more)) (c ∷ more))
+    by_test true e h =
         ap (λ t. with_letter b t (words_of (c ∷ more))) e
         ∙ ap (λ n. (b ∷ take n (c ∷ more)) ∷ words_of (drop n (c ∷ more))) (sym (letters-blank c more e))
-    by_test false e =
-        ap₂ (with_letter b) e (words_of-letter c more e ∙ word_run c more)
+    by_test false e h =
+        ap₂ (with_letter b) e (words_of-letter c more e ∙ h)
         ∙ ap (λ n. (b ∷ take n (c ∷ more)) ∷ words_of (drop n (c ∷ more))) (sym (letters-letter c more e))
 
 -- what follows the blanks
@@ -88,13 +88,13 @@ words_by word rest = cond (is_empty word) [] (word ∷ words_of rest)
 
 pub first_word : (line : List ℕ) → words_of line ≡ words_by (word_in line) (rest_in line)
 first_word [] = words_none
-first_word (b ∷ bytes) = by_test (is_blank b) refl
+first_word (b ∷ bytes) = by_test (is_blank b) refl (first_word bytes)
   where
-    by_test : (t : Bool) → is_blank b ≡ t → words_of (b ∷ bytes) ≡ words_by (word_in (b ∷ bytes)) (rest_in (b ∷ bytes))
-    by_test true e =
-        words_of-blank b bytes e ∙ (first_word bytes
+    by_test : (t : Bool) → is_blank b ≡ t → words_of bytes ≡ words_by (word_in bytes) (rest_in bytes) → words_of (b ∷ bytes) ≡ words_by (word_in (b ∷ bytes)) (rest_in (b ∷ bytes))
+    by_test true e h =
+        words_of-blank b bytes e ∙ (h
         ∙ ap (λ xs. words_by (take (letters xs) xs) (drop (letters xs) xs)) (sym (after_blank b bytes e)))
-    by_test false e =
+    by_test false e h =
         words_of-letter b bytes e ∙ (word_run b bytes
         ∙ (ap (λ n. words_by (take n (b ∷ bytes)) (drop n (b ∷ bytes))) (sym (letters-letter b bytes e))
         ∙ ap (λ xs. words_by (take (letters xs) xs) (drop (letters xs) xs)) (sym (after_letter b bytes e))))
@@ -164,29 +164,29 @@ lines_of-open : (b : ℕ) (text last : List ℕ) → is_end b ≡ false → line
 unfolding lines_of
 lines_of-open b text last e h = rw (e, h) refl
 
-lines_none : lines_of [] ≡ record { whole = []; last = [] }
+pub lines_none : lines_of [] ≡ record { whole = []; last = [] }
 unfolding lines_of
 lines_none = refl
 
 pub first_line : (text : List ℕ) → line_end text < length text → lines_of text ≡ line_and (take (line_end text) text) (lines_of (drop (line_end text + 1) text))
 first_line [] h = absurd (omega arith)
-first_line (b ∷ text) h = by_test (is_end b) refl
+first_line (b ∷ text) h = by_test (is_end b) refl (first_line text)
   where
-    by_test : (t : Bool) → is_end b ≡ t → lines_of (b ∷ text) ≡ line_and (take (line_end (b ∷ text)) (b ∷ text)) (lines_of (drop (line_end (b ∷ text) + 1) (b ∷ text)))
-    by_test true e =
+    by_test : (t : Bool) → is_end b ≡ t → (line_end text < length text → lines_of text ≡ line_and (take (line_end text) text) (lines_of (drop (line_end text + 1) text))) → lines_of (b ∷ text) ≡ line_and (take (line_end (b ∷ text)) (b ∷ text)) (lines_of (drop (line_end (b ∷ text) + 1) (b ∷ text)))
+    by_test true e rest =
         lines_of-end b text e
         ∙ ap (λ n. line_and (take n (b ∷ text)) (lines_of (drop (n + 1) (b ∷ text)))) (sym (end-here b text e))
-    by_test false e =
+    by_test false e rest =
         let z = end-later b text e in
         let y : suc (line_end text) + 1 ≡ suc (line_end text + 1) = omega arith in
-        lines_of-more b text (take (line_end text) text) (lines_of (drop (line_end text + 1) text)) e (first_line text (omega (arith, h, z)))
+        lines_of-more b text (take (line_end text) text) (lines_of (drop (line_end text + 1) text)) e (rest (omega (arith, h, z)))
         ∙ (ap (λ n. line_and (b ∷ take (line_end text) text) (lines_of (drop n (b ∷ text)))) (sym y)
         ∙ ap (λ n. line_and (take n (b ∷ text)) (lines_of (drop (n + 1) (b ∷ text)))) (sym z))
 
 pub no_line : (text : List ℕ) → length text ≤ line_end text → lines_of text ≡ record { whole = []; last = text }
 no_line [] h = lines_none
-no_line (b ∷ text) h = by_test (is_end b) refl
+no_line (b ∷ text) h = by_test (is_end b) refl (no_line text)
   where
-    by_test : (t : Bool) → is_end b ≡ t → lines_of (b ∷ text) ≡ record { whole = []; last = b ∷ text }
-    by_test true e = absurd (let z = end-here b text e in omega (arith, h, z))
-    by_test false e = lines_of-open b text text e (no_line text (let z = end-later b text e in omega (arith, h, z)))
+    by_test : (t : Bool) → is_end b ≡ t → (length text ≤ line_end text → lines_of text ≡ record { whole = []; last = text }) → lines_of (b ∷ text) ≡ record { whole = []; last = b ∷ text }
+    by_test true e rest = absurd (let z = end-here b text e in omega (arith, h, z))
+    by_test false e rest = lines_of-open b text text e (rest (let z = end-later b text e in omega (arith, h, z)))
