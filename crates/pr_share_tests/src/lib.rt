@@ -1,5 +1,0 @@
-//! Programs that take turns, against worked examples.
-#![tactic(auto)]
-
-#[cfg(test)]
-mod examples;
