@@ -126,7 +126,7 @@ module _ (files : List ℕ → Option (List ℕ)) (name : List ℕ) (target : Ta
     P = k.P;
     conf = k.conf;
     gives = kept_gives;
-    last = is.last ∙ ap (λ (c : Shape). after_stall files j.stall (samples_verdict c.inputs (files j.second))) (one_conf files (Text name target) is.N is.P k.N k.P is.conf k.conf is.gives k.gives);
+    last = is.last ∙ ap (λ (c : Shape). after_stall files j.stall (samples_verdict (2 ^ 40) c.inputs (files j.second))) (one_conf files (Text name target) is.N is.P k.N k.P is.conf k.conf is.gives k.gives);
   })
 
 -- ---- runs

@@ -1,6 +1,8 @@
 //! Laws of verdicts.
 
-ghost use Rattle.std.specs.Prelude.{◌≡◌, ℕ, List, Option, Some};
+ghost use Rattle.std.specs.Prelude.{◌≡◌, ℕ, List, All, Option, Some};
+ghost use Rattle.pr_base.specs.Rows.{IsRow};
+ghost use Rattle.pr_conf.specs.Shape.{Shape};
 ghost use Rattle.pr_edge.specs.Tape.{Appends};
 ghost use Rattle.pr_lang.specs.declared.trees.Program.{Program};
 ghost use Rattle.pr_lang_meaning.specs.Programs.{out};
@@ -15,6 +17,7 @@ ghost use Rattle.pr_tool_modes.specs.Executions.{IsRunVerdict};
 ghost use Rattle.pr_tool_modes.specs.Jobs.{Job};
 ghost use Rattle.pr_tool_modes.specs.Lines.{IsWholeRun, MeansLines, NoMore};
 ghost use Rattle.pr_tool_modes.specs.Programs.{HasProgram};
+ghost use Rattle.pr_tool_modes.specs.Resumptions.{GoesOn};
 ghost use Rattle.pr_tool_modes.specs.Sources.{Source, File, Text, Gives};
 ghost use Rattle.pr_tool_modes.specs.Texts.{IsTextVerdict};
 
@@ -40,4 +43,11 @@ pub fn behaviour_law()
         → IsWholeRun (MeansLines files (from_source (Text name target) j)) files (from_source (Text name target) j) samples c one e
         → IsWholeRun NoMore files (from_source (File kept) j) samples d other f
         → (e ≡ f) × ((text : List ℕ) × Appends c.old c.new text × Appends d.old d.new text) }
+{}
+
+/// A program goes on from a checkpoint: its lines on samples that follow others are those of its configuration after these. So
+/// `move` writes the rest of what the program means, by its configuration alone.
+pub fn moving_law()
+    ensures { (files : List ℕ → Option (List ℕ)) (name : List ℕ) (target : Target) (N P : ℕ) (conf : Shape) (xs ys : List (List ℕ)) → Gives (Some files) (Text name target) N P conf
+        → All (IsRow conf.inputs) xs → All (IsRow conf.inputs) ys → GoesOn files name N P conf xs ys }
 {}
