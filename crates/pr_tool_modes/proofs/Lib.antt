@@ -12,6 +12,7 @@ pub mod SampleLemmas
 pub mod LineLemmas
 pub mod LinesLemmas
 pub mod MoveVerdicts
+pub mod MarkLaws
 pub mod FoldLemmas
 pub mod FoldVerdicts
 mod Examples
