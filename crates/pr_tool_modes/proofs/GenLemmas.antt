@@ -36,7 +36,8 @@ use Rattle.pr_tool_modes.specs.Stalls.{HasStall}
 use Rattle.pr_tool_modes.specs.Sources.{Text, Gives, columns, registers, columns_in, registers_in, shape_in, IsOnFabric, IsRefusedSource}
 use Rattle.pr_tool_modes.proofs.LinesLemmas.{program_lines}
 use Rattle.pr_tool_modes.proofs.RunVerdicts.{come_of, run_owed}
-use Rattle.pr_tool_modes.proofs.SourceLemmas.{source_owed}
+use Rattle.pr_tool_modes.proofs.SourceLemmas.{source_owed, source_kind}
+use Rattle.pr_tool_modes.proofs.ReasonLemmas.{kind_never}
 
 -- ---- the summary
 -- the stages that a machine tells are those of its configuration
@@ -149,6 +150,10 @@ gen_refused g told a is refused =
       | inl source ↦ inl (inl source)
       | inr memory ↦ inr memory
     ]
+
+-- and that is no good end
+pub gen_failed : (g : Generation) (told : Told) (a : Answer) → IsFileRefusal 1048576 Cap.ProgramBytes (IsUncompiled (columns g.target.fabric) (registers g.target.fabric) g.target.narrowed) told program_file 0 0 a → a ≡ Answer.Ok → ⊥
+gen_failed g told a refused is = kind_never _ a Answer.Ok (source_kind told (Text program_file g.target) 0 0 a refused) is refl (λ e. cc) (λ e. cc)
 
 -- the run came to another answer
 pub gen_ran : (g : Generation) (k : Call) (loaded : Loadable) (bench : Bench) (a : Answer) → k.before.told ≡ Some (generated g.turns) → k.before.faults ≡ 0 → k.now.faults ≡ 0

@@ -42,6 +42,15 @@ not_usage (Limit cap) is = cc
 pub one_gen : (g : Generation) (a b : Answer) → IsGenVerdict g a → IsGenVerdict g b → a ≡ b
 one_gen g a b is by = one_run (generated g.turns) (job_for g) a b is by
 
+-- ---- nothing was put
+pub gen_none : (g : Generation) (old : Tape) (ob on : ℕ) (was : Bench) (a : Answer) → (a ≡ Answer.Ok → ⊥) → IsGenVerdict g a ⊎ (a ≡ Answer.Memory) → IsGenerated g old old ob on was was a
+gen_none g old ob on was Answer.Ok no h = absurd (no refl)
+gen_none g old ob on was Answer.WriteFault no (inl is) = absurd (gen_never g Answer.WriteFault Answer.WriteFault is refl refl not_write)
+gen_none g old ob on was Answer.WriteFault no (inr memory) = absurd (cc)
+gen_none g old ob on was Answer.Memory no h = record { unwritten = refl; kept = refl }
+gen_none g old ob on was a no (inl is) = (is, record { unwritten = refl; kept = refl })
+gen_none g old ob on was a no (inr memory) = absurd (cc)
+
 -- ---- single answers
 pub gen_owed : (g : Generation) (old new : Tape) (sb sn ob on : ℕ) (was bench : Bench) (a : Answer) → IsGenerated g old new ob on was bench a → IsOwed (IsGenVerdict g) sb sn ob on a
 gen_owed g old new sb sn ob on was (Bench.Base machine) Answer.Ok h = inl (gen_good g _ machine h)

@@ -1,5 +1,5 @@
 //! Runs of generated programs, of which a summary is told.
-ghost use Rattle.std.specs.Prelude.{◌≡◌, ◌≤◌, ◌⊎◌, ◌++◌, ℕ, Some, decimal, length, IfOk, OnOk, IfErr};
+ghost use Rattle.std.specs.Prelude.{◌≡◌, ◌≢◌, ◌≤◌, ◌⊎◌, ◌++◌, ℕ, Some, decimal, length, IfOk, OnOk, IfErr};
 ghost use Rattle.pr_edge.specs.SureShelf.{told_of};
 ghost use Rattle.pr_conf.specs.Shape.{Shape};
 ghost use Rattle.pr_machine.specs.Stands.{Stands, History, account_of};
@@ -144,6 +144,7 @@ fn summary_on(
 fn run_generated(alloc: Global, generation: &Generation) -> Result<Generated, Answer>
     ensures told { IfOk result (λ r. OnBench (λ N P machine. HasGenerated (generation_of generation.now) (λ text. r.text.items ≡ text) machine) r.bench) }
     ensures refused { IfErr result (λ a. IsGenVerdict (generation_of generation.now) a ⊎ (a ≡ Answer.Memory)) }
+    ensures failed { IfErr result (λ a. a ≢ Answer.Ok) }
 {
     let mut shelf = match shelf_of(alloc, generation.turns) {
         Ok(shelf) => shelf,
