@@ -1,5 +1,5 @@
 -- The file that is written of a configuration is read as it, and a run of it writes the same.
-use Rattle.std.proofs.Common.{◌≡◌, ◌≤◌, ◌^◌, ◌∙◌, ℕ, Bool, true, false, ◌&&◌, nat_le, List, [], ◌∷◌, length, map, Option, Some, None, refl, sym, ap, ap₂, subst, arith, inl, inr, true≢false}
+use Rattle.std.proofs.Common.{◌≡◌, ◌≤◌, ◌^◌, ◌∙◌, ℕ, Bool, true, false, ◌&&◌, nat_le, nat_lt, List, [], ◌∷◌, length, map, Option, Some, None, refl, sym, ap, ap₂, subst, arith, inl, inr, true≢false}
 use Rattle.std.specs.List.{list_all}
 use Rattle.pr_code.specs.declared.fabrics.Fabric.{Fabric}
 use Rattle.pr_code.specs.Spelling.{bytes_of_words, words_of, are_widths_within, has_bytes, IsFile}
@@ -67,7 +67,8 @@ weaker p q more (x ∷ xs) e = elim (p x) as (λ b. p x ≡ b → list_all q (x 
 pub within : (N P : ℕ) (c : Shape) → IsLawful N P c → are_widths_within 128 c ≡ true
 within N P c lawful =
     both _ _ (weaker is_lawful_width (λ w. nat_le w 128) (λ w e. second_of_two _ (nat_le w 128) e) c.inputs (second_of_three _ _ _ lawful.inputs))
-    (weaker (is_lawful_output N P) (λ (o : OutputShape). nat_le o.width 128) (λ o e. second_of_two _ (nat_le o.width 128) (first_of_three (is_lawful_width o.width) _ _ e)) c.outputs (third_of_three _ _ _ lawful.outputs))
+    (weaker (is_lawful_output N P) (λ (o : OutputShape). nat_le o.width 128) (λ o e. second_of_two _ (nat_le o.width 128) (first_of_three (is_lawful_width o.width) _ _ e)) c.outputs
+    (third_of_three (nat_lt 0 (length c.outputs)) (nat_le (length c.outputs) 64) (list_all (is_lawful_output N P) c.outputs) lawful.outputs))
 
 -- the file names its fabric
 names_columns : (fabric : Fabric) (c : Shape) → columns_of (bytes_of_words (words_of (columns fabric) (registers fabric) c)) ≡ columns fabric
@@ -82,6 +83,7 @@ names_registers Fabric.Wide c = refl
 
 -- it is read as the configuration
 loadable : (fabric : Fabric) (c : Shape) → IsLawful (columns fabric) (registers fabric) c → has_bytes c ≡ true → IsLoadable (columns fabric) (registers fabric) c (bytes_of_words (words_of (columns fabric) (registers fabric) c))
+unfolding shape_read
 loadable fabric c lawful bytes =
     let N = columns fabric in
     let P = registers fabric in

@@ -1,5 +1,5 @@
 -- From the parts of an evaluation to what it comes to, and the verdict on it.
-use Rattle.std.proofs.Common.{◌≡◌, ◌≢◌, ◌⊎◌, ◌≤◌, ◌<◌, ℕ, List, length, Option, Some, None, refl, sym, ap, ◌∙◌, subst, inl, inr}
+use Rattle.std.proofs.Common.{◌≡◌, ◌⊎◌, ◌≤◌, ◌<◌, ℕ, List, length, Option, Some, None, refl, sym, ap, ◌∙◌, subst, inl, inr}
 use Rattle.pr_base.specs.declared.caps.Cap.{Cap}
 use Rattle.pr_edge.specs.Count.{Rose}
 use Rattle.pr_edge.specs.Files.{Told, HasReadCause}
@@ -22,8 +22,8 @@ use Rattle.pr_tool_answers.proofs.OwedLemmas.{owed_by}
 use Rattle.pr_tool_modes.specs.Calls.{Call}
 use Rattle.pr_tool_modes.specs.Files.{IsText, IsUnread, IsFileRefusal, IsRefusedFile}
 use Rattle.pr_tool_modes.specs.Programs.{inputs_of, front_answer, IsBadProgram, HasProgram, IsLoaded}
-use Rattle.pr_tool_modes.specs.Samples.{fed_in, fed_whole, ended_by, whole_file_verdict}
-use Rattle.pr_tool_modes.specs.Evaluations.{HasSamples, IsWhole, IsPrefix, IsEnd, HasNoResult, HasResult, IsEvaluated, answer_by, AreResults, IsPut, IsLastVerdict, IsEvalVerdict}
+use Rattle.pr_tool_modes.specs.Samples.{fed_in, ended_by, whole_file_verdict}
+use Rattle.pr_tool_modes.specs.Evaluations.{HasSamples, IsWhole, IsEnd, IsEvaluated, answer_by, AreResults, IsPut, IsEvalVerdict}
 use Rattle.pr_tool_modes.proofs.FedLemmas.{short_fed, long_fed}
 use Rattle.pr_tool_modes.proofs.FileLemmas.{cause_earlier, refusal_owed, one_refused, never_refused, refusal_kind}
 use Rattle.pr_tool_modes.proofs.ReasonLemmas.{IsKind, kind_never, kind_fault, program_refuses, one_program, never_program}

@@ -27,7 +27,7 @@ use Rattle.pr_tool_modes.specs.declared.benches.Bench.{Bench}
 use Rattle.pr_tool_modes.specs.declared.loadables.Loadable.{Loadable}
 use Rattle.pr_tool_modes.specs.Calls.{Call}
 use Rattle.pr_tool_modes.specs.Executions.{IsRunOf, HasCome}
-use Rattle.pr_tool_modes.specs.Generations.{Generation, generated, program_file, job_for, summary, Tells, HasGenerated, IsGenVerdict}
+use Rattle.pr_tool_modes.specs.Generations.{Generation, generated, program_file, job_for, summary, Tells, TellsOn, HasGenerated, IsGenVerdict}
 use Rattle.pr_tool_modes.specs.Lines.{HasRunOn, OnBench, IsWholeRun, MeansLines}
 use Rattle.pr_tool_modes.specs.Programs.{IsCounted, IsUncompiled}
 use Rattle.pr_tool_modes.specs.Files.{IsFileRefusal}
@@ -55,6 +55,7 @@ time_is conf p rows some two =
 
 -- the stall text without a file has no turns
 no_turns : (files : List ℕ → Option (List ℕ)) (turns : List Held) → HasStall (Some files) None turns → turns ≡ []
+unfolding turns_of
 no_turns files turns has = has.are ∙ ap (λ (t : List ℕ). map held_of (turns_of t)) has.file
 
 -- what a machine's run on the generated texts tells
@@ -111,7 +112,7 @@ come g k loaded bench a told gives ran =
 
 told_bench : (g : Generation) (k : Call) (bench : Bench) (units : ℕ) (bytes text : List ℕ) → 2 ≤ g.stripes → k.old.bytes ≡ Some [] → k.new.bytes ≡ Some bytes
     → IsWholeRun (MeansLines (generated g.turns) (job_for g)) (generated g.turns) (job_for g) samples_text k bench End → IsCounted (Some (generated g.turns)) program_file g.target.narrowed units
-    → OnBench (λ N P machine. Tells g.turns units bytes text machine) bench → OnBench (λ N P machine. HasGenerated g (λ t. text ≡ t) machine) bench
+    → TellsOn g.turns units bytes text bench → OnBench (λ N P machine. HasGenerated g (λ t. text ≡ t) machine) bench
 told_bench g k Bench.Nothing units bytes text two empty now whole counts tells = absurd whole.ran
 told_bench g k (Bench.Base machine) units bytes text two empty now whole counts tells =
     told_run g k whole.widths machine units bytes text two whole.ran whole.ends (gained_means g k whole.widths _ bytes empty now whole.means) counts tells
@@ -122,7 +123,7 @@ told_bench g k (Bench.Wide machine) units bytes text two empty now whole counts 
 pub told_good : (g : Generation) (k : Call) (loaded : Loadable) (bench : Bench) (units : ℕ) (bytes text : List ℕ) → 2 ≤ g.stripes → k.before.told ≡ Some (generated g.turns) → k.old.bytes ≡ Some [] → k.new.bytes ≡ Some bytes
     → IsOnFabric (Some (generated g.turns)) program_file g.target (columns_in loaded) (registers_in loaded) (shape_in loaded) → IsCounted (Some (generated g.turns)) program_file g.target.narrowed units
     → IsRunOf loaded (job_for g) k Bench.Nothing bench Answer.Ok
-    → OnBench (λ N P machine. Tells g.turns units bytes text machine) bench → OnBench (λ N P machine. HasGenerated g (λ t. text ≡ t) machine) bench
+    → TellsOn g.turns units bytes text bench → OnBench (λ N P machine. HasGenerated g (λ t. text ≡ t) machine) bench
 told_good g k loaded bench units bytes text two told empty now gives counts ran tells =
     told_bench g k bench units bytes text two empty now (program_lines (generated g.turns) (job_for g) program_file g.target k Bench.Nothing bench Answer.Ok refl told (come g k loaded bench Answer.Ok told gives ran)) counts tells
 

@@ -1,13 +1,12 @@
 -- The generated texts as files, and the lines of a text.
-use Rattle.std.proofs.Common.{◌≡◌, ◌≤◌, ◌<◌, ◌==◌, ℕ, zero, suc, Bool, true, false, cond, List, [], ◌∷◌, length, take, drop, min, reverse, get_or, Some, None, unwrap_or, refl, sym, ap, ap₂, ◌∙◌, arith}
+use Rattle.std.proofs.Common.{◌≡◌, ◌≤◌, ◌<◌, ℕ, suc, true, false, cond, List, [], ◌∷◌, length, take, drop, min, get_or, Some, None, unwrap_or, refl, sym, ap, ap₂, ◌∙◌, arith}
 use Rattle.std.specs.Prelude.{nat_eq, string_bytes, String, Vec}
-use Rattle.std.specs.List.{position_or_len, before_first}
 use Rattle.std.specs.Cmp.Lexicographic.{pointwise}
 use Rattle.std.specs.declared.alloc.Global.{Global}
 use Rattle.std.proofs.lemmas.List.Sums.{position_or_len_is}
 use Rattle.pr_edge.specs.Named.{Named, sure_file}
 use Rattle.pr_gen.specs.Texts.{program_text, samples_text}
-use Rattle.pr_tool_modes.specs.Generations.{generated, program_file, samples_file, is_end, first_line, last_line}
+use Rattle.pr_tool_modes.specs.Generations.{generated, program_file, samples_file, is_end, first_line}
 
 -- ---- the files
 -- two files by their names and bytes, as a shelf that never fails tells them

@@ -1,5 +1,5 @@
 -- What follows of what a generated run comes to, and the verdict on it.
-use Rattle.std.proofs.Common.{◌≡◌, ◌⊎◌, ◌≤◌, ◌∙◌, ℕ, Some, None, refl, sym, ap, inl, inr, true≢false}
+use Rattle.std.proofs.Common.{◌≡◌, ◌⊎◌, ◌∙◌, ℕ, false, refl, sym, ap, inl, inr, true≢false}
 use Rattle.pr_edge.specs.Count.{Rose}
 use Rattle.pr_edge.specs.Tape.{Tape}
 use Rattle.pr_run.specs.Turns.{Going}
@@ -44,12 +44,12 @@ one_gen g a b is by = one_run (generated g.turns) (job_for g) a b is by
 
 -- ---- nothing was put
 pub gen_none : (g : Generation) (old : Tape) (ob on : ℕ) (was : Bench) (a : Answer) → (a ≡ Answer.Ok → ⊥) → IsGenVerdict g a ⊎ (a ≡ Answer.Memory) → IsGenerated g old old ob on was was a
-gen_none g old ob on was Answer.Ok no h = absurd (no refl)
-gen_none g old ob on was Answer.WriteFault no (inl is) = absurd (gen_never g Answer.WriteFault Answer.WriteFault is refl refl not_write)
-gen_none g old ob on was Answer.WriteFault no (inr memory) = absurd (cc)
-gen_none g old ob on was Answer.Memory no h = record { unwritten = refl; kept = refl }
-gen_none g old ob on was a no (inl is) = (is, record { unwritten = refl; kept = refl })
-gen_none g old ob on was a no (inr memory) = absurd (cc)
+gen_none g old ob on was Answer.Ok bad h = absurd (bad refl)
+gen_none g old ob on was Answer.WriteFault bad (inl is) = absurd (gen_never g Answer.WriteFault Answer.WriteFault is refl refl not_write)
+gen_none g old ob on was Answer.WriteFault bad (inr memory) = absurd (cc)
+gen_none g old ob on was Answer.Memory bad h = record { unwritten = refl; kept = refl }
+gen_none g old ob on was a bad (inl is) = (is, record { unwritten = refl; kept = refl })
+gen_none g old ob on was a bad (inr memory) = absurd (cc)
 
 -- ---- single answers
 pub gen_owed : (g : Generation) (old new : Tape) (sb sn ob on : ℕ) (was bench : Bench) (a : Answer) → IsGenerated g old new ob on was bench a → IsOwed (IsGenVerdict g) sb sn ob on a

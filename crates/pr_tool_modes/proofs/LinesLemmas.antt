@@ -1,5 +1,5 @@
 -- From what a call came to, to the lines that it has written.
-use Rattle.std.proofs.Common.{◌≡◌, ◌≢◌, ◌⊎◌, ◌≤◌, ◌<◌, ◌^◌, ℕ, Bool, true, false, not, List, All, [], ◌++◌, length, take, drop, Option, Some, None, unwrap_or, refl, sym, ap, subst, ◌∙◌, arith, inl, inr, true≢false}
+use Rattle.std.proofs.Common.{◌≡◌, ◌⊎◌, ◌≤◌, ◌<◌, ◌^◌, ℕ, Bool, true, false, not, List, All, [], ◌++◌, length, take, drop, Option, Some, None, unwrap_or, refl, sym, ap, subst, ◌∙◌, arith, inl, inr, true≢false}
 use Rattle.std.specs.Bool.{MatchBool}
 use Rattle.std.proofs.lemmas.List.{take-append-drop}
 use Rattle.std.proofs.lemmas.List.Elements.{All-take}
@@ -17,9 +17,8 @@ use Rattle.pr_samples.specs.Feed.{Tells}
 use Rattle.pr_lang_meaning.specs.Programs.{out}
 use Rattle.pr_lang_meaning.proofs.EvenPrograms.{take-out}
 use Rattle.pr_machine.specs.Stands.{Stands, History}
-use Rattle.pr_run_script.specs.Script.{Held, most_cycles}
+use Rattle.pr_run_script.specs.Script.{most_cycles}
 use Rattle.pr_run_script.specs.Counts.{cycles_in}
-use Rattle.pr_run.specs.Setting.{View}
 use Rattle.pr_run.specs.Turns.{Going}
 use Rattle.pr_run.proofs.Lines.{front_longer, nothing_appended}
 use Rattle.pr_code.specs.declared.fabrics.Fabric.{Fabric}
@@ -31,17 +30,17 @@ use Rattle.pr_tool_modes.specs.Evaluations as evaluations
 use Rattle.pr_tool_modes.specs.Evaluations.{HasNoResult, HasResult, IsEvaluated}
 use Rattle.pr_tool_modes.specs.Executions.{HasRan, HasNoRun, HasCome}
 use Rattle.pr_tool_modes.specs.Files.{IsText}
-use Rattle.pr_tool_modes.specs.Jobs.{Job, first_of, IsNeither}
+use Rattle.pr_tool_modes.specs.Jobs.{Job, first_of}
 use Rattle.pr_tool_modes.specs.Lines.{ByAnswer, HasAllLines, HasFirstLines, AreEvalLines, HasRunOn, HasBegunOn, OnBench, IsWholeRun, IsReadRun, IsCutRun, IsNoRun, IsUnreadRun, samples_file, AreRunLines, MeansLines, AreProgramLines, NoMore, AreConfigurationLines}
 use Rattle.pr_tool_modes.specs.Programs.{inputs_of, HasProgram}
-use Rattle.pr_tool_modes.specs.Runs.{Course, course, events_on, ends_well, HasAll, IsWhole, IsBroken, IsStopped, IsEnd}
-use Rattle.pr_tool_modes.specs.Samples.{fed_in, fed_at_most, fed_to, fed_whole, pieces}
+use Rattle.pr_tool_modes.specs.Runs.{Course, course, ends_well, HasAll, IsWhole, IsBroken, IsStopped, IsEnd}
+use Rattle.pr_tool_modes.specs.Samples.{fed_in, fed_at_most, fed_whole, pieces}
 use Rattle.pr_tool_modes.specs.Sources.{Source, Text, name_in, most_in, Gives, columns, registers}
 use Rattle.pr_tool_modes.specs.Stalls.{HasStall}
 use Rattle.pr_tool_modes.proofs.CompileLaws.{is_meant}
 use Rattle.pr_tool_modes.proofs.EvalVerdicts.{program_kind}
 use Rattle.pr_tool_modes.proofs.FedLemmas.{fed_rows, fed_limit, short_fed, long_fed}
-use Rattle.pr_tool_modes.proofs.ReasonLemmas.{is_of_samples, refuses, IsKind, kind_fault}
+use Rattle.pr_tool_modes.proofs.ReasonLemmas.{is_of_samples, refuses, IsKind}
 use Rattle.pr_tool_modes.proofs.RunVerdicts.{refusal_is}
 use Rattle.pr_tool_modes.proofs.SourceLemmas.{of_fabric}
 

@@ -1,5 +1,5 @@
 -- Why texts are refused: one reason at most, none for a text from which something came, and never as samples are.
-use Rattle.std.proofs.Common.{◌≡◌, ◌⊎◌, ◌≤◌, ◌∙◌, ℕ, Bool, true, false, cond, not, List, length, nat_lt, Option, Some, None, refl, sym, ap, subst, inl, inr, true≢false}
+use Rattle.std.proofs.Common.{◌≡◌, ◌⊎◌, ◌∙◌, ℕ, Bool, true, false, cond, not, List, Option, Some, None, refl, sym, ap, subst, inl, inr, true≢false}
 use Rattle.pr_base.specs.declared.caps.Cap.{Cap}
 use Rattle.pr_code.specs.Rules.{Broken}
 use Rattle.pr_lang.specs.declared.trees.Program.{Program}

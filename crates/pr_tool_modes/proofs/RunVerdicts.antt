@@ -21,12 +21,12 @@ use Rattle.pr_tool_modes.specs.declared.jobs.Source.{Source as NamedSource}
 use Rattle.pr_tool_modes.specs.declared.jobs.Source.TheVariants as named
 use Rattle.pr_tool_modes.specs.declared.loadables.Loadable.{Loadable}
 use Rattle.pr_tool_modes.specs.Calls.{Call, call}
-use Rattle.pr_tool_modes.specs.Executions.{HasRun, HasRan, IsRunOf, IsExecuted, IsRunRefusal, HasNoRun, HasCome, IsLastVerdict, IsRunVerdict}
+use Rattle.pr_tool_modes.specs.Executions.{HasRun, HasRan, IsRunOf, IsRunRefusal, HasCome, IsRunVerdict}
 use Rattle.pr_tool_modes.specs.Files.{IsUnread}
 use Rattle.pr_tool_modes.specs.Jobs.{Job, source_of, first_of, IsNoStall, IsNeither}
 use Rattle.pr_tool_modes.specs.Runs.{Course, course, HasAll, IsEnd}
 use Rattle.pr_tool_modes.specs.Samples.{ended_by, samples_verdict}
-use Rattle.pr_tool_modes.specs.Sources.{Source, count_in, most_in, columns_in, registers_in, shape_in, Gives, IsGood, IsSourceRefusal, IsRefusedSource}
+use Rattle.pr_tool_modes.specs.Sources.{count_in, most_in, columns_in, registers_in, shape_in, Gives, IsGood, IsSourceRefusal, IsRefusedSource}
 use Rattle.pr_tool_modes.specs.Stalls.{HasStall, HasBadStall, IsStallRefusal, after_text, after_stall, bad_or, first_bad}
 use Rattle.pr_tool_modes.proofs.FileLemmas.{rose_earlier, unread_earlier}
 use Rattle.pr_tool_modes.proofs.ReasonLemmas.{refuses, IsKind, kind_never, kind_fault}

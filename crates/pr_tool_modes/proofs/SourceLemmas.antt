@@ -1,5 +1,5 @@
 -- What comes of the file of a source, and the verdict on it.
-use Rattle.std.proofs.Common.{◌≡◌, ◌⊎◌, ◌≤◌, ◌∙◌, ℕ, List, length, Option, Some, None, refl, sym, ap, subst, inl, inr}
+use Rattle.std.proofs.Common.{◌≡◌, ◌⊎◌, ◌≤◌, ◌∙◌, ℕ, List, length, Option, Some, refl, sym, ap, subst, inl, inr}
 use Rattle.pr_base.specs.declared.caps.Cap.{Cap}
 use Rattle.pr_code.specs.Marks.{count_read, shape_marked}
 use Rattle.pr_conf.specs.Shape.{Shape}
@@ -8,8 +8,8 @@ use Rattle.pr_edge.specs.Files.{Told, HasReadCause}
 use Rattle.pr_tool_answers.specs.declared.answers.Answer.{Answer}
 use Rattle.pr_tool_answers.specs.Owed.{IsOwed}
 use Rattle.pr_tool_modes.specs.declared.targets.Target.{Target}
-use Rattle.pr_tool_modes.specs.Files.{IsText, HasRefused, IsUnread, IsFileRefusal}
-use Rattle.pr_tool_modes.specs.Configurations.{HasConfiguration, IsBadConfiguration, broken_in, columns_of, configuration_in}
+use Rattle.pr_tool_modes.specs.Files.{IsText, IsFileRefusal}
+use Rattle.pr_tool_modes.specs.Configurations.{IsBadConfiguration, broken_in, columns_of, configuration_in}
 use Rattle.pr_tool_modes.specs.Checkpoints.{IsBadMark, file_in, broken_mark}
 use Rattle.pr_tool_modes.specs.Programs.{HasCompiled, IsUncompiled}
 use Rattle.pr_tool_modes.specs.Sources.{Source, File, Text, Mark, name_in, columns, registers, CompilesTo, IsOnFabric, Gives, IsSourceRefusal, IsRefusedSource}

@@ -5,7 +5,7 @@ use Rattle.pr_conf.specs.Shape.{Shape}
 use Rattle.pr_tool_modes.specs.declared.targets.Target.{Target}
 use Rattle.pr_tool_modes.specs.declared.texts.Form.{Form}
 use Rattle.pr_tool_modes.specs.Jobs.{Job}
-use Rattle.pr_tool_modes.specs.Sources.{Source, File, Text, Gives}
+use Rattle.pr_tool_modes.specs.Sources.{Source, Text, Gives}
 use Rattle.pr_tool_modes.specs.Texts.{text_in}
 
 -- the same job, with the configuration of another source

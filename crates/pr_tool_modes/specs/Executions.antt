@@ -11,7 +11,7 @@ use Rattle.pr_tool_answers.specs.declared.answers.Answer.{Answer}
 use Rattle.pr_tool_modes.specs.declared.benches.Bench.{Bench}
 use Rattle.pr_tool_modes.specs.Calls.{Call}
 use Rattle.pr_tool_modes.specs.declared.loadables.Loadable.{Loadable}
-use Rattle.pr_tool_modes.specs.Jobs.{Job, first_of, IsNoStall, IsNeither}
+use Rattle.pr_tool_modes.specs.Jobs.{Job, IsNoStall, IsNeither}
 use Rattle.pr_tool_modes.specs.Runs.{course, IsRun}
 use Rattle.pr_tool_modes.specs.Samples.{samples_verdict}
 use Rattle.pr_tool_modes.specs.Sources.{most_in, Gives, IsGood, IsSourceRefusal, IsRefusedSource}

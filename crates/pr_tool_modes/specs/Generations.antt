@@ -82,6 +82,12 @@ Tells turns units lines text machine =
     (conf : Shape) (stripes : ℕ) (history : History) → Stands machine conf stripes history
     → text ≡ summary turns units (length conf.stages) (account_of conf stripes history).time lines
 
+-- it tells this of the machine on a bench
+abbrev pub TellsOn : ℕ → ℕ → List ℕ → List ℕ → Bench → Type 0
+TellsOn turns units lines text Bench.Nothing = text ≡ []
+TellsOn turns units lines text (Bench.Base machine) = Tells turns units lines text machine
+TellsOn turns units lines text (Bench.Wide machine) = Tells turns units lines text machine
+
 -- no point refuses the program, its samples are all good, the machine was asked all events of the run on them, and the summary
 -- of the run is put: its units are those of the program's net, its cycles those that drain the samples, and its lines those of what
 -- the program means

@@ -1,6 +1,5 @@
 -- Programs that are read from files, and why their texts are refused.
-use Rattle.std.specs.Prelude.{◌≡◌, ◌≤◌, ◌⊎◌, ℕ, Bool, List, length, Option, Some}
-use Rattle.pr_base.specs.declared.caps.Cap.{Cap}
+use Rattle.std.specs.Prelude.{◌≡◌, ◌≤◌, ℕ, Bool, List, length}
 use Rattle.pr_edge.specs.Files.{Told}
 use Rattle.pr_lang.specs.declared.trees.Program.{Program}
 use Rattle.pr_conf.specs.Shape.{Shape}

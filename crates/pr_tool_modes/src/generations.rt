@@ -5,7 +5,7 @@ ghost use Rattle.pr_conf.specs.Shape.{Shape};
 ghost use Rattle.pr_machine.specs.Stands.{Stands, History, account_of};
 ghost use Rattle.pr_tool_modes.specs.Jobs.{job_of as job_in};
 ghost use Rattle.pr_tool_modes.specs.Lines.{OnBench};
-ghost use Rattle.pr_tool_modes.specs.Generations.{generation_of, job_for, generated, first_line, last_line, Tells, HasGenerated, IsGenVerdict, IsGenerated};
+ghost use Rattle.pr_tool_modes.specs.Generations.{generation_of, job_for, generated, first_line, last_line, Tells, TellsOn, HasGenerated, IsGenVerdict, IsGenerated};
 
 use crate::benches::Bench;
 use crate::executions::run_loaded;
@@ -131,7 +131,7 @@ fn summary_on(
     bench: &Bench,
     lines: &[u8],
 ) -> Result<Vec<u8>, AllocError>
-    ensures { IfOk result (λ v. OnBench (λ N P machine. Tells turns units lines.now v.items machine) bench.now) }
+    ensures { IfOk result (λ v. TellsOn turns units lines.now v.items bench.now) }
 {
     match bench {
         Bench::Nothing => Ok(Vec::new(alloc)),

@@ -8,8 +8,8 @@ use Rattle.pr_tool_modes.specs.Evaluations.{HasLines}
 use Rattle.pr_tool_modes.proofs.EvalVerdicts.{file_end, put_end, evaluated}
 use Rattle.pr_tool_modes.proofs.evaluations.eval.Goals as goal
 
-pub returns-in-Err-results_of-clause-ended : goal.returns-in-Err-results_of-clause-ended
-returns-in-Err-results_of-clause-ended g c =
+pub returns-clause-ended : goal.returns-clause-ended
+returns-clause-ended g c =
     let k = call (view (g.S.Shelf.told c.args.shelf.now) (g.S.Shelf.reach c.args.shelf.now) (g.S.Shelf.faults c.args.shelf.now)) (view (g.S.Shelf.told c.results_of.new.shelf) (g.S.Shelf.reach c.results_of.new.shelf) (g.S.Shelf.faults c.results_of.new.shelf)) (g.K.Sink.told c.args.out.now) (g.K.Sink.told c.args.out.now) (g.K.Sink.faults c.args.out.now) (g.K.Sink.faults c.args.out.now) in
     let refused = subst (λ (t : Told). IsUnread 16777216 Cap.SampleBytes t c.args.samples.now (g.S.Shelf.faults c.load_program.new.shelf) (g.S.Shelf.faults c.results_of.new.shelf) c.in-Err-results_of.answer) c.load_program.ensures.same c.in-Err-results_of.ensures.refused in
     evaluated c.args.program.now c.args.samples.now c.in-Ok.front k c.in-Err-results_of.answer c.in-Ok.ensures.loaded
@@ -19,6 +19,6 @@ pub returns-in-Ok-results_of-clause-ended : goal.returns-in-Ok-results_of-clause
 returns-in-Ok-results_of-clause-ended g c =
     let k = call (view (g.S.Shelf.told c.args.shelf.now) (g.S.Shelf.reach c.args.shelf.now) (g.S.Shelf.faults c.args.shelf.now)) (view (g.S.Shelf.told c.results_of.new.shelf) (g.S.Shelf.reach c.results_of.new.shelf) (g.S.Shelf.faults c.results_of.new.shelf)) (g.K.Sink.told c.args.out.now) (g.K.Sink.told c.put_results.new.out) (g.K.Sink.faults c.args.out.now) (g.K.Sink.faults c.put_results.new.out) in
     let program = c.in-Ok.front.scoped.program in
-    let lines = subst (λ (t : Told). HasLines t c.args.samples.now program _ _) c.load_program.ensures.same c.in-Ok-results_of.ensures.results in
+    let lines = subst (λ (t : Told). HasLines t c.args.samples.now program c.in-Ok-results_of.results.text.items c.in-Ok-results_of.results.end) c.load_program.ensures.same c.in-Ok-results_of.ensures.results in
     evaluated c.args.program.now c.args.samples.now c.in-Ok.front k c.put_results.result c.in-Ok.ensures.loaded
-    (put_end c.args.samples.now program lines.bytes _ _ k c.put_results.result lines.file lines.short lines.results c.put_results.ensures.put)
+    (put_end c.args.samples.now program lines.bytes c.in-Ok-results_of.results.text.items c.in-Ok-results_of.results.end k c.put_results.result lines.file lines.short lines.results c.put_results.ensures.put)

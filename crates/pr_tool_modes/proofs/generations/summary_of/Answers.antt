@@ -1,11 +1,11 @@
-use Rattle.std.proofs.Common.{ap, ap₂, sym, ◌∙◌, ◌++◌, ◌∷◌, [], List, ℕ, codes, decimal}
-use Rattle.pr_tool_modes.specs.Generations.{summary, first_line, last_line}
+use Rattle.std.proofs.Common.{ap, ap₂, ◌∙◌, ◌++◌, ◌∷◌, [], List, ℕ, codes, decimal}
+use Rattle.pr_tool_modes.specs.Generations.{summary}
 use Rattle.pr_tool_modes.proofs.GenLemmas.{stages_are}
 use Rattle.pr_tool_modes.proofs.generations.summary_of.Goals as goal
 
 pub returns : goal.returns
 unfolding summary
-returns c = λ conf stripes history stands.
+returns g c = λ conf stripes history stands.
     (let stages = c.stages.ensures ∙ stages_are c.conf.result.now conf (c.conf.ensures.told conf stripes history stands) in
     let time = c.time.ensures.told conf stripes history stands in
     let p1 = c.in_ok-put.ensures ∙ ap₂ (λ (t : List ℕ) (n : ℕ). t ++ (codes "k " ++ decimal n)) c.new-text.ensures.items c.from.ensures in
