@@ -1,5 +1,5 @@
 -- What follows of what a call comes to.
-use Rattle.std.proofs.Common.{◌≡◌, ◌⊎◌, ℕ, List, [], Option, Some, None, unwrap_or, refl, sym, ap, ◌∙◌, subst, inl, inr}
+use Rattle.std.proofs.Common.{◌≡◌, ◌⊎◌, ℕ, List, Option, Some, None, refl, sym, ◌∙◌, subst, inl, inr}
 use Rattle.pr_edge.specs.Count.{Rose}
 use Rattle.pr_tool_words.specs.Lawful.{Order}
 use Rattle.pr_tool_answers.specs.declared.answers.Answer.{Answer}

@@ -1,5 +1,5 @@
 -- What a call of the tool comes to, by its plan.
-use Rattle.std.specs.Prelude.{◌≡◌, ◌≢◌, ◌⊎◌, ℕ, List, [], Option, Some, None, unwrap_or}
+use Rattle.std.specs.Prelude.{◌≡◌, ◌⊎◌, ℕ, List, [], Option, Some, None, unwrap_or}
 use Rattle.pr_edge.specs.Files.{Told}
 use Rattle.pr_tool_answers.specs.declared.answers.Answer.{Answer}
 use Rattle.pr_tool_modes.specs.declared.benches.Bench.{Bench}

@@ -1,8 +1,8 @@
 -- What the words of a command line ask for, which files are read for it, and its limits.
-use Rattle.std.specs.Prelude.{◌≡◌, ◌≢◌, ℕ, List, Option, Some, None, map, string_bytes, String, ⊤}
+use Rattle.std.specs.Prelude.{◌≢◌, ℕ, List, Option, Some, None, map, string_bytes, String, ⊤}
 use Rattle.std.specs.declared.alloc.Global.{Global}
 use Rattle.pr_tool_words.specs.Lawful.{Order, Task, Eval, lawful_words}
-use Rattle.pr_tool_modes.specs.Jobs.{first_of, IsNeither}
+use Rattle.pr_tool_modes.specs.Jobs.{IsNeither}
 use Rattle.pr_tool_modes.specs.Resumptions.{IsNoFile}
 use Rattle.pr_tool_modes.specs.Sources.{name_in, columns}
 use Rattle.pr_tool.specs.declared.notes.Bounds.{Bounds}
