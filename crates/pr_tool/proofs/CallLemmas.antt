@@ -11,13 +11,15 @@ use Rattle.pr_tool_modes.specs.Calls.{Call}
 use Rattle.pr_tool_modes.specs.Executions.{HasCome}
 use Rattle.pr_tool_modes.specs.Jobs.{Job}
 use Rattle.pr_tool_modes.specs.Lines.{AreProgramLines}
-use Rattle.pr_tool_modes.specs.Sources.{Source, File, Text}
+use Rattle.pr_tool_modes.specs.Sources.{Source, File, Text, Mark}
 use Rattle.pr_tool_modes.proofs.TextVerdicts.{text_owed, one_text, text_fault, text_memory, text_write, text_usage, text_bytes}
 use Rattle.pr_tool_modes.proofs.EvalVerdicts.{eval_owed, one_eval, eval_fault, eval_memory, eval_write, eval_usage}
 use Rattle.pr_tool_modes.proofs.RunVerdicts.{run_owed, one_run, run_fault, run_memory, run_write, run_usage}
 use Rattle.pr_tool_modes.proofs.GenVerdicts.{gen_owed, one_gen, gen_fault, gen_memory, gen_write, gen_usage}
+use Rattle.pr_tool_modes.proofs.FoldVerdicts.{fold_owed, fold_fault, fold_write, fold_memory, fold_usage, fold_bytes, extend_owed, extend_fault, extend_write, extend_memory, extend_usage, extend_bytes}
+use Rattle.pr_tool_modes.proofs.MoveVerdicts.{move_owed, one_move, move_fault, move_write, move_memory, move_usage, move_lines}
 use Rattle.pr_tool_modes.proofs.LinesLemmas.{eval_lines, configuration_lines, program_lines}
-use Rattle.pr_tool.specs.Plans.{Plan, Texts, Runs, Evaluates, Generates, Nothing, plan_of}
+use Rattle.pr_tool.specs.Plans.{Plan, Texts, Runs, Folds, Moves, Extends, Evaluates, Generates, Nothing, plan_of}
 use Rattle.pr_tool.specs.Words.{Asked}
 use Rattle.pr_tool.specs.Calls.{IsUnchanged, IsDone, IsCalled, AreLines, HasGained, IsPlanVerdict, IsVerdict, IsToldVerdict}
 
@@ -26,6 +28,9 @@ done_owed : (files : List ℕ → Option (List ℕ)) (plan : Plan) (k : Call) (w
     → IsOwed (IsPlanVerdict files plan) k.before.faults k.now.faults k.out_before k.out_now a
 done_owed files (Texts form source) k was bench a told done = text_owed files form source k a told done.0
 done_owed files (Runs j) k was bench a told done = run_owed files j k was bench a told done
+done_owed files (Folds j) k was bench a told done = fold_owed files j k a told done.0
+done_owed files (Moves r) k was bench a told done = move_owed files r k was bench a told done
+done_owed files (Extends r) k was bench a told done = extend_owed files r k a told done.0
 done_owed files (Evaluates first second) k was bench a told done = eval_owed files first second k a told done.0
 done_owed files (Generates g) k was bench a told done = gen_owed g k.old k.new k.before.faults k.now.faults k.out_before k.out_now was bench a done
 done_owed files Nothing k was bench a told done = inl done.0
@@ -33,6 +38,9 @@ done_owed files Nothing k was bench a told done = inl done.0
 done_fault : (plan : Plan) (k : Call) (was bench : Bench) (a : Answer) → IsDone plan k was bench a → a ≡ Answer.ReadFault → k.before.told ≡ None → Rose k.before.faults k.now.faults
 done_fault (Texts form source) k was bench a done is untold = text_fault form source k a done.0 is untold
 done_fault (Runs j) k was bench a done is untold = run_fault j k was bench a done is untold
+done_fault (Folds j) k was bench a done is untold = fold_fault j k a done.0 is untold
+done_fault (Moves r) k was bench a done is untold = move_fault r k was bench a done is untold
+done_fault (Extends r) k was bench a done is untold = extend_fault r k a done.0 is untold
 done_fault (Evaluates first second) k was bench a done is untold = eval_fault first second k a done.0 is untold
 done_fault (Generates g) k was bench a done is untold = absurd (gen_fault g k.old k.new k.out_before k.out_now was bench a done is)
 done_fault Nothing k was bench a done is untold = absurd (let no : Answer.ReadFault ≡ Answer.NotYet = sym is ∙ done.0 in cc)
@@ -40,6 +48,9 @@ done_fault Nothing k was bench a done is untold = absurd (let no : Answer.ReadFa
 done_write : (plan : Plan) (k : Call) (was bench : Bench) (a : Answer) → IsDone plan k was bench a → a ≡ Answer.WriteFault → Rose k.out_before k.out_now
 done_write (Texts form source) k was bench a done is = text_write form source k a done.0 is
 done_write (Runs j) k was bench a done is = run_write j k was bench a done is
+done_write (Folds j) k was bench a done is = fold_write j k a done.0 is
+done_write (Moves r) k was bench a done is = move_write r k was bench a done is
+done_write (Extends r) k was bench a done is = extend_write r k a done.0 is
 done_write (Evaluates first second) k was bench a done is = eval_write first second k a done.0 is
 done_write (Generates g) k was bench a done is = gen_write g k.old k.new k.out_before k.out_now was bench a done is
 done_write Nothing k was bench a done is = absurd (let no : Answer.WriteFault ≡ Answer.NotYet = sym is ∙ done.0 in cc)
@@ -47,6 +58,9 @@ done_write Nothing k was bench a done is = absurd (let no : Answer.WriteFault �
 done_memory : (plan : Plan) (k : Call) (was bench : Bench) (a : Answer) → IsDone plan k was bench a → a ≡ Answer.Memory → (k.new ≡ k.old) × (bench ≡ was)
 done_memory (Texts form source) k was bench a done is = (text_memory form source k a done.0 is, done.1)
 done_memory (Runs j) k was bench a done is = run_memory j k was bench a done is
+done_memory (Folds j) k was bench a done is = (fold_memory j k a done.0 is, done.1)
+done_memory (Moves r) k was bench a done is = move_memory r k was bench a done is
+done_memory (Extends r) k was bench a done is = (extend_memory r k a done.0 is, done.1)
 done_memory (Evaluates first second) k was bench a done is = (eval_memory first second k a done.0 is, done.1)
 done_memory (Generates g) k was bench a done is = gen_memory g k.old k.new k.out_before k.out_now was bench a done is
 done_memory Nothing k was bench a done is = (done.1.unwritten, done.1.kept)
@@ -54,6 +68,9 @@ done_memory Nothing k was bench a done is = (done.1.unwritten, done.1.kept)
 done_usage : (plan : Plan) (k : Call) (was bench : Bench) (a : Answer) → IsDone plan k was bench a → a ≡ Answer.Usage → ⊥
 done_usage (Texts form source) k was bench a done is = text_usage form source k a done.0 is
 done_usage (Runs j) k was bench a done is = run_usage j k was bench a done is
+done_usage (Folds j) k was bench a done is = fold_usage j k a done.0 is
+done_usage (Moves r) k was bench a done is = move_usage r k was bench a done is
+done_usage (Extends r) k was bench a done is = extend_usage r k a done.0 is
 done_usage (Evaluates first second) k was bench a done is = eval_usage first second k a done.0 is
 done_usage (Generates g) k was bench a done is = gen_usage g k.old k.new k.out_before k.out_now was bench a done is
 done_usage Nothing k was bench a done is = (let no : Answer.Usage ≡ Answer.NotYet = sym is ∙ done.0 in cc)
@@ -61,22 +78,30 @@ done_usage Nothing k was bench a done is = (let no : Answer.Usage ≡ Answer.Not
 -- memory wanted before anything was done
 memory_lines : (files : List ℕ → Option (List ℕ)) (j : Job) (source : Source) (k : Call) (was bench : Bench) → IsUnchanged k was bench → AreLines files j source k was bench Answer.Memory
 memory_lines files j (File name) k was bench same = record { unwritten = same.unwritten; kept = same.kept }
+memory_lines files j (Mark name count) k was bench same = record { unwritten = same.unwritten; kept = same.kept }
 memory_lines files j (Text name target) k was bench same = record { unwritten = same.unwritten; kept = same.kept }
 
 memory_gained : (files : List ℕ → Option (List ℕ)) (plan : Plan) (k : Call) (was bench : Bench) → IsUnchanged k was bench → HasGained files plan k was bench Answer.Memory
 memory_gained files (Texts form source) k was bench same = (same.unwritten, same.kept)
 memory_gained files (Runs j) k was bench same = memory_lines files j j.source k was bench same
+memory_gained files (Folds j) k was bench same = (same.unwritten, same.kept)
+memory_gained files (Moves r) k was bench same = (0, record { unwritten = same.unwritten; kept = same.kept })
+memory_gained files (Extends r) k was bench same = ((0, same.unwritten), same.kept)
 memory_gained files (Evaluates first second) k was bench same = (same.unwritten, same.kept)
 memory_gained files (Generates g) k was bench same = record { unwritten = same.unwritten; kept = same.kept }
 memory_gained files Nothing k was bench same = same
 
 source_lines : (files : List ℕ → Option (List ℕ)) (j : Job) (source : Source) (k : Call) (was bench : Bench) (a : Answer) → j.source ≡ source → k.before.told ≡ Some files → HasCome j k was bench a → AreLines files j source k was bench a
 source_lines files j (File name) k was bench a is told done = configuration_lines files j k was bench a told done
+source_lines files j (Mark name count) k was bench a is told done = configuration_lines files j k was bench a told done
 source_lines files j (Text name target) k was bench a is told done = program_lines files j name target k was bench a is told done
 
 done_gained : (files : List ℕ → Option (List ℕ)) (plan : Plan) (k : Call) (was bench : Bench) (a : Answer) → k.before.told ≡ Some files → IsDone plan k was bench a → HasGained files plan k was bench a
 done_gained files (Texts form source) k was bench a told done = (text_bytes files form source k a told done.0, done.1)
 done_gained files (Runs j) k was bench a told done = source_lines files j j.source k was bench a refl told done
+done_gained files (Folds j) k was bench a told done = (fold_bytes files j k a told done.0, done.1)
+done_gained files (Moves r) k was bench a told done = move_lines files r k was bench a told done
+done_gained files (Extends r) k was bench a told done = (extend_bytes files r k a told done.0, done.1)
 done_gained files (Evaluates first second) k was bench a told done = (eval_lines files first second k a told done.0, done.1)
 done_gained files (Generates g) k was bench a told done = done
 done_gained files Nothing k was bench a told done = done.1
@@ -144,6 +169,9 @@ called_usage (Some order) k was bench a (inr done) e = absurd (done_usage (plan_
 one_plan : (files : List ℕ → Option (List ℕ)) (plan : Plan) (a b : Answer) → IsPlanVerdict files plan a → IsPlanVerdict files plan b → a ≡ b
 one_plan files (Texts form source) a b is by = one_text files source a b is by
 one_plan files (Runs j) a b is by = one_run files j a b is by
+one_plan files (Folds j) a b is by = one_run files j a b is by
+one_plan files (Moves r) a b is by = one_move files r a b is by
+one_plan files (Extends r) a b is by = one_move files r a b is by
 one_plan files (Evaluates first second) a b is by = one_eval files first second a b is by
 one_plan files (Generates g) a b is by = one_gen g a b is by
 one_plan files Nothing a b is by = is ∙ sym by

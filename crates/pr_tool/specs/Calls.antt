@@ -6,12 +6,14 @@ use Rattle.pr_tool_modes.specs.declared.benches.Bench.{Bench}
 use Rattle.pr_tool_modes.specs.Calls.{Call}
 use Rattle.pr_tool_modes.specs.Evaluations.{IsEvaluated, IsEvalVerdict}
 use Rattle.pr_tool_modes.specs.Executions.{HasCome, IsRunVerdict}
+use Rattle.pr_tool_modes.specs.Folds.{IsFolded, HasExtended, AreMarkBytes, AreExtendedBytes}
 use Rattle.pr_tool_modes.specs.Generations.{IsGenerated, IsGenVerdict}
 use Rattle.pr_tool_modes.specs.Jobs.{Job}
 use Rattle.pr_tool_modes.specs.Lines.{AreEvalLines, AreProgramLines, AreConfigurationLines}
-use Rattle.pr_tool_modes.specs.Sources.{Source, File, Text}
+use Rattle.pr_tool_modes.specs.Resumptions.{HasMoved, AreMovedLines, IsMoveVerdict}
+use Rattle.pr_tool_modes.specs.Sources.{Source, File, Text, Mark}
 use Rattle.pr_tool_modes.specs.Texts.{IsTexted, AreTextBytes, IsTextVerdict}
-use Rattle.pr_tool.specs.Plans.{Plan, Texts, Runs, Evaluates, Generates, Nothing, plan_of}
+use Rattle.pr_tool.specs.Plans.{Plan, Texts, Runs, Folds, Moves, Extends, Evaluates, Generates, Nothing, plan_of}
 use Rattle.pr_tool.specs.Words.{Asked}
 
 -- nothing is written, and the bench is as it was
@@ -23,6 +25,9 @@ pub record IsUnchanged (k : Call) (was bench : Bench) : Type 0 where
 abbrev pub IsDone : Plan → Call → Bench → Bench → Answer → Type 0
 IsDone (Texts form source) k was bench answer = IsTexted form source k answer × (bench ≡ was)
 IsDone (Runs j) k was bench answer = HasCome j k was bench answer
+IsDone (Folds j) k was bench answer = IsFolded j k answer × (bench ≡ was)
+IsDone (Moves r) k was bench answer = HasMoved r k was bench answer
+IsDone (Extends r) k was bench answer = HasExtended r k answer × (bench ≡ was)
 IsDone (Evaluates first second) k was bench answer = IsEvaluated first second k answer × (bench ≡ was)
 IsDone (Generates g) k was bench answer = IsGenerated g k.old k.new k.out_before k.out_now was bench answer
 IsDone Nothing k was bench answer = (answer ≡ Answer.NotYet) × IsUnchanged k was bench
@@ -36,12 +41,16 @@ IsCalled (Some order) k was bench answer = ((answer ≡ Answer.Memory) × IsUnch
 -- the lines of a run, by where its configuration comes from
 abbrev pub AreLines : (List ℕ → Option (List ℕ)) → Job → Source → Call → Bench → Bench → Answer → Type 0
 AreLines files j (File name) k was bench answer = AreConfigurationLines files j k was bench answer
+AreLines files j (Mark name count) k was bench answer = AreConfigurationLines files j k was bench answer
 AreLines files j (Text name target) k was bench answer = AreProgramLines files j k was bench answer
 
 -- what is written for a plan over told files, and what is on the bench
 abbrev pub HasGained : (List ℕ → Option (List ℕ)) → Plan → Call → Bench → Bench → Answer → Type 0
 HasGained files (Texts form source) k was bench answer = AreTextBytes files form source k answer × (bench ≡ was)
 HasGained files (Runs j) k was bench answer = AreLines files j j.source k was bench answer
+HasGained files (Folds j) k was bench answer = AreMarkBytes files j k answer × (bench ≡ was)
+HasGained files (Moves r) k was bench answer = AreMovedLines files r k was bench answer
+HasGained files (Extends r) k was bench answer = AreExtendedBytes files r k answer × (bench ≡ was)
 HasGained files (Evaluates first second) k was bench answer = AreEvalLines files first (unwrap_or (files second) []) k.old k.new answer × (bench ≡ was)
 HasGained files (Generates g) k was bench answer = IsGenerated g k.old k.new k.out_before k.out_now was bench answer
 HasGained files Nothing k was bench answer = IsUnchanged k was bench
@@ -51,6 +60,9 @@ HasGained files Nothing k was bench answer = IsUnchanged k was bench
 abbrev pub IsPlanVerdict : (List ℕ → Option (List ℕ)) → Plan → Answer → Type 0
 IsPlanVerdict files (Texts form source) answer = IsTextVerdict files source answer
 IsPlanVerdict files (Runs j) answer = IsRunVerdict files j answer
+IsPlanVerdict files (Folds j) answer = IsRunVerdict files j answer
+IsPlanVerdict files (Moves r) answer = IsMoveVerdict files r answer
+IsPlanVerdict files (Extends r) answer = IsMoveVerdict files r answer
 IsPlanVerdict files (Evaluates first second) answer = IsEvalVerdict files first second answer
 IsPlanVerdict files (Generates g) answer = IsGenVerdict g answer
 IsPlanVerdict files Nothing answer = answer ≡ Answer.NotYet

@@ -3,9 +3,10 @@ use Rattle.std.specs.Prelude.{◌≢◌, ℕ, List, Option, Some, None, map, str
 use Rattle.std.specs.declared.alloc.Global.{Global}
 use Rattle.pr_tool_words.specs.Lawful.{Order, Task, Eval, lawful_words}
 use Rattle.pr_tool_modes.specs.Jobs.{IsNeither}
+use Rattle.pr_tool_modes.specs.Resumptions.{IsNoFile}
 use Rattle.pr_tool_modes.specs.Sources.{name_in, columns}
 use Rattle.pr_tool.specs.declared.notes.Bounds.{Bounds}
-use Rattle.pr_tool.specs.Plans.{Plan, Texts, Runs, Evaluates, Generates, Nothing, plan_of}
+use Rattle.pr_tool.specs.Plans.{Plan, Texts, Runs, Folds, Moves, Extends, Evaluates, Generates, Nothing, plan_of}
 
 -- what is asked for, if the words are lawful
 abbrev pub Asked : Type 0
@@ -19,6 +20,9 @@ asked_by words = lawful_words (map string_bytes words)
 abbrev pub IsOtherFile : Plan → List ℕ → Type 0
 IsOtherFile (Texts form source) q = q ≢ name_in source
 IsOtherFile (Runs j) q = (q ≢ j.second) × IsNeither j q
+IsOtherFile (Folds j) q = (q ≢ j.second) × IsNeither j q
+IsOtherFile (Moves r) q = IsNoFile r q
+IsOtherFile (Extends r) q = IsNoFile r q
 IsOtherFile (Evaluates first second) q = (q ≢ first) × (q ≢ second)
 IsOtherFile (Generates g) q = ⊤
 IsOtherFile Nothing q = ⊤

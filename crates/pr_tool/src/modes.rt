@@ -9,7 +9,7 @@ ghost use Rattle.pr_tool.specs.Calls.{IsDone};
 use crate::plans::Plan;
 use pr_edge::{Shelf, Sink};
 use pr_tool_answers::Answer;
-use pr_tool_modes::{Bench, eval, execute, generate, write_text};
+use pr_tool_modes::{Bench, eval, execute, extend, fold, generate, move_on, write_text};
 use std::alloc::Global;
 
 /// Carries out a plan.
@@ -31,6 +31,9 @@ pub fn carry_out<S: Shelf, K: Sink>(
     match *plan {
         Plan::Texts { form, source } => write_text(alloc, &source, form, shelf, out),
         Plan::Runs(job) => execute(alloc, &job, shelf, out, bench),
+        Plan::Folds(job) => fold(alloc, &job, shelf, out),
+        Plan::Moves(resumption) => move_on(alloc, &resumption, shelf, out, bench),
+        Plan::Extends(resumption) => extend(alloc, &resumption, shelf, out),
         Plan::Evaluates { program, samples } => eval(alloc, program, samples, shelf, out),
         Plan::Generates(generation) => generate(alloc, &generation, out, bench),
         Plan::Nothing => Answer::NotYet,

@@ -71,7 +71,9 @@ pub fn piperench<S: Shelf, K: Sink, E: Sink>(
         (view (S.told shelf.old) (S.reach shelf.old) (S.faults shelf.old)) (view (S.told shelf.new) (S.reach shelf.new) (S.faults shelf.new))
         (K.told out.old) (K.told out.new) (K.faults out.old) (K.faults out.new)) bench.old bench.new result }
 
-    // What each plan has written over told files, and what is on the bench.
+    // What each plan has written over told files, and what is on the bench. A checkpoint has the number of its samples, with those
+    // before, and the configuration as they left it, and comes of samples that are all good alone; the bench is as it was. A run that
+    // goes on from one writes the lines of the further samples, which are the rest of what the program means (`moving_law`).
     ensures gained { (files : List ℕ → Option (List ℕ)) (order : Order) → S.told shelf.old ≡ Some files → asked_by words.now ≡ Some order
         → HasGained files (plan_of order) (call
         (view (S.told shelf.old) (S.reach shelf.old) (S.faults shelf.old)) (view (S.told shelf.new) (S.reach shelf.new) (S.faults shelf.new))

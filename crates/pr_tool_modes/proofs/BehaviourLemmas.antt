@@ -1,5 +1,5 @@
 -- The file that is written of a configuration is read as it, and a run of it writes the same.
-use Rattle.std.proofs.Common.{◌≡◌, ◌≤◌, ◌∙◌, ℕ, Bool, true, false, ◌&&◌, nat_le, nat_lt, List, [], ◌∷◌, length, map, Option, Some, None, refl, sym, ap, ap₂, subst, arith, inl, inr, true≢false}
+use Rattle.std.proofs.Common.{◌≡◌, ◌≤◌, ◌^◌, ◌∙◌, ℕ, Bool, true, false, ◌&&◌, nat_le, nat_lt, List, [], ◌∷◌, length, map, Option, Some, None, refl, sym, ap, ap₂, subst, arith, inl, inr, true≢false}
 use Rattle.std.specs.List.{list_all}
 use Rattle.pr_code.specs.declared.fabrics.Fabric.{Fabric}
 use Rattle.pr_code.specs.Spelling.{bytes_of_words, words_of, are_widths_within, has_bytes, IsFile}
@@ -64,7 +64,7 @@ weaker p q more (x ∷ xs) e = elim (p x) as (λ b. p x ≡ b → list_all q (x 
 ] refl
 
 -- every width of a lawful configuration is one of the newer format
-within : (N P : ℕ) (c : Shape) → IsLawful N P c → are_widths_within 128 c ≡ true
+pub within : (N P : ℕ) (c : Shape) → IsLawful N P c → are_widths_within 128 c ≡ true
 within N P c lawful =
     both _ _ (weaker is_lawful_width (λ w. nat_le w 128) (λ w e. second_of_two _ (nat_le w 128) e) c.inputs (second_of_three _ _ _ lawful.inputs))
     (weaker (is_lawful_output N P) (λ (o : OutputShape). nat_le o.width 128) (λ o e. second_of_two _ (nat_le o.width 128) (first_of_three (is_lawful_width o.width) _ _ e)) c.outputs
@@ -98,7 +98,7 @@ loadable fabric c lawful bytes =
       is = file;
     }
 
-lawful_on : (fabric : Fabric) (narrowed : Bool) (text : List ℕ) (c : Shape) → IsCompiled (columns fabric) (registers fabric) narrowed text c → IsLawful (columns fabric) (registers fabric) c
+pub lawful_on : (fabric : Fabric) (narrowed : Bool) (text : List ℕ) (c : Shape) → IsCompiled (columns fabric) (registers fabric) narrowed text c → IsLawful (columns fabric) (registers fabric) c
 lawful_on Fabric.Base narrowed text c is = is_lawful 16 8 narrowed text c (omega arith) (omega arith) (omega arith) (omega arith) is
 lawful_on Fabric.Wide narrowed text c is = is_lawful 32 16 narrowed text c (omega arith) (omega arith) (omega arith) (omega arith) is
 
@@ -128,7 +128,7 @@ module _ (files : List ℕ → Option (List ℕ)) (name : List ℕ) (target : Ta
     P = k.P;
     conf = k.conf;
     gives = kept_gives;
-    last = is.last ∙ ap (λ (c : Shape). after_stall files j.stall (samples_verdict c.inputs (files j.second))) (one_conf files (Text name target) is.N is.P k.N k.P is.conf k.conf is.gives k.gives);
+    last = is.last ∙ ap (λ (c : Shape). after_stall files j.stall (samples_verdict (2 ^ 40) c.inputs (files j.second))) (one_conf files (Text name target) is.N is.P k.N k.P is.conf k.conf is.gives k.gives);
   })
 
 -- ---- runs

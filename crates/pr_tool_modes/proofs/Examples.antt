@@ -1,21 +1,21 @@
 -- The samples of a small text, worked out: those of an evaluation, and those of the first bytes of a text.
-use Rattle.std.proofs.Common.{◌≡◌, List, ℕ, [], ◌∷◌, ◌++◌, codes, refl}
+use Rattle.std.proofs.Common.{◌≡◌, ◌^◌, List, ℕ, [], ◌∷◌, ◌++◌, codes, refl}
 use Rattle.pr_samples.specs.Lines.{lines_of, words_of, without_return}
 use Rattle.pr_samples.specs.Fed.{End, BadSample, fed_lines, fed_text}
-use Rattle.pr_tool_modes.specs.Samples.{fed_in, fed_to, fed_whole}
+use Rattle.pr_tool_modes.specs.Samples.{fed_at_most, fed_to, fed_whole}
 
 -- a sample, and a line that lacks a number
 abbrev short_line : List ℕ
 short_line = codes "1 2" ++ 10 ∷ codes "3" ++ 10 ∷ []
 
 before_a_bad_line : fed_whole (8 ∷ 8 ∷ []) short_line ≡ record { samples = (1 ∷ 2 ∷ []) ∷ []; ending = BadSample 2 }
-unfolding fed_in fed_text fed_lines lines_of words_of without_return
+unfolding fed_at_most fed_text fed_lines lines_of words_of without_return
 before_a_bad_line = refl
 
 -- two samples, of which the second stands without its LF in the first seven bytes
 abbrev two_lines : List ℕ
 two_lines = codes "1 2" ++ 10 ∷ codes "3 4" ++ 10 ∷ []
 
-in_seven_bytes : fed_to (8 ∷ 8 ∷ []) two_lines 7 ≡ record { samples = (1 ∷ 2 ∷ []) ∷ []; ending = End }
+in_seven_bytes : fed_to (2 ^ 40) (8 ∷ 8 ∷ []) two_lines 7 ≡ record { samples = (1 ∷ 2 ∷ []) ∷ []; ending = End }
 unfolding fed_to fed_text fed_lines lines_of words_of without_return
 in_seven_bytes = refl

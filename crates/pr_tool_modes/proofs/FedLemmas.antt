@@ -7,13 +7,13 @@ use Rattle.pr_base.specs.Rows.{IsRow}
 use Rattle.pr_samples.specs.Lines.{Line}
 use Rattle.pr_samples.specs.Fed.{Taken, Skipped, Lawful, Unlawful, CutShort, taken, Fed, Ending, End, BadSample, Limit, ending_by, line_and, fed_lines, fed_text}
 use Rattle.pr_samples.proofs.SampleLaws.{fed_lines-rows}
-use Rattle.pr_tool_modes.specs.Samples.{fed_in, fed_whole}
+use Rattle.pr_tool_modes.specs.Samples.{fed_at_most, fed_in, fed_whole}
 use Rattle.pr_tool_modes.proofs.ReasonLemmas.{is_of_samples}
 
 -- the samples of a file are lawful
-pub fed_rows : (widths file : List ℕ) → All (IsRow widths) (fed_in widths file).samples
-unfolding fed_in fed_text
-fed_rows widths file = fed_lines-rows widths _ (2 ^ 40) 0
+pub fed_rows : (most : ℕ) (widths file : List ℕ) → All (IsRow widths) (fed_at_most most widths file).samples
+unfolding fed_at_most fed_text
+fed_rows most widths file = fed_lines-rows widths _ most 0
 
 -- ---- limits
 -- where samples end by a limit, it is one of these
@@ -34,12 +34,12 @@ unfolding fed_lines
 fed_lines-ending widths [] most passed = tt
 fed_lines-ending widths (line ∷ lines) most passed = line_and-ending (taken widths line) (passed + 1) most _ (λ left. fed_lines-ending widths lines left (passed + 1))
 
-fed_ending : (widths file : List ℕ) → IsEnding (fed_in widths file).ending
-unfolding fed_in fed_text
-fed_ending widths file = fed_lines-ending widths _ (2 ^ 40) 0
+fed_ending : (most : ℕ) (widths file : List ℕ) → IsEnding (fed_at_most most widths file).ending
+unfolding fed_at_most fed_text
+fed_ending most widths file = fed_lines-ending widths _ most 0
 
-pub fed_limit : (widths file : List ℕ) (cap : Cap) → (fed_in widths file).ending ≡ Limit cap → is_of_samples cap ≡ true
-fed_limit widths file cap ends = subst IsEnding ends (fed_ending widths file)
+pub fed_limit : (most : ℕ) (widths file : List ℕ) (cap : Cap) → (fed_at_most most widths file).ending ≡ Limit cap → is_of_samples cap ≡ true
+fed_limit most widths file cap ends = subst IsEnding ends (fed_ending most widths file)
 
 -- ---- files that are read whole
 pub short_fed : (widths file : List ℕ) → length file ≤ 16777216 → fed_whole widths file ≡ fed_in widths file

@@ -11,6 +11,10 @@ pub mod InputWidths
 pub mod SampleLemmas
 pub mod LineLemmas
 pub mod LinesLemmas
+pub mod MoveVerdicts
+pub mod MarkLaws
+pub mod FoldLemmas
+pub mod FoldVerdicts
 mod Examples
 pub mod GenVerdicts
 pub mod GenLemmas

@@ -1,5 +1,5 @@
 -- From what a call came to, to the lines that it has written.
-use Rattle.std.proofs.Common.{◌≡◌, ◌⊎◌, ◌≤◌, ◌<◌, ℕ, Bool, true, false, not, List, All, [], ◌++◌, length, take, drop, Option, Some, None, unwrap_or, refl, sym, ap, subst, ◌∙◌, arith, inl, inr, true≢false}
+use Rattle.std.proofs.Common.{◌≡◌, ◌⊎◌, ◌≤◌, ◌<◌, ◌^◌, ℕ, Bool, true, false, not, List, All, [], ◌++◌, length, take, drop, Option, Some, None, unwrap_or, refl, sym, ap, subst, ◌∙◌, arith, inl, inr, true≢false}
 use Rattle.std.specs.Bool.{MatchBool}
 use Rattle.std.proofs.lemmas.List.{take-append-drop}
 use Rattle.std.proofs.lemmas.List.Elements.{All-take}
@@ -34,8 +34,8 @@ use Rattle.pr_tool_modes.specs.Jobs.{Job, first_of}
 use Rattle.pr_tool_modes.specs.Lines.{ByAnswer, HasAllLines, HasFirstLines, AreEvalLines, HasRunOn, HasBegunOn, OnBench, IsWholeRun, IsReadRun, IsCutRun, IsNoRun, IsUnreadRun, samples_file, AreRunLines, MeansLines, AreProgramLines, NoMore, AreConfigurationLines}
 use Rattle.pr_tool_modes.specs.Programs.{inputs_of, HasProgram}
 use Rattle.pr_tool_modes.specs.Runs.{Course, course, ends_well, HasAll, IsWhole, IsBroken, IsStopped, IsEnd}
-use Rattle.pr_tool_modes.specs.Samples.{fed_in, fed_whole, pieces}
-use Rattle.pr_tool_modes.specs.Sources.{Source, Text, name_in, Gives, columns, registers}
+use Rattle.pr_tool_modes.specs.Samples.{fed_in, fed_at_most, fed_whole, pieces}
+use Rattle.pr_tool_modes.specs.Sources.{Source, Text, name_in, most_in, Gives, columns, registers}
 use Rattle.pr_tool_modes.specs.Stalls.{HasStall}
 use Rattle.pr_tool_modes.proofs.CompileLaws.{is_meant}
 use Rattle.pr_tool_modes.proofs.EvalVerdicts.{program_kind}
@@ -151,7 +151,7 @@ ended_eval files first second widths program k (Answer.Limit which) told has (in
     let whole = subst (λ (t : Told). evaluations.IsWhole t second program (Limit which) k.old k.new) told end in
     let text = unwrap_or (files second) [] in
     all_limit (HasAllLines files first text k.old k.new) (k.new ≡ k.old) (HasFirstLines files first text k.old k.new) (k.new ≡ k.old) which
-    (fed_limit (inputs_of program) whole.samples.text which whole.samples.ends) (all_eval files first second widths program k.old k.new (Limit which) has whole)
+    (fed_limit (2 ^ 40) (inputs_of program) whole.samples.text which whole.samples.ends) (all_eval files first second widths program k.old k.new (Limit which) has whole)
 ended_eval files first second widths program k Answer.ReadFault told has end = end.1
 ended_eval files first second widths program k Answer.WriteFault told has end = first_eval files first second widths program k.old k.new has (subst (λ (t : Told). evaluations.IsPrefix t second program k.old k.new) told end.0)
 ended_eval files first second widths program k Answer.Memory told has end = end
@@ -177,9 +177,9 @@ record Ran (N P : ℕ) (further : List ℕ → List (List ℕ) → (List ℕ →
   pub has : HasRan j k machine answer
   pub on_run : (widths : List ℕ) (rows : List (List ℕ)) (good : Bool) → HasRunOn files j k widths rows good machine → OnBench (λ N P m. HasRunOn files j k widths rows good m) bench
   pub on_begun : (widths : List ℕ) (rows : List (List ℕ)) → HasBegunOn files j k widths rows machine → OnBench (λ N P m. HasBegunOn files j k widths rows m) bench
-  pub whole : (rows : List (List ℕ)) → rows ≡ take (length rows) (fed_in has.conf.inputs (samples_file files j)).samples
+  pub whole : (rows : List (List ℕ)) → rows ≡ take (length rows) (fed_at_most (most_in j.source) has.conf.inputs (samples_file files j)).samples
       → (j.log ≡ false → Appends k.old k.new (written (result_numbers N P has.conf (pieces has.conf rows)))) → further has.conf.inputs rows (Appends k.old k.new)
-  pub front : (rows : List (List ℕ)) → rows ≡ take (length rows) (fed_in has.conf.inputs (samples_file files j)).samples
+  pub front : (rows : List (List ℕ)) → rows ≡ take (length rows) (fed_at_most (most_in j.source) has.conf.inputs (samples_file files j)).samples
       → (j.log ≡ false → AppendsFront k.old k.new (written (result_numbers N P has.conf (pieces has.conf rows)))) → further has.conf.inputs rows (AppendsFront k.old k.new)
   pub longer : (rows all : List (List ℕ)) → rows ≡ take (length rows) all → further has.conf.inputs rows (AppendsFront k.old k.new) → further has.conf.inputs all (AppendsFront k.old k.new)
 
@@ -192,10 +192,10 @@ module _ {N P : ℕ} {further : List ℕ → List (List ℕ) → (List ℕ → T
   file_of = samples_file r.files r.j
 
   abbrev fed_by : Fed
-  fed_by = fed_in r.has.conf.inputs file_of
+  fed_by = fed_at_most (most_in r.j.source) r.has.conf.inputs file_of
 
   abbrev course_of : Course
-  course_of = course r.has.conf r.j.stripes r.has.run.turns r.j.log r.j.second r.has.run.start r.k.now r.k.old r.k.new
+  course_of = course r.has.conf r.j.stripes r.has.run.turns r.j.log (most_in r.j.source) r.j.second r.has.run.start r.k.now r.k.old r.k.new
 
   start_told : r.has.run.start.told ≡ Some r.files
   start_told = r.has.run.later.told ∙ r.told
@@ -210,14 +210,14 @@ module _ {N P : ℕ} {further : List ℕ → List (List ℕ) → (List ℕ → T
   missing none = subst (λ (t : Told). IsMissing t r.j.second) (sym start_told) none
 
   rows_first : rows_of ≡ take (length rows_of) fed_by.samples
-  rows_first = elim (r.files r.j.second) as (λ o. r.files r.j.second ≡ o → rows_of ≡ take (length rows_of) (fed_in r.has.conf.inputs (unwrap_or o [])).samples) [
-    | None ↦ λ e. (let none = r.has.run.run.unread (missing e) in none ∙ sym (ap (λ (xs : List (List ℕ)). take (length xs) (fed_in r.has.conf.inputs []).samples) none))
+  rows_first = elim (r.files r.j.second) as (λ o. r.files r.j.second ≡ o → rows_of ≡ take (length rows_of) (fed_at_most (most_in r.j.source) r.has.conf.inputs (unwrap_or o [])).samples) [
+    | None ↦ λ e. (let none = r.has.run.run.unread (missing e) in none ∙ sym (ap (λ (xs : List (List ℕ)). take (length xs) (fed_at_most (most_in r.j.source) r.has.conf.inputs []).samples) none))
     | Some file ↦ λ e. r.has.run.run.first file (tells file e)
   ] refl
 
   -- all samples of the file
   rows_all : (ending : Ending) → HasAll course_of rows_of ending → (rows_of ≡ fed_by.samples) × (fed_by.ending ≡ ending)
-  rows_all ending all = elim (r.files r.j.second) as (λ o. r.files r.j.second ≡ o → (rows_of ≡ (fed_in r.has.conf.inputs (unwrap_or o [])).samples) × ((fed_in r.has.conf.inputs (unwrap_or o [])).ending ≡ ending)) [
+  rows_all ending all = elim (r.files r.j.second) as (λ o. r.files r.j.second ≡ o → (rows_of ≡ (fed_at_most (most_in r.j.source) r.has.conf.inputs (unwrap_or o [])).samples) × ((fed_at_most (most_in r.j.source) r.has.conf.inputs (unwrap_or o [])).ending ≡ ending)) [
     | None ↦ λ e. absurd (all.there (missing e))
     | Some file ↦ λ e. (all.all file (tells file e), all.ends file (tells file e))
   ] refl
@@ -286,7 +286,7 @@ module _ {N P : ℕ} {further : List ℕ → List (List ℕ) → (List ℕ → T
   ended_run was (Answer.BadSample line) end = whole_run (BadSample line) end.0 end.1
   ended_run was (Answer.Limit which) end =
       all_limit (IsWholeRun further r.files r.j file_of r.k r.bench) (IsUnreadRun r.j r.k was r.bench ⊎ IsReadRun further r.files r.j file_of r.k r.bench) (IsCutRun further r.files r.j file_of r.k r.bench) (IsNoRun r.k was r.bench) which
-      (fed_limit r.has.conf.inputs file_of which (rows_all (Limit which) end.0).1) (whole_run (Limit which) end.0 end.1)
+      (fed_limit (most_in r.j.source) r.has.conf.inputs file_of which (rows_all (Limit which) end.0).1) (whole_run (Limit which) end.0 end.1)
   ended_run was Answer.ReadFault end = inr (read_run end.0 end.1)
   ended_run was Answer.WriteFault end = cut_run end
   ended_run was a end = absurd end
@@ -330,7 +330,7 @@ configuration_lines files j k was Bench.Nothing a told (inr has) = absurd has
 
 -- ---- a run of a program
 -- the program of a text that was compiled
-record IsProgramOf (files : List ℕ → Option (List ℕ)) (j : Job) (N P : ℕ) (conf : Shape) : Type 0 where
+pub record IsProgramOf (files : List ℕ → Option (List ℕ)) (j : Job) (N P : ℕ) (conf : Shape) : Type 0 where
   pub program : Program
   pub widths : List ℕ
   pub has : HasProgram (Some files) (first_of j) program widths
@@ -340,7 +340,7 @@ pub two_registers : (fabric : Fabric) → 2 ≤ registers fabric
 two_registers Fabric.Base = omega arith
 two_registers Fabric.Wide = omega arith
 
-program_in : (files : List ℕ → Option (List ℕ)) (j : Job) (name : List ℕ) (target : Target) (N P : ℕ) (conf : Shape) → j.source ≡ Text name target → Gives (Some files) j.source N P conf → IsProgramOf files j N P conf
+pub program_in : (files : List ℕ → Option (List ℕ)) (j : Job) (name : List ℕ) (target : Target) (N P : ℕ) (conf : Shape) → j.source ≡ Text name target → Gives (Some files) j.source N P conf → IsProgramOf files j N P conf
 program_in files j name target N P conf is gives =
     let on = subst (λ (s : Source). Gives (Some files) s N P conf) is gives in
     let has = of_fabric (Some files) name target N P conf on in
@@ -354,11 +354,11 @@ program_in files j name target N P conf is gives =
     }
 
 -- the lines of the configuration's results are those of the program
-lines_same : {N P : ℕ} (files : List ℕ → Option (List ℕ)) (j : Job) (conf : Shape) (p : IsProgramOf files j N P conf) (rows : List (List ℕ)) → rows ≡ take (length rows) (fed_in conf.inputs (samples_file files j)).samples
+lines_same : {N P : ℕ} (files : List ℕ → Option (List ℕ)) (j : Job) (conf : Shape) (p : IsProgramOf files j N P conf) (rows : List (List ℕ)) → rows ≡ take (length rows) (fed_at_most (most_in j.source) conf.inputs (samples_file files j)).samples
     → written (result_numbers N P conf (pieces conf rows)) ≡ written (out p.program rows)
 lines_same files j conf p rows first =
-    let all = fed_rows conf.inputs (samples_file files j) in
-    let fed : All (IsRow conf.inputs) rows = subst (All (IsRow conf.inputs)) (sym first) (All-take (IsRow conf.inputs) (length rows) (fed_in conf.inputs (samples_file files j)).samples all) in
+    let all = fed_rows (most_in j.source) conf.inputs (samples_file files j) in
+    let fed : All (IsRow conf.inputs) rows = subst (All (IsRow conf.inputs)) (sym first) (All-take (IsRow conf.inputs) (length rows) (fed_at_most (most_in j.source) conf.inputs (samples_file files j)).samples all) in
     ap written (p.means.numbers rows fed)
 
 program_ran : {N P : ℕ} (files : List ℕ → Option (List ℕ)) (j : Job) (name : List ℕ) (target : Target) (k : Call) (was bench : Bench) (machine : Going N P) (a : Answer) → j.source ≡ Text name target → k.before.told ≡ Some files → (has : HasRan j k machine a)

@@ -1,6 +1,7 @@
 -- Why texts are refused: one reason at most, none for a text from which something came, and never as samples are.
-use Rattle.std.proofs.Common.{◌≡◌, ◌⊎◌, ◌∙◌, ℕ, Bool, true, false, cond, not, List, Some, None, refl, sym, ap, subst, inl, inr, true≢false}
+use Rattle.std.proofs.Common.{◌≡◌, ◌⊎◌, ◌∙◌, ℕ, Bool, true, false, cond, not, List, Option, Some, None, refl, sym, ap, subst, inl, inr, true≢false}
 use Rattle.pr_base.specs.declared.caps.Cap.{Cap}
+use Rattle.pr_code.specs.Rules.{Broken}
 use Rattle.pr_lang.specs.declared.trees.Program.{Program}
 use Rattle.pr_net.specs.Shape.{NetShape}
 use Rattle.pr_conf.specs.Shape.{Shape}
@@ -14,7 +15,7 @@ use Rattle.pr_compile.specs.declared.faults.CompileFault.TheVariants as fault
 use Rattle.pr_compile.specs.Configured.{net_by, IsCompiled}
 use Rattle.pr_compile.specs.Refusals.{IsRefused, IsCompileAnswer}
 use Rattle.pr_tool_answers.specs.declared.answers.Answer.{Answer}
-use Rattle.pr_tool_modes.specs.Configurations.{broken_answer, IsWordRefusal, IsBadConfiguration, broken_in}
+use Rattle.pr_tool_modes.specs.Configurations.{broken_answer, HasBroken, IsWordRefusal}
 use Rattle.pr_tool_modes.specs.Programs.{front_answer, compile_answer, IsBadProgram, IsUncompiled}
 use Rattle.pr_tool_modes.proofs.CompileLaws.{one_refusal, never_compiled}
 
@@ -118,20 +119,20 @@ compile_refused N P narrowed text (fault.NoWidth equation) a is same = inl (reco
 compile_refused N P narrowed text (fault.NoFit unit) a is same = inl (record { fault = fault.NoFit unit; refused = is; answers = same })
 compile_refused N P narrowed text (fault.Limit which) a is same = inl (record { fault = fault.Limit which; refused = is; answers = same })
 
--- ---- configurations
+-- ---- configurations and checkpoints
 -- a word that breaks its rule, or want of memory
-pub word_refused : (bytes : List ℕ) (a : Answer) → IsWordRefusal (broken_in bytes) a → IsBadConfiguration bytes a ⊎ (a ≡ Answer.Memory)
-word_refused bytes (Answer.BadConfig rule place) is = inl (record { word = record { rule = rule; place = place }; first = is; answers = refl })
-word_refused bytes Answer.Memory is = inr refl
-word_refused bytes a is = absurd is
+pub word_refused : (broken : Option Broken) (a : Answer) → IsWordRefusal broken a → HasBroken broken a ⊎ (a ≡ Answer.Memory)
+word_refused broken (Answer.BadConfig rule place) is = inl (record { word = record { rule = rule; place = place }; first = is; answers = refl })
+word_refused broken Answer.Memory is = inr refl
+word_refused broken a is = absurd is
 
-pub configuration_refuses : (bytes : List ℕ) (a : Answer) → IsBadConfiguration bytes a → refuses a ≡ true
-configuration_refuses bytes a is = ap refuses is.answers
+pub word_refuses : (broken : Option Broken) (a : Answer) → HasBroken broken a → refuses a ≡ true
+word_refuses broken a is = ap refuses is.answers
 
-pub one_configuration : (bytes : List ℕ) (a b : Answer) → IsBadConfiguration bytes a → IsBadConfiguration bytes b → a ≡ b
-one_configuration bytes a b is by =
+pub one_word : (broken : Option Broken) (a b : Answer) → HasBroken broken a → HasBroken broken b → a ≡ b
+one_word broken a b is by =
     let same : is.word ≡ by.word = (let both : Some is.word ≡ Some by.word = sym is.first ∙ by.first in cc) in
     is.answers ∙ (ap broken_answer same ∙ sym by.answers)
 
-pub never_configuration : (bytes : List ℕ) (a : Answer) → broken_in bytes ≡ None → IsBadConfiguration bytes a → ⊥
-never_configuration bytes a none is = let no : None ≡ Some is.word = sym none ∙ is.first in cc
+pub never_word : (broken : Option Broken) (a : Answer) → broken ≡ None → HasBroken broken a → ⊥
+never_word broken a none is = let no : None ≡ Some is.word = sym none ∙ is.first in cc

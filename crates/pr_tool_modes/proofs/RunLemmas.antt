@@ -8,9 +8,10 @@ use Rattle.pr_samples.specs.declared.feed.Feed.{Feed}
 use Rattle.pr_samples.specs.declared.feed.Got.{Got}
 use Rattle.pr_samples.specs.declared.stall.Stall.{Stall}
 use Rattle.pr_samples.specs.Fed.{Ending, End, BadSample, Limit, fed_of, fed_within}
-use Rattle.pr_samples.specs.Feed.{name_of, widths_of, place_of, fed, SameFile, Tells, IsOver}
+use Rattle.pr_samples.specs.Feed.{name_of, widths_of, most_of, place_of, fed, SameFile, Tells, IsOver}
 use Rattle.pr_machine.specs.Stands.{History, conf_of, stripes_of}
-use Rattle.pr_run_script.specs.Script.{most_cycles}
+use Rattle.pr_conf.specs.Shape.{Shape}
+use Rattle.pr_run_script.specs.Script.{Held, most_cycles}
 use Rattle.pr_run_script.specs.Counts.{IsPrefix, cycles_in}
 use Rattle.pr_run_script.specs.Text.{run_text}
 use Rattle.pr_run_script.proofs.TextLaws.{run_is_written}
@@ -21,22 +22,22 @@ use Rattle.pr_run.specs.Turns.{Going, HasRead, EndsBy, IsUnread, MayFollow}
 use Rattle.pr_run.specs.Runs.{IsWhole as WholeRun, IsStopped as StoppedRun, Ran, IsAnswer, lines_of, events_of}
 use Rattle.pr_run.proofs.NextSamples.{follows_nil}
 use Rattle.pr_run.proofs.WholeRuns.{set_of}
-use Rattle.pr_tool_modes.specs.Samples.{fed_in, fed_to, pieces}
+use Rattle.pr_tool_modes.specs.Samples.{fed_at_most, fed_to, pieces}
 use Rattle.pr_tool_modes.specs.Ready.{IsReady}
 use Rattle.pr_tool_modes.specs.Runs.{Course, course, answer_by, events_on, text_on, results_on, ends_well, HasAll, IsWhole, IsBroken, IsBegun, IsStopped, IsEnd, IsRun}
 
 -- ---- the samples
-pub fed_is : (widths ws : List ℕ) (limit most : ℕ) (file : List ℕ) → ws ≡ widths → limit ≡ 2 ^ 44 → most ≡ 2 ^ 40 → fed_of ws limit most file ≡ fed_in widths file
-unfolding fed_in
-fed_is widths ws limit most file w l m = ap (λ (x : List ℕ). fed_of x limit most file) w ∙ (ap (λ (n : ℕ). fed_of widths n most file) l ∙ ap (λ (n : ℕ). fed_of widths (2 ^ 44) n file) m)
+pub fed_is : (widths ws : List ℕ) (limit most bound : ℕ) (file : List ℕ) → ws ≡ widths → limit ≡ 2 ^ 44 → most ≡ bound → fed_of ws limit most file ≡ fed_at_most bound widths file
+unfolding fed_at_most
+fed_is widths ws limit most bound file w l m = ap (λ (x : List ℕ). fed_of x limit most file) w ∙ (ap (λ (n : ℕ). fed_of widths n most file) l ∙ ap (λ (n : ℕ). fed_of widths (2 ^ 44) n file) m)
 
-reached_is : (widths ws : List ℕ) (limit most place reach : ℕ) (file : List ℕ) → ws ≡ widths → limit ≡ 2 ^ 44 → most ≡ 2 ^ 40 → place ≡ reach → fed_within ws limit most file place ≡ fed_to widths file reach
+reached_is : (widths ws : List ℕ) (limit most bound place reach : ℕ) (file : List ℕ) → ws ≡ widths → limit ≡ 2 ^ 44 → most ≡ bound → place ≡ reach → fed_within ws limit most file place ≡ fed_to bound widths file reach
 unfolding fed_to
-reached_is widths ws limit most place reach file w l m p =
+reached_is widths ws limit most bound place reach file w l m p =
     ap (λ (x : List ℕ). fed_within x limit most file place) w
     ∙ (ap (λ (n : ℕ). fed_within widths n most file place) l
     ∙ (ap (λ (n : ℕ). fed_within widths (2 ^ 44) n file place) m
-    ∙ ap (λ (n : ℕ). fed_within widths (2 ^ 44) (2 ^ 40) file n) p))
+    ∙ ap (λ (n : ℕ). fed_within widths (2 ^ 44) bound file n) p))
 
 -- ---- a run that was made ready
 -- a machine, a stall text, whether the log is asked for, a feed, what the shelf shows and the sink tells before the run and after it
@@ -49,13 +50,13 @@ pub record Begun (N P : ℕ) : Type 0 where
   pub now : View
   pub old : Tape
   pub new : Tape
-  pub ready : IsReady machine feed stall (name_of feed)
+  pub ready : IsReady machine feed stall (most_of feed) (name_of feed)
 
 abbrev pub setting : {N P : ℕ} → Begun N P → Setting
 setting b = setting_of b.machine b.stall b.feed b.start b.old b.log
 
 abbrev pub course_of : {N P : ℕ} → Begun N P → Course
-course_of b = course (conf_of b.machine) (stripes_of b.machine) (stall_turns b.stall) b.log (name_of b.feed) b.start b.now b.old b.new
+course_of b = course (conf_of b.machine) (stripes_of b.machine) (stall_turns b.stall) b.log (most_of b.feed) (name_of b.feed) b.start b.now b.old b.new
 
 widths_same : {N P : ℕ} (b : Begun N P) → widths_of b.feed ≡ (conf_of b.machine).inputs
 widths_same b = b.ready.opened.inputs
@@ -80,23 +81,23 @@ results_same {N} {P} b rows good off =
     ∙ run_is_written N P c (stripes_of b.machine) (pieces c rows) (stall_turns b.stall) good (set b).some (set b).two
 
 -- the samples of the file are those of the feed, also as it is after the run
-first_fed : {N P : ℕ} (b : Begun N P) (file : List ℕ) → fed b.feed file ≡ fed_in (conf_of b.machine).inputs file
-first_fed b file = fed_is (conf_of b.machine).inputs b.feed.widths.items b.feed.limit b.feed.most file (widths_same b) b.ready.opened.limit b.ready.opened.most
+first_fed : {N P : ℕ} (b : Begun N P) (file : List ℕ) → fed b.feed file ≡ fed_at_most (most_of b.feed) (conf_of b.machine).inputs file
+first_fed b file = fed_is (conf_of b.machine).inputs b.feed.widths.items b.feed.limit b.feed.most b.feed.most file (widths_same b) b.ready.opened.limit refl
 
-last_fed : {N P : ℕ} (b : Begun N P) (f : Feed) → SameFile b.feed f → (file : List ℕ) → fed f file ≡ fed_in (conf_of b.machine).inputs file
-last_fed b f same file = fed_is (conf_of b.machine).inputs f.widths.items f.limit f.most file (same.widths ∙ widths_same b) (same.limit ∙ b.ready.opened.limit) (same.most ∙ b.ready.opened.most)
+last_fed : {N P : ℕ} (b : Begun N P) (f : Feed) → SameFile b.feed f → (file : List ℕ) → fed f file ≡ fed_at_most (most_of b.feed) (conf_of b.machine).inputs file
+last_fed b f same file = fed_is (conf_of b.machine).inputs f.widths.items f.limit f.most b.feed.most file (same.widths ∙ widths_same b) (same.limit ∙ b.ready.opened.limit) same.most
 
 rows_first : {N P : ℕ} (b : Begun N P) (f : Feed) (rows : List (List ℕ)) (last : Got) → HasRead (setting b) f b.now rows last → (file : List ℕ) → Tells b.start.told (name_of b.feed) file
-    → rows ≡ take (length rows) (fed_in (conf_of b.machine).inputs file).samples
+    → rows ≡ take (length rows) (fed_at_most (most_of b.feed) (conf_of b.machine).inputs file).samples
 rows_first b f rows last read file tells =
     (read.samples file tells).first ∙ ap₂ (λ (n : ℕ) (xs : List (List ℕ)). take n xs) read.count (ap (λ k. k.samples) (first_fed b file))
 
 rows_all : {N P : ℕ} (b : Begun N P) (f : Feed) (rows : List (List ℕ)) (last : Got) (ending : Ending) → HasRead (setting b) f b.now rows last → (file : List ℕ) → Tells b.start.told (name_of b.feed) file
-    → IsOver f file ending → rows ≡ (fed_in (conf_of b.machine).inputs file).samples
+    → IsOver f file ending → rows ≡ (fed_at_most (most_of b.feed) (conf_of b.machine).inputs file).samples
 rows_all b f rows last ending read file tells over =
     let same = last_fed b f read.file file in
-    let count : length rows ≡ length (fed_in (conf_of b.machine).inputs file).samples = sym read.count ∙ (over.all ∙ ap (λ k. length k.samples) same) in
-    rows_first b f rows last read file tells ∙ take_all (length rows) (fed_in (conf_of b.machine).inputs file).samples (omega (arith, count))
+    let count : length rows ≡ length (fed_at_most (most_of b.feed) (conf_of b.machine).inputs file).samples = sym read.count ∙ (over.all ∙ ap (λ k. length k.samples) same) in
+    rows_first b f rows last read file tells ∙ take_all (length rows) (fed_at_most (most_of b.feed) (conf_of b.machine).inputs file).samples (omega (arith, count))
 
 all_of : {N P : ℕ} (b : Begun N P) (f : Feed) (rows : List (List ℕ)) (last : Got) (ending : Ending) → HasRead (setting b) f b.now rows last → (IsUnread last f → ⊥)
     → ((file : List ℕ) → EndsBy last f file → IsOver f file ending) → HasAll (course_of b) rows ending
@@ -123,7 +124,7 @@ broken_of b f rows read = record {
       let place : Some (place_of f) ≡ Some reach = sym (read.reached (before ∙ ap (λ (n : ℕ). Some n) (sym b.ready.opened.fresh.bytes.0))) ∙ after in
       let is : place_of f ≡ reach = cc in
       sym read.count ∙ ((read.samples file tells).ends
-      ∙ ap (λ k. length k.samples) (reached_is (conf_of b.machine).inputs f.widths.items f.limit f.most f.place reach file (read.file.widths ∙ widths_same b) (read.file.limit ∙ b.ready.opened.limit) (read.file.most ∙ b.ready.opened.most) is))
+      ∙ ap (λ k. length k.samples) (reached_is (conf_of b.machine).inputs f.widths.items f.limit f.most b.feed.most f.place reach file (read.file.widths ∙ widths_same b) (read.file.limit ∙ b.ready.opened.limit) read.file.most is))
       );
 }
 
@@ -142,14 +143,14 @@ begun_on {N} {P} b rows more last h good stopped well follow =
 
 -- nothing follows the last sample
 none_left : {N P : ℕ} (b : Begun N P) (f : Feed) (rows : List (List ℕ)) (last : Got) (ending : Ending) → HasRead (setting b) f b.now rows last → (file : List ℕ) → Tells b.start.told (name_of b.feed) file
-    → IsOver f file ending → pieces_in (setting b) (drop (length rows) (fed_in (conf_of b.machine).inputs file).samples) ≡ []
+    → IsOver f file ending → pieces_in (setting b) (drop (length rows) (fed_at_most (most_of b.feed) (conf_of b.machine).inputs file).samples) ≡ []
 none_left b f rows last ending read file tells over =
     let count = ap length (rows_all b f rows last ending read file tells over) in
-    ap (λ (xs : List (List ℕ)). map (row_bytes (widths_of b.feed)) xs) (drop_all (length rows) (fed_in (conf_of b.machine).inputs file).samples (omega (arith, count)))
+    ap (λ (xs : List (List ℕ)). map (row_bytes (widths_of b.feed)) xs) (drop_all (length rows) (fed_at_most (most_of b.feed) (conf_of b.machine).inputs file).samples (omega (arith, count)))
 
 follows : {N P : ℕ} (b : Begun N P) (f : Feed) (rows : List (List ℕ)) (last : Got) → HasRead (setting b) f b.now rows last
     → HasReadCause b.start.told (name_of b.feed) b.start.faults b.now.faults
-    ⊎ ((file : List ℕ) → Tells b.start.told (name_of b.feed) file → MayFollow last (pieces_in (setting b) (drop (length rows) (fed_in (conf_of b.machine).inputs file).samples)))
+    ⊎ ((file : List ℕ) → Tells b.start.told (name_of b.feed) file → MayFollow last (pieces_in (setting b) (drop (length rows) (fed_at_most (most_of b.feed) (conf_of b.machine).inputs file).samples)))
 follows b f rows Got.Sample read = inr (λ file tells. tt)
 follows b f rows Got.End read = inr (λ file tells. none_left b f rows Got.End End read file tells (read.samples file tells).ends)
 follows b f rows (Got.BadSample line) read = inr (λ file tells. none_left b f rows (Got.BadSample line) (BadSample line) read file tells (read.samples file tells).ends)
@@ -158,20 +159,20 @@ follows b f rows Got.ReadFault read = inl (read.cause refl)
 
 -- where the log's last line was begun, all samples are good
 well_of : {N P : ℕ} (b : Begun N P) (f : Feed) (rows : List (List ℕ)) (last : Got) (h : History) → HasRead (setting b) f b.now rows last → (stopped : StoppedRun N P (setting b) rows last h b.new) → (file : List ℕ) → Tells b.start.told (name_of b.feed) file
-    → stopped.closing ≡ true → ends_well (fed_in (conf_of b.machine).inputs file).ending ≡ true
+    → stopped.closing ≡ true → ends_well (fed_at_most (most_of b.feed) (conf_of b.machine).inputs file).ending ≡ true
 well_of b f rows last h read stopped file tells closing =
     let ends = subst (λ (got : Got). EndsBy got f file) (stopped.over closing).0 (read.samples file tells).ends in
     ap ends_well (sym (ap (λ k. k.ending) (last_fed b f read.file file)) ∙ ends.ends)
 
 all_begun : {N P : ℕ} (b : Begun N P) (f : Feed) (rows : List (List ℕ)) (last : Got) (h : History) → HasRead (setting b) f b.now rows last → StoppedRun N P (setting b) rows last h b.new
     → HasReadCause b.start.told (name_of b.feed) b.start.faults b.now.faults
-    ⊎ ((file : List ℕ) → Tells b.start.told (name_of b.feed) file → MayFollow last (pieces_in (setting b) (drop (length rows) (fed_in (conf_of b.machine).inputs file).samples)))
+    ⊎ ((file : List ℕ) → Tells b.start.told (name_of b.feed) file → MayFollow last (pieces_in (setting b) (drop (length rows) (fed_at_most (most_of b.feed) (conf_of b.machine).inputs file).samples)))
     → HasReadCause b.start.told (name_of b.feed) b.start.faults b.now.faults
-    ⊎ ((file : List ℕ) → Tells b.start.told (name_of b.feed) file → IsBegun N P (course_of b) (fed_in (conf_of b.machine).inputs file).samples h (ends_well (fed_in (conf_of b.machine).inputs file).ending))
+    ⊎ ((file : List ℕ) → Tells b.start.told (name_of b.feed) file → IsBegun N P (course_of b) (fed_at_most (most_of b.feed) (conf_of b.machine).inputs file).samples h (ends_well (fed_at_most (most_of b.feed) (conf_of b.machine).inputs file).ending))
 all_begun b f rows last h read stopped (inl cause) = inl cause
 all_begun {N} {P} b f rows last h read stopped (inr follow) = inr (λ file tells. (
-    let all = (fed_in (conf_of b.machine).inputs file).samples in
-    let good = ends_well (fed_in (conf_of b.machine).inputs file).ending in
+    let all = (fed_at_most (most_of b.feed) (conf_of b.machine).inputs file).samples in
+    let good = ends_well (fed_at_most (most_of b.feed) (conf_of b.machine).inputs file).ending in
     let parts : rows ++ drop (length rows) all ≡ all = ap (λ (xs : List (List ℕ)). xs ++ drop (length rows) all) (rows_first b f rows last read file tells) ∙ take-append-drop (length rows) all in
     subst (λ (xs : List (List ℕ)). IsBegun N P (course_of b) xs h good) parts (begun_on b rows (drop (length rows) all) last h good stopped (well_of b f rows last h read stopped file tells) (follow file tells))
     ))
@@ -207,3 +208,13 @@ run_of b m f end ran = record {
   cycles = subst (λ (n : ℕ). cycles_in ran.history ≤ most_cycles (length (conf_of b.machine).stages) (stripes_of b.machine) (stall_turns b.stall) n) ran.read.count ran.cycles;
   end = end_of b f ran.rows ran.last ran.history end ran.read ran.answer;
 }
+
+-- ---- by its parts
+pub course_same : (c d : Shape) (p q : ℕ) (turns us : List Held) (log : Bool) (most bound : ℕ) (name second : List ℕ) (start now : View) (old new : Tape) → c ≡ d → p ≡ q → turns ≡ us → most ≡ bound → name ≡ second
+    → course c p turns log most name start now old new ≡ course d q us log bound second start now old new
+course_same c d p q turns us log most bound name second start now old new a b e f g =
+    ap (λ (x : Shape). course x p turns log most name start now old new) a
+    ∙ (ap (λ (x : ℕ). course d x turns log most name start now old new) b
+    ∙ (ap (λ (x : List Held). course d q x log most name start now old new) e
+    ∙ (ap (λ (x : ℕ). course d q us log x name start now old new) f
+    ∙ ap (λ (x : List ℕ). course d q us log bound x start now old new) g)))

@@ -17,14 +17,16 @@ use Rattle.pr_tool_answers.specs.declared.answers.Answer.{Answer}
 use Rattle.pr_tool_answers.specs.Owed.{IsOwed}
 use Rattle.pr_tool_answers.proofs.OwedLemmas.{owed_by}
 use Rattle.pr_tool_modes.specs.declared.benches.Bench.{Bench}
+use Rattle.pr_tool_modes.specs.declared.jobs.Source.{Source as NamedSource}
+use Rattle.pr_tool_modes.specs.declared.jobs.Source.TheVariants as named
 use Rattle.pr_tool_modes.specs.declared.loadables.Loadable.{Loadable}
 use Rattle.pr_tool_modes.specs.Calls.{Call, call}
 use Rattle.pr_tool_modes.specs.Executions.{HasRun, HasRan, IsRunOf, IsRunRefusal, HasCome, IsRunVerdict}
 use Rattle.pr_tool_modes.specs.Files.{IsUnread}
-use Rattle.pr_tool_modes.specs.Jobs.{Job, first_of, IsNoStall, IsNeither}
+use Rattle.pr_tool_modes.specs.Jobs.{Job, source_of, first_of, IsNoStall, IsNeither}
 use Rattle.pr_tool_modes.specs.Runs.{Course, course, HasAll, IsEnd}
 use Rattle.pr_tool_modes.specs.Samples.{ended_by, samples_verdict}
-use Rattle.pr_tool_modes.specs.Sources.{columns_in, registers_in, shape_in, Gives, IsGood, IsSourceRefusal, IsRefusedSource}
+use Rattle.pr_tool_modes.specs.Sources.{count_in, most_in, columns_in, registers_in, shape_in, Gives, IsGood, IsSourceRefusal, IsRefusedSource}
 use Rattle.pr_tool_modes.specs.Stalls.{HasStall, HasBadStall, IsStallRefusal, after_text, after_stall, bad_or, first_bad}
 use Rattle.pr_tool_modes.proofs.FileLemmas.{rose_earlier, unread_earlier}
 use Rattle.pr_tool_modes.proofs.ReasonLemmas.{refuses, IsKind, kind_never, kind_fault}
@@ -71,6 +73,11 @@ later_refusal j k mid_told mid N P c a gives told later (inl stall) =
     inr (inl (record { N = N; P = P; conf = c; gives = gives }, stall_earlier k.before.told mid_told j.stall k.before.faults mid k.now.faults a told later stall))
 later_refusal j k mid_told mid N P c a gives told later (inr memory) = inr (inr memory)
 
+-- no samples came before those of a configuration file or a program
+pub fresh_source : (source : NamedSource) → count_in (source_of source) ≡ 0
+fresh_source (named.File name) = refl
+fresh_source (named.Program name target) = refl
+
 -- a configuration that was to be run, after the source was read
 pub come_of : (j : Job) (k : Call) (mid : View) (l : Loadable) (was bench : Bench) (a : Answer) → Gives k.before.told j.source (columns_in l) (registers_in l) (shape_in l)
     → mid.told ≡ k.before.told → k.before.faults ≤ mid.faults → ((q : List ℕ) → q ≢ first_of j → mid.reach q ≡ k.before.reach q)
@@ -96,7 +103,7 @@ passes_text file text next is short good =
     ∙ (ap (λ (b : Bool). cond b (Answer.Limit Cap.StallBytes) (bad_or (first_bad text) next)) test
     ∙ ap (λ (o : Option ℕ). bad_or o next) good)
 
-passes_stall : (files : List ℕ → Option (List ℕ)) (stall : Option (List ℕ)) (turns : List Held) (next : Answer) → HasStall (Some files) stall turns → after_stall files stall next ≡ next
+pub passes_stall : (files : List ℕ → Option (List ℕ)) (stall : Option (List ℕ)) (turns : List Held) (next : Answer) → HasStall (Some files) stall turns → after_stall files stall next ≡ next
 passes_stall files None turns next has = refl
 passes_stall files (Some name) turns next has = passes_text (files name) has.text next has.file has.short has.good
 
@@ -123,50 +130,50 @@ stall_owed files (Some name) next sb sn ob on a (inl (inr (inr memory))) = inr (
 stall_owed files (Some name) next sb sn ob on a (inr bad) = inl (bad.answers ∙ sym (bad_stall bad.text (files name) bad.place next bad.file bad.short bad.bad))
 
 -- ---- the samples
-file_end : (files : List ℕ → Option (List ℕ)) (r : Course) (rows : List (List ℕ)) (ending : Ending) → r.start.told ≡ Some files → HasAll r rows ending
-    → samples_verdict r.conf.inputs (files r.name) ≡ ended_by ending
-file_end files r rows ending is all = elim (files r.name) as (λ o. files r.name ≡ o → samples_verdict r.conf.inputs o ≡ ended_by ending) [
+pub file_end : (files : List ℕ → Option (List ℕ)) (r : Course) (rows : List (List ℕ)) (ending : Ending) → r.start.told ≡ Some files → HasAll r rows ending
+    → samples_verdict r.most r.conf.inputs (files r.name) ≡ ended_by ending
+file_end files r rows ending is all = elim (files r.name) as (λ o. files r.name ≡ o → samples_verdict r.most r.conf.inputs o ≡ ended_by ending) [
   | None ↦ λ e. absurd (all.there (subst (λ (t : Told). IsMissing t r.name) (sym is) e))
   | Some file ↦ λ e. ap ended_by (all.ends file (subst (λ (t : Told). Tells t r.name file) (sym is) e))
 ] refl
 
 -- the last point decides
 end_owed : (N P : ℕ) (files : List ℕ → Option (List ℕ)) (r : Course) (rows : List (List ℕ)) (h : History) (a : Answer) (sb ob on : ℕ) → r.start.told ≡ Some files → sb ≤ r.start.faults
-    → (a ≡ Answer.WriteFault → Rose ob on) → IsEnd N P r rows h a → IsOwed (λ o. o ≡ samples_verdict r.conf.inputs (files r.name)) sb r.now.faults ob on a
+    → (a ≡ Answer.WriteFault → Rose ob on) → IsEnd N P r rows h a → IsOwed (λ o. o ≡ samples_verdict r.most r.conf.inputs (files r.name)) sb r.now.faults ob on a
 end_owed N P files r rows h Answer.Ok sb ob on is le write end = inl (sym (file_end files r rows End is end.0))
 end_owed N P files r rows h (Answer.Limit which) sb ob on is le write end = inl (sym (file_end files r rows (Limit which) is end.0))
 end_owed N P files r rows h (Answer.BadSample line) sb ob on is le write end = inl (sym (file_end files r rows (BadSample line) is end.0))
 end_owed N P files r rows h Answer.WriteFault sb ob on is le write end = inr (inr (inl (refl, write refl)))
-end_owed N P files r rows h Answer.ReadFault sb ob on is le write end = elim (subst (λ (t : Told). HasReadCause t r.name r.start.faults r.now.faults) is end.0.cause) as (λ k. IsOwed (λ o. o ≡ samples_verdict r.conf.inputs (files r.name)) sb r.now.faults ob on Answer.ReadFault) [
-  | inl missing ↦ inl (sym (ap (λ (o : Option (List ℕ)). samples_verdict r.conf.inputs o) missing))
+end_owed N P files r rows h Answer.ReadFault sb ob on is le write end = elim (subst (λ (t : Told). HasReadCause t r.name r.start.faults r.now.faults) is end.0.cause) as (λ k. IsOwed (λ o. o ≡ samples_verdict r.most r.conf.inputs (files r.name)) sb r.now.faults ob on Answer.ReadFault) [
+  | inl missing ↦ inl (sym (ap (λ (o : Option (List ℕ)). samples_verdict r.most r.conf.inputs o) missing))
   | inr rose ↦ inr (inl (refl, rose_earlier sb r.start.faults r.now.faults le rose))
 ]
 end_owed N P files r rows h a sb ob on is le write end = absurd end
 
 -- ---- the verdict
 -- the stall text and the samples decide where the source gives a configuration
-last_owed : (files : List ℕ → Option (List ℕ)) (j : Job) (N P : ℕ) (c : Shape) (sb sn ob on : ℕ) (a : Answer) → Gives (Some files) j.source N P c
-    → IsOwed (λ o. o ≡ after_stall files j.stall (samples_verdict c.inputs (files j.second))) sb sn ob on a → IsOwed (IsRunVerdict files j) sb sn ob on a
+pub last_owed : (files : List ℕ → Option (List ℕ)) (j : Job) (N P : ℕ) (c : Shape) (sb sn ob on : ℕ) (a : Answer) → Gives (Some files) j.source N P c
+    → IsOwed (λ o. o ≡ after_stall files j.stall (samples_verdict (most_in j.source) c.inputs (files j.second))) sb sn ob on a → IsOwed (IsRunVerdict files j) sb sn ob on a
 last_owed files j N P c sb sn ob on a gives owed =
-    owed_by (λ o. o ≡ after_stall files j.stall (samples_verdict c.inputs (files j.second))) (IsRunVerdict files j) sb sn ob on a (λ is. inr (record { N = N; P = P; conf = c; gives = gives; last = is })) owed
+    owed_by (λ o. o ≡ after_stall files j.stall (samples_verdict (most_in j.source) c.inputs (files j.second))) (IsRunVerdict files j) sb sn ob on a (λ is. inr (record { N = N; P = P; conf = c; gives = gives; last = is })) owed
 
 ran_owed : {N P : ℕ} (files : List ℕ → Option (List ℕ)) (j : Job) (k : Call) (machine : Going N P) (a : Answer) → k.before.told ≡ Some files → HasRan j k machine a → IsOwed (IsRunVerdict files j) k.before.faults k.now.faults k.out_before k.out_now a
 ran_owed {N} {P} files j k machine a told has =
     let run = has.run in
-    let stall : after_stall files j.stall (samples_verdict has.conf.inputs (files j.second)) ≡ samples_verdict has.conf.inputs (files j.second) =
+    let stall : after_stall files j.stall (samples_verdict (most_in j.source) has.conf.inputs (files j.second)) ≡ samples_verdict (most_in j.source) has.conf.inputs (files j.second) =
     passes_stall files j.stall run.turns _ (subst (λ (t : Told). HasStall t j.stall run.turns) told run.stall) in
     last_owed files j N P has.conf k.before.faults k.now.faults k.out_before k.out_now a (subst (λ (t : Told). Gives t j.source N P has.conf) told has.gives)
     (subst (λ (v : Answer). IsOwed (λ o. o ≡ v) k.before.faults k.now.faults k.out_before k.out_now a) (sym stall)
-    (end_owed N P files (course has.conf j.stripes run.turns j.log j.second run.start k.now k.old k.new) run.run.rows run.run.history a k.before.faults k.out_before k.out_now (run.later.told ∙ told) run.later.faults has.write_fault run.run.end))
+    (end_owed N P files (course has.conf j.stripes run.turns j.log (most_in j.source) j.second run.start k.now k.old k.new) run.run.rows run.run.history a k.before.faults k.out_before k.out_now (run.later.told ∙ told) run.later.faults has.write_fault run.run.end))
 
-refused_owed : (files : List ℕ → Option (List ℕ)) (j : Job) (k : Call) (a : Answer) → k.before.told ≡ Some files → IsRunRefusal j k.before k.now a → IsOwed (IsRunVerdict files j) k.before.faults k.now.faults k.out_before k.out_now a
+pub refused_owed : (files : List ℕ → Option (List ℕ)) (j : Job) (k : Call) (a : Answer) → k.before.told ≡ Some files → IsRunRefusal j k.before k.now a → IsOwed (IsRunVerdict files j) k.before.faults k.now.faults k.out_before k.out_now a
 refused_owed files j k a told (inl source) =
     owed_by (IsRefusedSource files j.source) (IsRunVerdict files j) k.before.faults k.now.faults k.out_before k.out_now a inl
     (source_owed files j.source k.before.faults k.now.faults k.out_before k.out_now a (subst (λ (t : Told). IsSourceRefusal t j.source k.before.faults k.now.faults a) told source))
 refused_owed files j k a told (inr (inl stall)) =
     let good = subst (λ (t : Told). IsGood t j.source) told stall.0 in
     last_owed files j good.N good.P good.conf k.before.faults k.now.faults k.out_before k.out_now a good.gives
-    (stall_owed files j.stall (samples_verdict good.conf.inputs (files j.second)) k.before.faults k.now.faults k.out_before k.out_now a (subst (λ (t : Told). IsStallRefusal t j.stall k.before.faults k.now.faults a) told stall.1))
+    (stall_owed files j.stall (samples_verdict (most_in j.source) good.conf.inputs (files j.second)) k.before.faults k.now.faults k.out_before k.out_now a (subst (λ (t : Told). IsStallRefusal t j.stall k.before.faults k.now.faults a) told stall.1))
 refused_owed files j k a told (inr (inr memory)) = inr (inr (inr memory))
 
 -- over told files a run owes its verdict
@@ -182,7 +189,7 @@ one_run files j a b (inl is) (inl by) = one_source files j.source a b is by
 one_run files j a b (inl is) (inr by) = absurd (never_source files j.source a by.N by.P by.conf by.gives is)
 one_run files j a b (inr is) (inl by) = absurd (never_source files j.source b is.N is.P is.conf is.gives by)
 one_run files j a b (inr is) (inr by) =
-    is.last ∙ (ap (λ (c : Shape). after_stall files j.stall (samples_verdict c.inputs (files j.second))) (one_conf files j.source is.N is.P by.N by.P is.conf by.conf is.gives by.gives) ∙ sym by.last)
+    is.last ∙ (ap (λ (c : Shape). after_stall files j.stall (samples_verdict (most_in j.source) c.inputs (files j.second))) (one_conf files j.source is.N is.P by.N by.P is.conf by.conf is.gives by.gives) ∙ sym by.last)
 
 -- ---- single answers
 -- where no file is told, a read that failed was a fault of the outside
@@ -211,7 +218,7 @@ refusal_is j k a (inr (inr memory)) = inr (inr memory)
 ran_fault : {N P : ℕ} (j : Job) (k : Call) (machine : Going N P) (a : Answer) → HasRan j k machine a → a ≡ Answer.ReadFault → k.before.told ≡ None → Rose k.before.faults k.now.faults
 ran_fault {N} {P} j k machine a has is untold =
     let run = has.run in
-    let end = subst (λ (o : Answer). IsEnd N P (course has.conf j.stripes run.turns j.log j.second run.start k.now k.old k.new) run.run.rows run.run.history o) is run.run.end in
+    let end = subst (λ (o : Answer). IsEnd N P (course has.conf j.stripes run.turns j.log (most_in j.source) j.second run.start k.now k.old k.new) run.run.rows run.run.history o) is run.run.end in
     rose_earlier k.before.faults run.start.faults k.now.faults run.later.faults (untold_rose run.start.told j.second run.start.faults k.now.faults end.0.cause (run.later.told ∙ untold))
 
 pub run_fault : (j : Job) (k : Call) (was bench : Bench) (a : Answer) → HasCome j k was bench a → a ≡ Answer.ReadFault → k.before.told ≡ None → Rose k.before.faults k.now.faults
@@ -224,7 +231,7 @@ run_fault j k was Bench.Nothing a (inr has) is untold = absurd has
 ran_not : {N P : ℕ} (j : Job) (k : Call) (machine : Going N P) (a b : Answer) → ((r : Course) (rows : List (List ℕ)) (h : History) → IsEnd N P r rows h b → ⊥) → HasRan j k machine a → a ≡ b → ⊥
 ran_not {N} {P} j k machine a b never has is =
     let run = has.run in
-    let r = course has.conf j.stripes run.turns j.log j.second run.start k.now k.old k.new in
+    let r = course has.conf j.stripes run.turns j.log (most_in j.source) j.second run.start k.now k.old k.new in
     never r run.run.rows run.run.history (subst (λ (o : Answer). IsEnd N P r run.run.rows run.run.history o) is run.run.end)
 
 pub run_memory : (j : Job) (k : Call) (was bench : Bench) (a : Answer) → HasCome j k was bench a → a ≡ Answer.Memory → (k.new ≡ k.old) × (bench ≡ was)

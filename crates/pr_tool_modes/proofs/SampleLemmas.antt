@@ -26,7 +26,7 @@ use Rattle.pr_source.proofs.Latest.{rows_of-more}
 use Rattle.pr_lang.specs.declared.trees.Program.{Program}
 use Rattle.pr_tool_modes.specs.Files.{IsText, IsLong}
 use Rattle.pr_tool_modes.specs.Programs.{inputs_of}
-use Rattle.pr_tool_modes.specs.Samples.{fed_in}
+use Rattle.pr_tool_modes.specs.Samples.{fed_at_most, fed_in}
 use Rattle.pr_tool_modes.specs.Evaluations.{EndsBy, AreFed, AreAll, IsShortFeed, HasEvaluated, HasLines}
 
 -- ---- samples
@@ -172,7 +172,7 @@ some_file (Some files) name tail bytes told there = elim (files name) as (λ o. 
 
 -- the samples of a file that has no more bytes than are allowed
 pub short_samples : (widths : List ℕ) (f : Feed) (file : List ℕ) → IsShortFeed widths f → length file ≤ 16777216 → fed f file ≡ fed_in widths file
-unfolding fed_in
+unfolding fed_at_most
 short_samples widths f file is short =
     let below : nat_lt 16777216 (length file) ≡ false = grind (arith, nat_tests) in
     let above : nat_lt (2 ^ 44) (length file) ≡ false = grind (arith, nat_tests) in

@@ -14,7 +14,7 @@ use Rattle.pr_tool_modes.specs.declared.loadables.Loadable.{Loadable}
 use Rattle.pr_tool_modes.specs.Jobs.{Job, IsNoStall, IsNeither}
 use Rattle.pr_tool_modes.specs.Runs.{course, IsRun}
 use Rattle.pr_tool_modes.specs.Samples.{samples_verdict}
-use Rattle.pr_tool_modes.specs.Sources.{Gives, IsGood, IsSourceRefusal, IsRefusedSource}
+use Rattle.pr_tool_modes.specs.Sources.{most_in, Gives, IsGood, IsSourceRefusal, IsRefusedSource}
 use Rattle.pr_tool_modes.specs.Stalls.{HasStall, IsStallRefusal, after_stall}
 
 -- between the two only files of other names than these were read
@@ -29,7 +29,7 @@ pub record HasRun {N P : ℕ} (kept : List ℕ → Type 0) (c : Shape) (j : Job)
   pub stall : HasStall before.told j.stall turns
   pub start : View
   pub later : IsLater kept before start
-  pub run : IsRun (course c j.stripes turns j.log j.second start now old new) machine answer
+  pub run : IsRun (course c j.stripes turns j.log (most_in j.source) j.second start now old new) machine answer
 
 -- the stall text is refused, or memory was wanting: nothing is written, the bench is as it was, and no other file was read
 pub record IsHeldBack (j : Job) (k : Call) (was bench : Bench) (answer : Answer) : Type 0 where
@@ -90,7 +90,7 @@ pub record IsLastVerdict (files : List ℕ → Option (List ℕ)) (j : Job) (ans
   pub P : ℕ
   pub conf : Shape
   pub gives : Gives (Some files) j.source N P conf
-  pub last : answer ≡ after_stall files j.stall (samples_verdict conf.inputs (files j.second))
+  pub last : answer ≡ after_stall files j.stall (samples_verdict (most_in j.source) conf.inputs (files j.second))
 
 abbrev pub IsRunVerdict : (List ℕ → Option (List ℕ)) → Job → Answer → Type 0
 IsRunVerdict files j answer = IsRefusedSource files j.source answer ⊎ IsLastVerdict files j answer

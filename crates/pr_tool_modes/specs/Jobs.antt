@@ -2,8 +2,10 @@
 use Rattle.std.specs.Prelude.{◌≢◌, ℕ, Bool, List, Option, Some, option_map}
 use Rattle.pr_tool_modes.specs.declared.jobs.Source.{Source as NamedSource}
 use Rattle.pr_tool_modes.specs.declared.jobs.Source.TheVariants as named
+use Rattle.pr_tool_modes.specs.declared.jobs.Run.{Run}
 use Rattle.pr_tool_modes.specs.declared.jobs.Job.{Job as NamedJob}
-use Rattle.pr_tool_modes.specs.Sources.{Source, File, Text, name_in}
+use Rattle.pr_tool_modes.specs.declared.jobs.Resumption.{Resumption as NamedResumption}
+use Rattle.pr_tool_modes.specs.Sources.{Source, File, Text, Mark, name_in}
 
 -- where the configuration comes from, the names of a file of samples and of a stall file, if there is one, a number of
 -- stripes, and whether the log is asked for
@@ -16,6 +18,18 @@ pub record Job : Type 0 where
 
 abbrev pub job : Source → List ℕ → Option (List ℕ) → ℕ → Bool → Job
 job source second stall stripes log = record { source = source; second = second; stall = stall; stripes = stripes; log = log }
+
+-- the name of a checkpoint, and what is done of a job when a run goes on from it
+pub record Resumption : Type 0 where
+  pub name : List ℕ
+  pub second : List ℕ
+  pub stall : Option (List ℕ)
+  pub stripes : ℕ
+  pub log : Bool
+
+-- the job, where the checkpoint is one after so many samples
+abbrev pub resumed : Resumption → ℕ → Job
+resumed r count = job (Mark r.name count) r.second r.stall r.stripes r.log
 
 -- the name of the file from which the configuration comes
 abbrev pub first_of : Job → List ℕ
@@ -34,5 +48,20 @@ abbrev pub source_of : NamedSource → Source
 source_of (named.File name) = File name.now
 source_of (named.Program name target) = Text name.now target
 
+abbrev pub stall_in : Run → Option (List ℕ)
+stall_in r = option_map (λ s. s.now) r.stall
+
+abbrev pub job_on : Source → Run → Job
+job_on source r = job source r.samples.now (stall_in r) r.stripes r.log
+
 abbrev pub job_of : NamedJob → Job
-job_of j = job (source_of j.source) j.samples.now (option_map (λ s. s.now) j.stall) j.stripes j.log
+job_of j = job_on (source_of j.source) j.run
+
+abbrev pub resumption_of : NamedResumption → Resumption
+resumption_of r = record {
+  name = r.checkpoint.now;
+  second = r.run.samples.now;
+  stall = stall_in r.run;
+  stripes = r.run.stripes;
+  log = r.run.log;
+}

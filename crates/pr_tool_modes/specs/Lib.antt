@@ -1,5 +1,6 @@
 pub mod Files
 pub mod Configurations
+pub mod Checkpoints
 pub mod Programs
 pub mod Sources
 pub mod Jobs
@@ -14,3 +15,5 @@ pub mod Evaluations
 pub mod Lines
 pub mod Generations
 pub mod Behaviours
+pub mod Resumptions
+pub mod Folds

@@ -19,8 +19,8 @@ use Rattle.pr_tool_modes.specs.Calls.{Call}
 use Rattle.pr_tool_modes.specs.Jobs.{Job, first_of, IsNeither}
 use Rattle.pr_tool_modes.specs.Programs.{inputs_of, HasProgram}
 use Rattle.pr_tool_modes.specs.Runs.{ends_well}
-use Rattle.pr_tool_modes.specs.Samples.{fed_in, fed_to, fed_whole, pieces}
-use Rattle.pr_tool_modes.specs.Sources.{Gives}
+use Rattle.pr_tool_modes.specs.Samples.{fed_at_most, fed_to, fed_whole, pieces}
+use Rattle.pr_tool_modes.specs.Sources.{most_in, Gives}
 use Rattle.pr_tool_modes.specs.Stalls.{HasStall}
 
 -- by the answer: all lines are written, and the samples end so; a read failed; a write failed; or nothing was to be written
@@ -92,29 +92,29 @@ OnBench Is (Bench.Wide machine) = Is 32 16 machine
 -- all samples of the file were fed, and they end so; `further` says more of the widths, the samples and what is put of them
 pub record IsWholeRun (further : List ℕ → List (List ℕ) → (List ℕ → Type 0) → Type 0) (files : List ℕ → Option (List ℕ)) (j : Job) (file : List ℕ) (k : Call) (bench : Bench) (ending : Ending) : Type 0 where
   pub widths : List ℕ
-  pub ends : (fed_in widths file).ending ≡ ending
-  pub ran : OnBench (λ N P machine. HasRunOn files j k widths (fed_in widths file).samples (ends_well ending) machine) bench
-  pub means : further widths (fed_in widths file).samples (Appends k.old k.new)
+  pub ends : (fed_at_most (most_in j.source) widths file).ending ≡ ending
+  pub ran : OnBench (λ N P machine. HasRunOn files j k widths (fed_at_most (most_in j.source) widths file).samples (ends_well ending) machine) bench
+  pub means : further widths (fed_at_most (most_in j.source) widths file).samples (Appends k.old k.new)
 
 -- a read failed after these samples, the first of the file. Where the file was read from its beginning and in the run alone,
 -- they are those of the lines that stand with their LF in the bytes that were reached
 pub record IsReadRun (further : List ℕ → List (List ℕ) → (List ℕ → Type 0) → Type 0) (files : List ℕ → Option (List ℕ)) (j : Job) (file : List ℕ) (k : Call) (bench : Bench) : Type 0 where
   pub widths : List ℕ
   pub rows : List (List ℕ)
-  pub first : rows ≡ take (length rows) (fed_in widths file).samples
+  pub first : rows ≡ take (length rows) (fed_at_most (most_in j.source) widths file).samples
   pub ran : OnBench (λ N P machine. HasRunOn files j k widths rows false machine) bench
   pub means : further widths rows (Appends k.old k.new)
   pub reached : (reach : ℕ) → files j.second ≡ Some file → IsNeither j j.second → k.before.reach j.second ≡ Some 0 → k.now.reach j.second ≡ Some reach
-      → length rows ≡ length (fed_to widths file reach).samples
+      → length rows ≡ length (fed_to (most_in j.source) widths file reach).samples
 
 -- a write failed after these samples, the first of the file
 pub record IsCutRun (further : List ℕ → List (List ℕ) → (List ℕ → Type 0) → Type 0) (files : List ℕ → Option (List ℕ)) (j : Job) (file : List ℕ) (k : Call) (bench : Bench) : Type 0 where
   pub widths : List ℕ
   pub rows : List (List ℕ)
-  pub first : rows ≡ take (length rows) (fed_in widths file).samples
+  pub first : rows ≡ take (length rows) (fed_at_most (most_in j.source) widths file).samples
   pub ran : OnBench (λ N P machine. HasBegunOn files j k widths rows machine) bench
   pub means : further widths rows (AppendsFront k.old k.new)
-  pub all : further widths (fed_in widths file).samples (AppendsFront k.old k.new)
+  pub all : further widths (fed_at_most (most_in j.source) widths file).samples (AppendsFront k.old k.new)
 
 -- no run was begun: nothing is written, and the bench is as it was
 pub record IsNoRun (k : Call) (was bench : Bench) : Type 0 where

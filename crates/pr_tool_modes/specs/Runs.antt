@@ -15,7 +15,7 @@ use Rattle.pr_run.specs.declared.ending.RunEnd.{RunEnd}
 use Rattle.pr_run.specs.Setting.{View}
 use Rattle.pr_run.specs.Turns.{Going}
 use Rattle.pr_tool_answers.specs.declared.answers.Answer.{Answer}
-use Rattle.pr_tool_modes.specs.Samples.{fed_in, fed_to, pieces}
+use Rattle.pr_tool_modes.specs.Samples.{fed_at_most, fed_to, pieces}
 
 abbrev pub answer_by : RunEnd → Answer
 answer_by (RunEnd.Done cycles stalls results) = Answer.Ok
@@ -24,25 +24,27 @@ answer_by RunEnd.ReadFault = Answer.ReadFault
 answer_by RunEnd.WriteFault = Answer.WriteFault
 answer_by (RunEnd.Limit cap) = Answer.Limit cap
 
--- a configuration on stripes under the turns of a stall text, with the log or without it, the name of a file of samples, what
--- the shelf shows as the run begins and when it is over, and what the sink tells then
+-- a configuration on stripes under the turns of a stall text, with the log or without it, how many samples are fed at most, the
+-- name of their file, what the shelf shows as the run begins and when it is over, and what the sink tells then
 pub record Course : Type 0 where
   pub conf : Shape
   pub stripes : ℕ
   pub turns : List Held
   pub log : Bool
+  pub most : ℕ
   pub name : List ℕ
   pub start : View
   pub now : View
   pub old : Tape
   pub new : Tape
 
-abbrev pub course : Shape → ℕ → List Held → Bool → List ℕ → View → View → Tape → Tape → Course
-course c p turns log name start now old new = record {
+abbrev pub course : Shape → ℕ → List Held → Bool → ℕ → List ℕ → View → View → Tape → Tape → Course
+course c p turns log most name start now old new = record {
   conf = c;
   stripes = p;
   turns = turns;
   log = log;
+  most = most;
   name = name;
   start = start;
   now = now;
@@ -70,8 +72,8 @@ ends_well ending = false
 -- the file is not told to be missing, and where it is told these are all its samples, and they end so
 pub record HasAll (r : Course) (rows : List (List ℕ)) (ending : Ending) : Type 0 where
   pub there : IsMissing r.start.told r.name → ⊥
-  pub all : (file : List ℕ) → Tells r.start.told r.name file → rows ≡ (fed_in r.conf.inputs file).samples
-  pub ends : (file : List ℕ) → Tells r.start.told r.name file → (fed_in r.conf.inputs file).ending ≡ ending
+  pub all : (file : List ℕ) → Tells r.start.told r.name file → rows ≡ (fed_at_most r.most r.conf.inputs file).samples
+  pub ends : (file : List ℕ) → Tells r.start.told r.name file → (fed_at_most r.most r.conf.inputs file).ending ≡ ending
 
 -- the machine was asked all events of a run on these samples, and their lines are written
 pub record IsWhole (N P : ℕ) (r : Course) (rows : List (List ℕ)) (history : History) (good : Bool) : Type 0 where
@@ -84,7 +86,7 @@ pub record IsWhole (N P : ℕ) (r : Course) (rows : List (List ℕ)) (history : 
 pub record IsBroken (r : Course) (rows : List (List ℕ)) : Type 0 where
   pub cause : HasReadCause r.start.told r.name r.start.faults r.now.faults
   pub reached : (reach : ℕ) → r.start.reach r.name ≡ Some 0 → r.now.reach r.name ≡ Some reach → (file : List ℕ) → Tells r.start.told r.name file
-      → length rows ≡ length (fed_to r.conf.inputs file reach).samples
+      → length rows ≡ length (fed_to r.most r.conf.inputs file reach).samples
 
 -- what was done is the beginning of a run on these samples
 pub record IsBegun (N P : ℕ) (r : Course) (rows : List (List ℕ)) (history : History) (good : Bool) : Type 0 where
@@ -101,7 +103,7 @@ pub record IsStopped (N P : ℕ) (r : Course) (rows : List (List ℕ)) (history 
   pub over : closing ≡ true → history ≡ events_on r rows
   pub begun : IsBegun N P r rows history true
   pub all : HasReadCause r.start.told r.name r.start.faults r.now.faults
-      ⊎ ((file : List ℕ) → Tells r.start.told r.name file → IsBegun N P r (fed_in r.conf.inputs file).samples history (ends_well (fed_in r.conf.inputs file).ending))
+      ⊎ ((file : List ℕ) → Tells r.start.told r.name file → IsBegun N P r (fed_at_most r.most r.conf.inputs file).samples history (ends_well (fed_at_most r.most r.conf.inputs file).ending))
 
 -- what an answer says
 abbrev pub IsEnd : ℕ → ℕ → Course → List (List ℕ) → History → Answer → Type 0
@@ -118,7 +120,7 @@ pub record IsRun {N P : ℕ} (r : Course) (machine : Going N P) (answer : Answer
   pub rows : List (List ℕ)
   pub history : History
   pub stands : Stands machine r.conf r.stripes history
-  pub first : (file : List ℕ) → Tells r.start.told r.name file → rows ≡ take (length rows) (fed_in r.conf.inputs file).samples
+  pub first : (file : List ℕ) → Tells r.start.told r.name file → rows ≡ take (length rows) (fed_at_most r.most r.conf.inputs file).samples
   pub unread : IsMissing r.start.told r.name → rows ≡ []
   pub cycles : cycles_in history ≤ most_cycles (length r.conf.stages) r.stripes r.turns (length rows)
   pub end : IsEnd N P r rows history answer

@@ -1,5 +1,5 @@
--- Where a configuration comes from: a configuration file, or the file of a program that is compiled.
-use Rattle.std.specs.Prelude.{◌≡◌, ℕ, List, Option}
+-- Where a configuration comes from: a configuration file, the file of a program that is compiled, or a checkpoint.
+use Rattle.std.specs.Prelude.{◌≡◌, ◌-◌, ◌^◌, ℕ, List, Option}
 use Rattle.pr_base.specs.declared.caps.Cap.{Cap}
 use Rattle.pr_edge.specs.Files.{Told}
 use Rattle.pr_conf.specs.Shape.{Shape}
@@ -11,15 +11,29 @@ use Rattle.pr_tool_modes.specs.declared.targets.Target.{Target}
 use Rattle.pr_tool_modes.specs.declared.loadables.Loadable.{Loadable}
 use Rattle.pr_tool_modes.specs.Files.{IsFileRefusal, IsRefusedFile}
 use Rattle.pr_tool_modes.specs.Configurations.{HasConfiguration, IsBadConfiguration}
+use Rattle.pr_tool_modes.specs.Checkpoints.{HasMark, IsBadMark}
 use Rattle.pr_tool_modes.specs.Programs.{HasCompiled, IsUncompiled}
 
+-- a configuration file; a program that is compiled; a checkpoint after so many samples
 pub data Source : Type 0 where
   File : (name : List ℕ) → Source
   Text : (name : List ℕ) (target : Target) → Source
+  Mark : (name : List ℕ) (count : ℕ) → Source
 
 abbrev pub name_in : Source → List ℕ
 name_in (File name) = name
 name_in (Text name target) = name
+name_in (Mark name count) = name
+
+-- how many samples came before
+abbrev pub count_in : Source → ℕ
+count_in (File name) = 0
+count_in (Text name target) = 0
+count_in (Mark name count) = count
+
+-- how many may follow
+abbrev pub most_in : Source → ℕ
+most_in source = 2 ^ 40 - count_in source
 
 -- ---- fabrics
 abbrev pub columns : Fabric → ℕ
@@ -59,6 +73,7 @@ pub record IsOnFabric (told : Told) (name : List ℕ) (target : Target) (N P : �
 abbrev pub Gives : Told → Source → ℕ → ℕ → Shape → Type 0
 Gives told (File name) N P conf = HasConfiguration told name N P conf
 Gives told (Text name target) N P conf = IsOnFabric told name target N P conf
+Gives told (Mark name count) N P conf = HasMark told name N P count conf
 
 -- the source gives a configuration
 pub record IsGood (told : Told) (source : Source) : Type 0 where
@@ -71,8 +86,10 @@ pub record IsGood (told : Told) (source : Source) : Type 0 where
 abbrev pub IsSourceRefusal : Told → Source → ℕ → ℕ → Answer → Type 0
 IsSourceRefusal told (File name) before now answer = IsFileRefusal 16777216 Cap.ConfigBytes IsBadConfiguration told name before now answer
 IsSourceRefusal told (Text name target) before now answer = IsFileRefusal 1048576 Cap.ProgramBytes (IsUncompiled (columns target.fabric) (registers target.fabric) target.narrowed) told name before now answer
+IsSourceRefusal told (Mark name count) before now answer = IsFileRefusal 16777216 Cap.ConfigBytes IsBadMark told name before now answer
 
 -- by the files alone
 abbrev pub IsRefusedSource : (List ℕ → Option (List ℕ)) → Source → Answer → Type 0
 IsRefusedSource files (File name) answer = IsRefusedFile 16777216 Cap.ConfigBytes IsBadConfiguration files name answer
 IsRefusedSource files (Text name target) answer = IsRefusedFile 1048576 Cap.ProgramBytes (IsUncompiled (columns target.fabric) (registers target.fabric) target.narrowed) files name answer
+IsRefusedSource files (Mark name count) answer = IsRefusedFile 16777216 Cap.ConfigBytes IsBadMark files name answer

@@ -1,16 +1,17 @@
 //! A configuration that is run on samples.
-ghost use Rattle.std.specs.Prelude.{◌≡◌, ◌≢◌, ◌≤◌, ◌⊎◌, ℕ, List, Some, IfOk, IfErr, OnErr};
+ghost use Rattle.std.specs.Prelude.{◌≡◌, ◌≢◌, ◌≤◌, ◌^◌, ◌⊎◌, ℕ, List, Some, IfOk, IfErr, OnErr};
 ghost use Rattle.pr_edge.specs.Count.{Rose};
 ghost use Rattle.pr_conf.specs.Configuration.{shape_of};
 ghost use Rattle.pr_run.specs.Setting.{view};
 ghost use Rattle.pr_tool_modes.specs.Calls.{call};
-ghost use Rattle.pr_tool_modes.specs.Jobs.{job_of, IsNoStall, IsNeither};
+ghost use Rattle.pr_tool_modes.specs.Jobs.{job_on, job_of, stall_in, IsNoStall, IsNeither};
+ghost use Rattle.pr_tool_modes.specs.Sources.{Source, count_in};
 ghost use Rattle.pr_tool_modes.specs.Stalls.{IsStallRefusal};
 ghost use Rattle.pr_tool_modes.specs.Executions.{HasRun, IsRunOf, HasCome};
 
 use crate::benches::Bench;
-use crate::jobs::Job;
-use crate::loadables::Loadable;
+use crate::jobs::{Job, Run};
+use crate::loadables::{Loadable, Origin};
 use crate::ready::make_ready;
 use crate::runs::{Over, run_all};
 use crate::sources::load;
@@ -20,36 +21,77 @@ use pr_edge::{Shelf, Sink};
 use pr_tool_answers::Answer;
 use std::alloc::Global;
 
-/// Runs a configuration as the job says, whose stall text is read first, and then the samples as the run asks for them. Where
-/// the stall text is refused, or there is no memory, nothing is written. After the run has begun no memory is taken.
+/// Runs a configuration as it is asked for, where so many samples came before. The stall text is read first, and then the samples
+/// as the run asks for them. Where the stall text is refused, or there is no memory, nothing is written. After the run has begun
+/// no memory is taken.
 fn run_on<const N: usize, const P: usize, S: Shelf, K: Sink>(
     alloc: Global,
     conf: Configuration<N, P>,
-    job: &Job<'_>,
+    before: u64,
+    run: &Run<'_>,
     shelf: &mut S,
     out: &mut K,
 ) -> Result<Over<N, P>, Answer>
-    ensures ran { IfOk result (λ o. HasRun (IsNoStall (job_of job.now)) (shape_of conf.entry) (job_of job.now)
+    requires { before ≤ 2 ^ 40 }
+    ensures ran { (source : Source) → count_in source ≡ before → IfOk result (λ o. HasRun (IsNoStall (job_on source run.now)) (shape_of conf.entry) (job_on source run.now)
         (view (S.told shelf.old) (S.reach shelf.old) (S.faults shelf.old)) (view (S.told shelf.new) (S.reach shelf.new) (S.faults shelf.new))
         (K.told out.old) (K.told out.new) o.machine o.answer) }
-    ensures refused { IfErr result (λ a. IsStallRefusal (S.told shelf.old) (job_of job.now).stall (S.faults shelf.old) (S.faults shelf.new) a ⊎ (a ≡ Answer.Memory)) }
+    ensures refused { IfErr result (λ a. IsStallRefusal (S.told shelf.old) (stall_in run.now) (S.faults shelf.old) (S.faults shelf.new) a ⊎ (a ≡ Answer.Memory)) }
     ensures unwritten { OnErr result (K.told out.new ≡ K.told out.old) }
-    ensures unread { OnErr result ((q : List ℕ) → IsNoStall (job_of job.now) q → S.reach shelf.new q ≡ S.reach shelf.old q) }
+    ensures unread { OnErr result ((q : List ℕ) → stall_in run.now ≢ Some q → S.reach shelf.new q ≡ S.reach shelf.old q) }
     ensures write_fault { IfOk result (λ o. o.answer ≡ Answer.WriteFault → Rose (K.faults out.old) (K.faults out.new)) }
     ensures told { S.told shelf.new ≡ S.told shelf.old }
-    ensures others { (q : List ℕ) → q ≢ (job_of job.now).second → IsNoStall (job_of job.now) q → S.reach shelf.new q ≡ S.reach shelf.old q }
+    ensures others { (q : List ℕ) → q ≢ run.now.samples.now → stall_in run.now ≢ Some q → S.reach shelf.new q ≡ S.reach shelf.old q }
     ensures shelf_later { S.faults shelf.old ≤ S.faults shelf.new }
     ensures out_later { K.faults out.old ≤ K.faults out.new }
 {
-    let stall = match read_stall(alloc, shelf, job.stall) {
+    let stall = match read_stall(alloc, shelf, run.stall) {
         Ok(stall) => stall,
         Err(answer) => return Err(answer),
     };
-    let ready = match make_ready(alloc, conf, job.stripes, job.samples, stall) {
+    let ready = match make_ready(alloc, conf, before, run, stall) {
         Ok(ready) => ready,
         Err(_) => return Err(Answer::Memory),
     };
-    Ok(run_all(ready, job.log, shelf, out))
+    Ok(run_all(ready, run.log, shelf, out))
+}
+
+/// Runs a configuration as it is asked for, on the fabric that it is for, and leaves the machine on the bench. Where the stall text
+/// is refused, or there is no memory, nothing is written and the bench is as it was.
+pub fn run_from<S: Shelf, K: Sink>(
+    alloc: Global,
+    origin: Origin,
+    run: &Run<'_>,
+    shelf: &mut S,
+    out: &mut K,
+    bench: &mut Bench,
+) -> Answer
+    // Whatever the source that the configuration comes from.
+    ensures ended { (source : Source) → count_in source ≡ origin.before → IsRunOf origin.conf (job_on source run.now) (call
+        (view (S.told shelf.old) (S.reach shelf.old) (S.faults shelf.old)) (view (S.told shelf.new) (S.reach shelf.new) (S.faults shelf.new))
+        (K.told out.old) (K.told out.new) (K.faults out.old) (K.faults out.new)) bench.old bench.new result }
+    ensures told { S.told shelf.new ≡ S.told shelf.old }
+    ensures others { (q : List ℕ) → q ≢ run.now.samples.now → stall_in run.now ≢ Some q → S.reach shelf.new q ≡ S.reach shelf.old q }
+    ensures shelf_later { S.faults shelf.old ≤ S.faults shelf.new }
+    ensures out_later { K.faults out.old ≤ K.faults out.new }
+{
+    let Origin { conf, before } = origin;
+    match conf {
+        Loadable::Base(conf) => match run_on(alloc, conf, before, run, shelf, out) {
+            Err(answer) => answer,
+            Ok(Over { answer, machine }) => {
+                *bench = Bench::Base(machine);
+                answer
+            }
+        },
+        Loadable::Wide(conf) => match run_on(alloc, conf, before, run, shelf, out) {
+            Err(answer) => answer,
+            Ok(Over { answer, machine }) => {
+                *bench = Bench::Wide(machine);
+                answer
+            }
+        },
+    }
 }
 
 /// Runs a configuration as the job says, on the fabric that it is for, and leaves the machine on the bench. Where the stall text
@@ -70,22 +112,11 @@ pub fn run_loaded<S: Shelf, K: Sink>(
     ensures shelf_later { S.faults shelf.old ≤ S.faults shelf.new }
     ensures out_later { K.faults out.old ≤ K.faults out.new }
 {
-    match loaded {
-        Loadable::Base(conf) => match run_on(alloc, conf, job, shelf, out) {
-            Err(answer) => answer,
-            Ok(Over { answer, machine }) => {
-                *bench = Bench::Base(machine);
-                answer
-            }
-        },
-        Loadable::Wide(conf) => match run_on(alloc, conf, job, shelf, out) {
-            Err(answer) => answer,
-            Ok(Over { answer, machine }) => {
-                *bench = Bench::Wide(machine);
-                answer
-            }
-        },
-    }
+    let origin = Origin {
+        conf: loaded,
+        before: 0,
+    };
+    run_from(alloc, origin, &job.run, shelf, out, bench)
 }
 
 /// Runs the configuration of a source on the samples of a file, on so many stripes, under the stall file where there is one.

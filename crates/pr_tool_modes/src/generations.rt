@@ -9,7 +9,7 @@ ghost use Rattle.pr_tool_modes.specs.Generations.{generation_of, job_for, genera
 
 use crate::benches::Bench;
 use crate::executions::run_loaded;
-use crate::jobs::{Generation, Job, Source};
+use crate::jobs::{Generation, Job, Run, Source};
 use crate::programs::compile_file;
 use itoa::Buffer;
 use pr_edge::{MemSink, Sink, SureShelf, write_all};
@@ -43,10 +43,12 @@ fn job_of(generation: &Generation) -> Job<'static>
             name: PROGRAM,
             target: generation.target,
         },
-        samples: SAMPLES,
-        stall: None,
-        stripes: generation.stripes,
-        log: false,
+        run: Run {
+            samples: SAMPLES,
+            stall: None,
+            stripes: generation.stripes,
+            log: false,
+        },
     }
 }
 

@@ -20,11 +20,9 @@ pub enum Source<'a> {
     },
 }
 
-/// What a run is asked to do.
+/// On what a configuration is run, and how.
 #[derive(Clone, Copy, PartialEq, Eq, Debug)]
-pub struct Job<'a> {
-    /// Where the configuration comes from.
-    pub source: Source<'a>,
+pub struct Run<'a> {
     /// The name of the file of samples.
     pub samples: &'a str,
     /// The name of the stall file, where there is one.
@@ -35,6 +33,24 @@ pub struct Job<'a> {
     pub log: bool,
     ghost least: { 2 ≤ stripes },
     ghost greatest: { stripes ≤ 256 },
+}
+
+/// What a run is asked to do.
+#[derive(Clone, Copy, PartialEq, Eq, Debug)]
+pub struct Job<'a> {
+    /// Where the configuration comes from.
+    pub source: Source<'a>,
+    /// The samples, and how they are run.
+    pub run: Run<'a>,
+}
+
+/// What a run is asked to do that goes on from a checkpoint.
+#[derive(Clone, Copy, PartialEq, Eq, Debug)]
+pub struct Resumption<'a> {
+    /// The name of the file of the checkpoint.
+    pub checkpoint: &'a str,
+    /// The further samples, and how they are run.
+    pub run: Run<'a>,
 }
 
 /// A program that is to be generated and run.

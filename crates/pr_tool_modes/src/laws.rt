@@ -1,6 +1,9 @@
 //! Laws of verdicts.
 
-ghost use Rattle.std.specs.Prelude.{◌≡◌, ℕ, List, Option, Some};
+ghost use Rattle.std.specs.Prelude.{◌≡◌, ◌+◌, ◌++◌, ℕ, List, All, length, Option, Some};
+ghost use Rattle.pr_base.specs.Rows.{IsRow};
+ghost use Rattle.pr_conf.specs.Shape.{Shape};
+ghost use Rattle.pr_conf.specs.After.{conf_after};
 ghost use Rattle.pr_edge.specs.Tape.{Appends};
 ghost use Rattle.pr_lang.specs.declared.trees.Program.{Program};
 ghost use Rattle.pr_lang_meaning.specs.Programs.{out};
@@ -12,10 +15,13 @@ ghost use Rattle.pr_tool_modes.specs.Behaviours.{from_source, IsKept};
 ghost use Rattle.pr_tool_modes.specs.Calls.{Call};
 ghost use Rattle.pr_tool_modes.specs.Evaluations.{IsEvalVerdict};
 ghost use Rattle.pr_tool_modes.specs.Executions.{IsRunVerdict};
+ghost use Rattle.pr_tool_modes.specs.Folds.{mark_after};
 ghost use Rattle.pr_tool_modes.specs.Jobs.{Job};
 ghost use Rattle.pr_tool_modes.specs.Lines.{IsWholeRun, MeansLines, NoMore};
 ghost use Rattle.pr_tool_modes.specs.Programs.{HasProgram};
-ghost use Rattle.pr_tool_modes.specs.Sources.{Source, File, Text, Gives};
+ghost use Rattle.pr_tool_modes.specs.Resumptions.{GoesOn, IsMarkKept};
+ghost use Rattle.pr_tool_modes.specs.Samples.{pieces};
+ghost use Rattle.pr_tool_modes.specs.Sources.{Source, File, Text, Mark, Gives};
 ghost use Rattle.pr_tool_modes.specs.Texts.{IsTextVerdict};
 
 /// The files settle what a mode is to come to: each mode has one verdict at most. The programs of one file mean the same, so
@@ -40,4 +46,16 @@ pub fn behaviour_law()
         → IsWholeRun (MeansLines files (from_source (Text name target) j)) files (from_source (Text name target) j) samples c one e
         → IsWholeRun NoMore files (from_source (File kept) j) samples d other f
         → (e ≡ f) × ((text : List ℕ) × Appends c.old c.new text × Appends d.old d.new text) }
+{}
+
+/// A program goes on from a checkpoint: its lines on samples that follow others are those of its configuration after these. So
+/// `move` writes the rest of what the program means, by its configuration alone. What is written of a checkpoint is read as it;
+/// and the checkpoint after further samples is the one after all of them, so that a chain of checkpoints is one.
+pub fn moving_law()
+    ensures lines { (files : List ℕ → Option (List ℕ)) (name : List ℕ) (target : Target) (N P : ℕ) (conf : Shape) (xs ys : List (List ℕ)) → Gives (Some files) (Text name target) N P conf
+        → All (IsRow conf.inputs) xs → All (IsRow conf.inputs) ys → GoesOn files name N P conf xs ys }
+    ensures kept { (files : List ℕ → Option (List ℕ)) (name : List ℕ) (target : Target) (rows : List (List ℕ)) (kept : List ℕ) → (k : IsMarkKept files name target rows kept)
+        → Gives (Some files) (Mark kept (length rows)) k.N k.P (conf_after k.N k.P k.conf (pieces k.conf rows)) }
+    ensures chain { (N P before : ℕ) (conf : Shape) (xs ys : List (List ℕ))
+        → mark_after N P (before + length xs) (conf_after N P conf (pieces conf xs)) ys ≡ mark_after N P before conf (xs ++ ys) }
 {}

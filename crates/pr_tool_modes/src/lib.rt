@@ -2,15 +2,18 @@
 #![tactic(auto)]
 
 mod benches;
+mod checkpoints;
 mod configurations;
 mod evaluations;
 mod executions;
 mod files;
+mod folds;
 mod generations;
 mod jobs;
 mod laws;
 mod lines;
 mod loadables;
+mod moves;
 mod programs;
 mod ready;
 mod results;
@@ -24,10 +27,12 @@ pub use benches::Bench;
 pub use evaluations::eval;
 pub use executions::execute;
 pub use files::read_file;
+pub use folds::{extend, fold};
 pub use generations::generate;
-pub use jobs::{Generation, Job, Source};
-pub use laws::{behaviour_law, verdict_law};
-pub use loadables::Loadable;
+pub use jobs::{Generation, Job, Resumption, Run, Source};
+pub use laws::{behaviour_law, moving_law, verdict_law};
+pub use loadables::{Loadable, Origin};
+pub use moves::move_on;
 pub use pr_base::Cap;
 pub use pr_code::Fabric;
 pub use pr_tool_answers::Answer;

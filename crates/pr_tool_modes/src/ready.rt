@@ -1,16 +1,20 @@
 //! What is made before a run.
-ghost use Rattle.std.specs.Prelude.{◌≡◌, ◌≤◌, [], length, IfOk};
+ghost use Rattle.std.specs.Prelude.{◌≡◌, ◌≤◌, ◌-◌, ◌^◌, [], length, IfOk};
 ghost use Rattle.pr_conf.specs.Configuration.{shape_of};
 ghost use Rattle.pr_samples.specs.Stall.{turns_left};
 ghost use Rattle.pr_machine.specs.Stands.{Stands, conf_of, stripes_of};
 ghost use Rattle.pr_run.specs.Setting.{stall_turns};
 ghost use Rattle.pr_tool_modes.specs.Ready.{IsReady, IsFeedOf};
 
+use crate::jobs::Run;
 use pr_conf::Configuration;
 use pr_machine::{Bare, Machine, Running};
 use pr_run::Room;
 use pr_samples::{Feed, Stall};
 use std::alloc::{AllocError, Global};
+
+/// The samples of a run at most, those among them that came before it.
+const MOST: u64 = 1_099_511_627_776;
 
 /// All that a run takes.
 #[derive(Drop)]
@@ -42,35 +46,36 @@ fn load<const N: usize, const P: usize>(
     }
 }
 
-/// The samples of a file, for a machine.
+/// At most so many samples of a file, for a machine.
 fn open_feed<const N: usize, const P: usize>(
     alloc: Global,
     name: &str,
+    most: u64,
     machine: &Machine<N, P, Running>,
 ) -> Result<Feed, AllocError>
-    ensures { IfOk result (λ f. IsFeedOf (conf_of machine.now).inputs name.now f) }
+    requires { most ≤ 2 ^ 40 }
+    ensures { IfOk result (λ f. IsFeedOf most (conf_of machine.now).inputs name.now f) }
 {
-    Feed::make(alloc, name, &machine.conf().inputs)
+    Feed::make_within(alloc, name, &machine.conf().inputs, most)
 }
 
-/// All that a run of a configuration takes, on so many stripes and on the samples of this file.
+/// All that a run of a configuration takes, as it is asked for, where so many samples came before.
 pub fn make_ready<const N: usize, const P: usize>(
     alloc: Global,
     conf: Configuration<N, P>,
-    stripes: usize,
-    samples: &str,
+    before: u64,
+    run: &Run<'_>,
     stall: Stall,
 ) -> Result<Ready<N, P>, AllocError>
-    requires two { 2 ≤ stripes }
-    requires most { stripes ≤ 256 }
+    requires before { before ≤ 2 ^ 40 }
     requires few { length (turns_left stall) ≤ 1048576 }
-    ensures ready { IfOk result (λ r. IsReady r.machine r.feed r.stall samples.now) }
+    ensures ready { IfOk result (λ r. IsReady r.machine r.feed r.stall (2 ^ 40 - before) run.now.samples.now) }
     ensures conf { IfOk result (λ r. conf_of r.machine ≡ shape_of conf.entry) }
-    ensures stripes { IfOk result (λ r. stripes_of r.machine ≡ stripes) }
+    ensures stripes { IfOk result (λ r. stripes_of r.machine ≡ run.now.stripes) }
     ensures turns { IfOk result (λ r. stall_turns r.stall ≡ stall_turns stall) }
 {
-    let machine = load(alloc, conf, stripes)?;
-    let feed = open_feed(alloc, samples, &machine)?;
+    let machine = load(alloc, conf, run.stripes)?;
+    let feed = open_feed(alloc, run.samples, MOST - before, &machine)?;
     let room = Room::make(alloc)?;
     Ok(Ready {
         machine,

@@ -1,7 +1,7 @@
 //! A run, and what it came to.
 ghost use Rattle.std.specs.Prelude.{◌≡◌, ◌≢◌, ◌≤◌, ℕ, List};
 ghost use Rattle.pr_edge.specs.Count.{Rose};
-ghost use Rattle.pr_samples.specs.Feed.{name_of};
+ghost use Rattle.pr_samples.specs.Feed.{name_of, most_of};
 ghost use Rattle.pr_machine.specs.Stands.{conf_of, stripes_of};
 ghost use Rattle.pr_run.specs.Setting.{view, stall_turns};
 ghost use Rattle.pr_tool_modes.specs.Ready.{IsReady};
@@ -42,8 +42,8 @@ pub fn run_all<const N: usize, const P: usize, S: Shelf, K: Sink>(
     shelf: &mut S,
     out: &mut K,
 ) -> Over<N, P>
-    requires { IsReady ready.machine ready.feed ready.stall (name_of ready.feed) }
-    ensures ran { IsRun (course (conf_of ready.entry.machine) (stripes_of ready.entry.machine) (stall_turns ready.entry.stall) log (name_of ready.entry.feed)
+    requires { IsReady ready.machine ready.feed ready.stall (most_of ready.feed) (name_of ready.feed) }
+    ensures ran { IsRun (course (conf_of ready.entry.machine) (stripes_of ready.entry.machine) (stall_turns ready.entry.stall) log (most_of ready.entry.feed) (name_of ready.entry.feed)
         (view (S.told shelf.old) (S.reach shelf.old) (S.faults shelf.old)) (view (S.told shelf.new) (S.reach shelf.new) (S.faults shelf.new))
         (K.told out.old) (K.told out.new)) result.machine result.answer }
     ensures write_fault { result.answer ≡ Answer.WriteFault → Rose (K.faults out.old) (K.faults out.new) }

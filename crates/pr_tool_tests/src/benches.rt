@@ -27,7 +27,7 @@ fn machine_on(bench: &Bench) -> Held {
 
 /// Words of calls that follow one another, the answer to each, and what the bench holds after it. Two samples take four
 /// cycles. A bad first line takes none.
-const CALLS: [(&[&str], Answer, Held); 13] = [
+const CALLS: [(&[&str], Answer, Held); 17] = [
     (&["show", "c"], Answer::Ok, Held::Nothing),
     (&["run", "n", "s"], Answer::ReadFault, Held::Nothing),
     (&["run", "p", "s"], Answer::Ok, Held::Base(4)),
@@ -60,6 +60,14 @@ const CALLS: [(&[&str], Answer, Held); 13] = [
         Answer::Ok,
         Held::Wide(1003),
     ),
+    (&["checkpoint", "p", "s"], Answer::Ok, Held::Wide(1003)),
+    (&["extend", "m", "s"], Answer::Ok, Held::Wide(1003)),
+    (
+        &["move", "c", "s"],
+        Answer::BadConfig { rule: 9, place: 0 },
+        Held::Wide(1003),
+    ),
+    (&["move", "m", "e"], Answer::Ok, Held::Base(0)),
     (
         &["exec", "c", "s", "--fabric", "wide"],
         Answer::Ok,

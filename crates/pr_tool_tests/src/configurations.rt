@@ -122,3 +122,12 @@ pub(crate) fn running_sum(alloc: Global) -> Result<Vec<u8>, AllocError> {
     put(&mut bytes, &RUNNING_SUM)?;
     Ok(bytes)
 }
+
+/// The checkpoint of a configuration file in the newer format after so many samples.
+pub(crate) fn marked(alloc: Global, count: u64, file: &[u8]) -> Result<Vec<u8>, AllocError> {
+    let mut bytes = Vec::new(alloc);
+    put(&mut bytes, &[0x5049_434b])?;
+    bytes.extend_from_slice(&count.to_be_bytes())?;
+    bytes.extend_from_slice(file)?;
+    Ok(bytes)
+}

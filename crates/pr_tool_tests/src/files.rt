@@ -1,7 +1,7 @@
 //! The files of the calls.
 
 use crate::configurations::{
-    BASE, WIDE, XOR as EXCLUSIVE_OR, lengthened, packed, plain, shortened, with_word,
+    BASE, WIDE, XOR as EXCLUSIVE_OR, lengthened, marked, packed, plain, shortened, with_word,
 };
 use std::alloc::{AllocError, Global};
 
@@ -44,6 +44,7 @@ const TEXTS: [(&str, &str); 7] = [
 pub(crate) fn files(alloc: Global) -> Result<Vec<(String, Vec<u8>)>, AllocError> {
     let configurations = vec![in alloc;
         ("c", configuration(alloc)?),
+        ("m", marked(alloc, 2, &configuration(alloc)?)?),
         ("wide", packed(alloc, WIDE, EXCLUSIVE_OR)?),
         ("old", plain(alloc, BASE, 64, EXCLUSIVE_OR)?),
         ("changed", plain(alloc, BASE, 64, 0x77ff_0000)?),

@@ -20,6 +20,8 @@ mod generated;
 #[cfg(test)]
 mod limits;
 #[cfg(test)]
+mod moves;
+#[cfg(test)]
 mod run_faults;
 #[cfg(test)]
 mod streams;

@@ -2,7 +2,7 @@
 ghost use Rattle.std.specs.Prelude.{◌≤◌};
 
 use pr_edge::{MemShelf, MemSink, Shelf, Sink};
-use pr_tool_modes::{Answer, Bench, Job, Source, execute};
+use pr_tool_modes::{Answer, Bench, Job, Run, Source, execute};
 use std::alloc::{AllocError, Global};
 use std::process::Abort;
 
@@ -44,10 +44,12 @@ fn job_of(stall: Option<&str>, stripes: usize) -> Job<'_>
 {
     Job {
         source: Source::File { name: "c" },
-        samples: "s",
-        stall,
-        stripes,
-        log: false,
+        run: Run {
+            samples: "s",
+            stall,
+            stripes,
+            log: false,
+        },
     }
 }
 

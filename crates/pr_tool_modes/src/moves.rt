@@ -1,0 +1,42 @@
+//! Runs that go on from a checkpoint.
+ghost use Rattle.std.specs.Prelude.{◌≡◌, ◌≤◌, ℕ, List};
+ghost use Rattle.pr_run.specs.Setting.{view};
+ghost use Rattle.pr_tool_modes.specs.Calls.{call};
+ghost use Rattle.pr_tool_modes.specs.Jobs.{resumption_of};
+ghost use Rattle.pr_tool_modes.specs.Resumptions.{HasMoved, IsNoFile};
+
+use crate::benches::Bench;
+use crate::checkpoints::read_checkpoint;
+use crate::executions::run_from;
+use crate::jobs::Resumption;
+use pr_edge::{Shelf, Sink};
+use pr_tool_answers::Answer;
+use std::alloc::Global;
+
+/// Runs the configuration of a checkpoint on further samples, on so many stripes, under the stall file where there is one. The line
+/// of each result goes to `out`, and the machine to the bench.
+///
+/// As `execute` does it with a configuration file; only that the samples before and the further ones together are no more than
+/// those of one run.
+pub fn move_on<S: Shelf, K: Sink>(
+    alloc: Global,
+    resumption: &Resumption<'_>,
+    shelf: &mut S,
+    out: &mut K,
+    bench: &mut Bench,
+) -> Answer
+    // What it came to: a refusal before the run, or the run.
+    ensures ended { HasMoved (resumption_of resumption.now) (call
+        (view (S.told shelf.old) (S.reach shelf.old) (S.faults shelf.old)) (view (S.told shelf.new) (S.reach shelf.new) (S.faults shelf.new))
+        (K.told out.old) (K.told out.new) (K.faults out.old) (K.faults out.new)) bench.old bench.new result }
+
+    ensures told { S.told shelf.new ≡ S.told shelf.old }
+    ensures others { (q : List ℕ) → IsNoFile (resumption_of resumption.now) q → S.reach shelf.new q ≡ S.reach shelf.old q }
+    ensures shelf_later { S.faults shelf.old ≤ S.faults shelf.new }
+    ensures out_later { K.faults out.old ≤ K.faults out.new }
+{
+    match read_checkpoint(alloc, shelf, resumption.checkpoint) {
+        Err(answer) => answer,
+        Ok(origin) => run_from(alloc, origin, &resumption.run, shelf, out, bench),
+    }
+}

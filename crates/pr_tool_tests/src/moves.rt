@@ -1,0 +1,186 @@
+//! Runs that are moved by way of checkpoints.
+
+use crate::calls::{Wanted, answer_to, check_call};
+use crate::configurations::{marked, running_sum, shortened, with_word};
+use crate::files::named;
+use crate::trials::repeated;
+use pr_edge::SureSink;
+use pr_tool::{Answer, Cap};
+use std::alloc::{AllocError, Global};
+use std::process::Abort;
+use std::test::Fail;
+
+/// A sum that begins with 250 and is kept from sample to sample.
+const RUNNING_SUM: &str = "input x:8; rec s:8 = 250 by s@1 + x; output y = s;";
+
+/// Sixteen factors, by which the last sixteen samples are multiplied and added up.
+const FILTER: &str = "input x:8;
+const c = [8, 9, 10, 11, 12, 13, 14, 15, 15, 14, 13, 12, 11, 10, 9, 8];
+fn tap(a, k) { return a * k; }
+let s[0]:24 = tap(x, c[0]);
+for i in 1..16 { let s[i]:24 = s[i-1] + tap(x@i, c[i]); }
+output y = s[15];
+";
+
+/// The checkpoint of the sum after the sample 5, or after so many: it is 255.
+fn checkpoint(alloc: Global, count: u64) -> Result<Vec<u8>, AllocError> {
+    let file = with_word(running_sum(alloc)?, 20, 0xaaff_ff00);
+    marked(alloc, count, &file)
+}
+
+/// A program, samples and checkpoints: `m` is after one sample, `last` after as many as one run may have but one, and the
+/// others are no checkpoints.
+fn files(alloc: Global) -> Result<Vec<(String, Vec<u8>)>, AllocError> {
+    let mut files = vec![in alloc;
+        named(alloc, "p", RUNNING_SUM)?,
+        named(alloc, "one", "5\n")?,
+        named(alloc, "two", "1\n1\n")?,
+        named(alloc, "bad", "1\nx\n")?,
+    ]?;
+    let checkpoints = vec![in alloc;
+        ("m", checkpoint(alloc, 1)?),
+        ("last", checkpoint(alloc, 0xff_ffff_ffff)?),
+        ("first", with_word(checkpoint(alloc, 1)?, 0, 0x5049_5032)),
+        ("third", with_word(checkpoint(alloc, 1)?, 3, 0x5049_5031)),
+        ("many", checkpoint(alloc, 0x100_0000_0001)?),
+        ("cut", shortened(checkpoint(alloc, 1)?)),
+    ]?;
+    for (name, bytes) in checkpoints {
+        files.push((String::from_str(alloc, name)?, bytes))?;
+    }
+    Ok(files)
+}
+
+/// What the tool writes for these words, which it answers with Ok.
+fn text_of(
+    rt: &impl Abort,
+    alloc: Global,
+    words: &[&str],
+    files: Vec<(String, Vec<u8>)>,
+) -> Result<Vec<u8>, AllocError> {
+    let mut out = SureSink::make(alloc, 20_000)?;
+    let mut note = SureSink::make(alloc, 100)?;
+    let answer = answer_to(alloc, words, files, &mut out, &mut note)?;
+    assert_eq!(rt; answer, Answer::Ok);
+    Vec::from_slice(alloc, out.bytes())
+}
+
+/// Words, and their answer, status, text and note.
+type Case<'a> = (&'a [&'a str], Answer, u8, &'a str, &'a str);
+
+const CASES: [Case<'_>; 8] = [
+    (&["move", "m", "two"], Answer::Ok, 0, "0\n1\n", ""),
+    (
+        &["move", "m", "two", "--stripes", "3"],
+        Answer::Ok,
+        0,
+        "0\n1\n",
+        "",
+    ),
+    (
+        &["checkpoint", "p", "bad"],
+        Answer::BadSample { line: 2 },
+        7,
+        "",
+        "bad sample: line 2\n",
+    ),
+    (
+        &["move", "first", "two"],
+        Answer::BadConfig { rule: 9, place: 0 },
+        9,
+        "",
+        "bad config: rule 9 word 0\n",
+    ),
+    (
+        &["move", "third", "two"],
+        Answer::BadConfig { rule: 2, place: 3 },
+        9,
+        "",
+        "bad config: rule 2 word 3\n",
+    ),
+    (
+        &["extend", "cut", "two"],
+        Answer::BadConfig { rule: 1, place: 24 },
+        9,
+        "",
+        "bad config: rule 1 word 24\n",
+    ),
+    (
+        &["extend", "many", "two"],
+        Answer::BadConfig { rule: 10, place: 2 },
+        9,
+        "",
+        "bad config: rule 10 word 2\n",
+    ),
+    (
+        &["move", "last", "two"],
+        Answer::Limit {
+            which: Cap::Samples,
+        },
+        6,
+        "0\n",
+        "limit: samples 1099511627776\n",
+    ),
+];
+
+#[test]
+fn moved_runs(rt: HostRuntime) -> Result<(), Fail> {
+    let alloc = rt.alloc();
+    for (words, answer, status, text, note) in CASES {
+        let wanted = Wanted {
+            answer,
+            status,
+            text,
+            note,
+        };
+        check_call(&rt, alloc, words, files(alloc)?, wanted)?;
+    }
+    Ok(())
+}
+
+#[test]
+fn written_checkpoints(rt: HostRuntime) -> Result<(), Fail> {
+    let alloc = rt.alloc();
+    let words = ["checkpoint", "p", "one", "--stripes", "2"];
+    let written = text_of(&rt, alloc, &words, files(alloc)?)?;
+    assert_eq!(rt; written.as_slice(), checkpoint(alloc, 1)?.as_slice());
+
+    let mut further = files(alloc)?;
+    further.push(named(alloc, "1", "1\n")?)?;
+    let next = text_of(&rt, alloc, &["extend", "m", "1"], further)?;
+    let moved = vec![in alloc;
+        (String::from_str(alloc, "n")?, next),
+        named(alloc, "1", "1\n")?,
+    ]?;
+    let text = text_of(&rt, alloc, &["move", "n", "1"], moved)?;
+    assert_eq!(rt; text.as_slice(), b"1\n".as_slice());
+
+    let none = vec![in alloc; named(alloc, "p", RUNNING_SUM)?, named(alloc, "s", "")?]?;
+    let first = text_of(&rt, alloc, &["checkpoint", "p", "s"], none)?;
+    let all = vec![in alloc;
+        (String::from_str(alloc, "n")?, first),
+        named(alloc, "s", "5\n1\n1\n")?,
+    ]?;
+    let text = text_of(&rt, alloc, &["move", "n", "s"], all)?;
+    assert_eq!(rt; text.as_slice(), b"255\n0\n1\n".as_slice());
+    Ok(())
+}
+
+/// The last 600 of a thousand samples go through a filter on other stripes than the first 400.
+#[test]
+fn moved_filter(rt: HostRuntime) -> Result<(), Fail> {
+    let alloc = rt.alloc();
+    let samples = (String::from_str(alloc, "s")?, repeated(alloc, b"1\n", 400)?);
+    let files = vec![in alloc; named(alloc, "p", FILTER)?, samples]?;
+    let checkpoint = text_of(
+        &rt,
+        alloc,
+        &["checkpoint", "p", "s", "--stripes", "4"],
+        files,
+    )?;
+    let rest = (String::from_str(alloc, "s")?, repeated(alloc, b"1\n", 600)?);
+    let files = vec![in alloc; (String::from_str(alloc, "m")?, checkpoint), rest]?;
+    let text = text_of(&rt, alloc, &["move", "m", "s", "--stripes", "30"], files)?;
+    assert_eq!(rt; text.as_slice(), repeated(alloc, b"184\n", 600)?.as_slice());
+    Ok(())
+}
