@@ -14,15 +14,21 @@ fn holding(alloc: Global, value: Fixed) -> Result<Expr, AllocError> {
     Ok(Expr::Slice(zero, value, Fixed::Number(0)))
 }
 
+/// An expression in which the index of a target is walked, and nothing else.
+fn index_alone(alloc: Global, target: Ref) -> Result<Expr, AllocError> {
+    let Ref { name: _name, index } = target;
+    match index {
+        None => Ok(Expr::Number(0)),
+        Some(index) => holding(alloc, index),
+    }
+}
+
 fn refer(alloc: Global, left: &mut u32, name: &Ref) -> Result<Expr, AllocError> {
     let name = target(alloc, left, name)?;
     if take(left) {
         return Ok(Expr::Refer(name));
     }
-    match name.index {
-        None => Ok(Expr::Number(0)),
-        Some(index) => holding(alloc, index),
-    }
+    index_alone(alloc, name)
 }
 
 /// A delay whose name is reached.
@@ -42,10 +48,7 @@ fn delay(alloc: Global, left: &mut u32, name: &Ref, back: &Fixed) -> Result<Expr
     if take(left) {
         return go_back(alloc, left, name, back);
     }
-    match name.index {
-        None => Ok(Expr::Number(0)),
-        Some(index) => holding(alloc, index),
-    }
+    index_alone(alloc, name)
 }
 
 /// A slice whose operand is reached.

@@ -1,0 +1,24 @@
+//! Colours of stages.
+
+use crate::pieces::{put, put_number};
+use std::alloc::AllocError;
+
+/// Adds the colour of a stage, of so many: round the circle of colours, paler where the stage computes.
+pub fn put_fill(
+    text: &mut Vec<u8>,
+    stage: u32,
+    stages: usize,
+    computes: bool,
+) -> Result<(), AllocError> {
+    let hue = (stage as usize).saturating_mul(360) / stages.max(1) % 360;
+    put(text, " fill=\"hsl(")?;
+    put_number(text, hue)?;
+    put(
+        text,
+        if computes {
+            ",70%,80%)\"/>\n"
+        } else {
+            ",65%,50%)\"/>\n"
+        },
+    )
+}

@@ -1,0 +1,78 @@
+//! Rectangles and words of a picture.
+
+use itoa::Buffer;
+use std::alloc::AllocError;
+
+/// A rectangle.
+#[derive(Clone, Copy)]
+pub struct Area {
+    pub x: usize,
+    pub y: usize,
+    pub width: usize,
+    pub height: usize,
+}
+
+/// Adds words.
+pub fn put(text: &mut Vec<u8>, words: &str) -> Result<(), AllocError> {
+    text.extend_from_slice(words.as_bytes())
+}
+
+/// Adds a number.
+pub fn put_number(text: &mut Vec<u8>, number: usize) -> Result<(), AllocError> {
+    let mut buffer = Buffer::new();
+    text.extend_from_slice(buffer.format(number as u64).as_bytes())
+}
+
+/// Adds an attribute that is a number.
+fn put_attribute(text: &mut Vec<u8>, name: &str, number: usize) -> Result<(), AllocError> {
+    put(text, " ")?;
+    put(text, name)?;
+    put(text, "=\"")?;
+    put_number(text, number)?;
+    put(text, "\"")
+}
+
+/// Adds a rectangle, whose colour follows; it is to be ended.
+pub fn put_area(text: &mut Vec<u8>, area: Area) -> Result<(), AllocError> {
+    put(text, "<rect")?;
+    put_attribute(text, "x", area.x)?;
+    put_attribute(text, "y", area.y)?;
+    put_attribute(text, "width", area.width)?;
+    put_attribute(text, "height", area.height)
+}
+
+/// Begins a text of a class at a place; it is to be ended.
+pub fn begin_words(text: &mut Vec<u8>, class: &str, x: usize, y: usize) -> Result<(), AllocError> {
+    put(text, "<text class=\"")?;
+    put(text, class)?;
+    put(text, "\"")?;
+    put_attribute(text, "x", x)?;
+    put_attribute(text, "y", y)?;
+    put(text, ">")
+}
+
+/// Adds a text of a class at a place.
+pub fn put_words(
+    text: &mut Vec<u8>,
+    class: &str,
+    x: usize,
+    y: usize,
+    words: &str,
+) -> Result<(), AllocError> {
+    begin_words(text, class, x, y)?;
+    put(text, words)?;
+    put(text, "</text>\n")
+}
+
+/// Adds a number of a class at a place.
+pub fn put_digits(
+    text: &mut Vec<u8>,
+    class: &str,
+    x: usize,
+    y: usize,
+    number: usize,
+) -> Result<(), AllocError> {
+    begin_words(text, class, x, y)?;
+    put_number(text, number)?;
+    put(text, "</text>\n")
+}

@@ -1,0 +1,11 @@
+//! The log of a run, read back from its text.
+#![tactic(auto)]
+
+mod boards;
+mod lines;
+mod logs;
+mod words;
+
+pub use boards::Board;
+pub use lines::{LogLine, Logged, read_line};
+pub use logs::{Log, LogFault, read_log};

@@ -1,0 +1,61 @@
+//! What can be asked for.
+
+ghost use Rattle.std.specs.Prelude.{◌≡◌};
+ghost use Rattle.pr_lens_words.specs.Tasks.{task_named, fabric_named};
+
+/// What is to be made of a file.
+#[derive(Clone, Copy, PartialEq, Eq, Debug)]
+pub enum Task {
+    /// Why a program is refused.
+    Why,
+    /// What a program costs.
+    Cost,
+    /// A log as a waveform.
+    Wave,
+    /// A log as a picture.
+    Chart,
+}
+
+/// The fabric that programs are compiled for.
+#[derive(Clone, Copy, PartialEq, Eq, Debug)]
+pub enum Fabric {
+    /// 16 columns and 8 registers.
+    Base,
+    /// 32 columns and 16 registers.
+    Wide,
+}
+
+/// What the words of a command line ask for.
+#[derive(Clone, Copy, PartialEq, Eq, Debug)]
+pub struct Order<'a> {
+    pub task: Task,
+    /// The name of the file.
+    pub file: &'a str,
+    pub fabric: Fabric,
+    /// The samples of a run whose cycles are told.
+    pub samples: u64,
+}
+
+/// The task of this name.
+pub fn task_named(name: &str) -> Option<Task>
+    ensures { result ≡ task_named name.now }
+{
+    match name {
+        "why" => Some(Task::Why),
+        "cost" => Some(Task::Cost),
+        "wave" => Some(Task::Wave),
+        "chart" => Some(Task::Chart),
+        _ => None,
+    }
+}
+
+/// The fabric of this name.
+pub fn fabric_named(name: &str) -> Option<Fabric>
+    ensures { result ≡ fabric_named name.now }
+{
+    match name {
+        "base" => Some(Fabric::Base),
+        "wide" => Some(Fabric::Wide),
+        _ => None,
+    }
+}
