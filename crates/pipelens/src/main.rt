@@ -1,7 +1,6 @@
 //! The companion: the system's words, files and streams, put through it.
 #![tactic(auto)]
 
-use pr_edge::write_all;
 use pr_lens_tool::{Answer, pipelens};
 use pr_system::{FileShelf, Gathered, Gathering, OutSink};
 use std::cell::RefCell;
@@ -51,7 +50,7 @@ fn main(rt: HostRuntime) -> ExitCode {
     let mut stderr = OutSink::new(rt.stderr());
     let answer = answer_to(&rt);
     // Nobody can be told of a note that is not written.
-    match write_all(&mut stderr, answer.note().as_bytes()) {
+    match answer.put_note(&mut stderr) {
         Ok(()) | Err(_) => ExitCode::from(answer.status()),
     }
 }

@@ -1,17 +1,19 @@
 //! Expressions.
 
 use crate::cuts::take;
-use crate::fixed::{fixed, target};
+use crate::fixed::{fixed, target, times};
 use pr_lang::{BinOp, Expr, Fixed, Ref};
 use std::alloc::{AllocError, Global};
 
 /// What is left where nothing is reached.
 const NOTHING: Expr = Expr::Number(0);
 
-/// An expression in which a constant expression is walked, and nothing else.
+/// An expression in which a constant expression is walked, and nothing else: bit 0 of 0, so that it has a width whatever the
+/// number is.
 fn holding(alloc: Global, value: Fixed) -> Result<Expr, AllocError> {
     let zero = Box::new(alloc, Expr::Number(0))?;
-    Ok(Expr::Slice(zero, value, Fixed::Number(0)))
+    let high = times(alloc, value, Fixed::Number(0))?;
+    Ok(Expr::Slice(zero, high, Fixed::Number(0)))
 }
 
 /// An expression in which the index of a target is walked, and nothing else.

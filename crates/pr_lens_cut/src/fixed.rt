@@ -10,6 +10,11 @@ fn binary(alloc: Global, op: FixedOp, left: Fixed, right: Fixed) -> Result<Fixed
     Ok(Fixed::Binary(op, left, right))
 }
 
+/// The product of two constant expressions.
+pub fn times(alloc: Global, left: Fixed, right: Fixed) -> Result<Fixed, AllocError> {
+    binary(alloc, FixedOp::Mul, left, right)
+}
+
 /// As much of a constant expression as so many points keep.
 pub fn fixed(alloc: Global, left: &mut u32, value: &Fixed) -> Result<Fixed, AllocError> {
     if *left == 0 {

@@ -1,6 +1,8 @@
 //! Items that are too many for a fabric.
 
 ghost use Rattle.std.specs.Prelude.{◌≤◌, length};
+ghost use Rattle.pr_flat.specs.Shape.{shapes_of};
+ghost use Rattle.pr_flat.specs.Widths.{AreWidths};
 
 use crate::sources::Source;
 use pr_base::Cap;
@@ -8,8 +10,10 @@ use pr_compile::{CompileFault, compile};
 use pr_compile_front::{FrontFault, read_program};
 use pr_cut::cut;
 use pr_cut_plan::CutFault;
+use pr_flat::Flat;
 use pr_lang::{Keyword, Kind, Symbol};
 use pr_net::Net;
+use pr_width::Widths;
 use std::alloc::{AllocError, Global};
 
 /// The bytes of the longest name of a text.
@@ -164,7 +168,25 @@ fn cells_in(net: &Net, units: &[u32]) -> usize {
     cells
 }
 
-/// How many columns a group of the net of a text has, on so many columns, whose last unit this is; 0 where it has none.
+/// How many columns a group of the net of equations has, on so many columns, whose last unit this is; 0 where it has none.
+fn columns_in(
+    alloc: Global,
+    flat: &Flat,
+    widths: &Widths,
+    columns: usize,
+    unit: u32,
+) -> Result<usize, AllocError>
+    requires widths { AreWidths (shapes_of flat.now.equations.items) widths.now }
+    requires columns { (1 ≤ columns) × (columns ≤ 64) }
+{
+    match cut(alloc, flat, widths, columns) {
+        Ok(net) => Ok(group_columns(&net, unit)),
+        Err(CutFault::Memory(error)) => Err(error),
+        Err(CutFault::Limit(_)) => Ok(0),
+    }
+}
+
+/// The same of the net of a text.
 pub fn columns_of(
     alloc: Global,
     text: &[u8],
@@ -174,14 +196,9 @@ pub fn columns_of(
     requires short { length text.now ≤ 1048576 }
     requires columns { (1 ≤ columns) × (columns ≤ 64) }
 {
-    let front = match read_program(alloc, text) {
-        Ok(front) => front,
-        Err(FrontFault::Memory(error)) => return Err(error),
-        Err(_) => return Ok(0),
-    };
-    match cut(alloc, &front.flat, &front.widths, columns) {
-        Ok(net) => Ok(group_columns(&net, unit)),
-        Err(CutFault::Memory(error)) => Err(error),
-        Err(CutFault::Limit(_)) => Ok(0),
+    match read_program(alloc, text) {
+        Ok(front) => columns_in(alloc, &front.flat, &front.widths, columns, unit),
+        Err(FrontFault::Memory(error)) => Err(error),
+        Err(_) => Ok(0),
     }
 }

@@ -80,20 +80,37 @@ fn unwritten(alloc: Global, bytes: &[u8]) -> Result<Name, AllocError> {
     Ok(Name::new(Vec::from_slice(alloc, bytes)?))
 }
 
+/// An input of this name.
+fn input(name: Name) -> Item {
+    Item::Input { name, width: 1 }
+}
+
+/// An output of this name.
+fn output(name: Name) -> Item {
+    Item::Output {
+        name,
+        width: None,
+        value: Expr::Number(0),
+    }
+}
+
+/// The items that every program has to have, under names that no text has.
+fn ends(alloc: Global) -> Result<(Item, Item), AllocError> {
+    let first = unwritten(alloc, b"?in")?;
+    let second = unwritten(alloc, b"?out")?;
+    Ok((input(first), output(second)))
+}
+
+/// The program with one item more.
+fn with_item(mut program: Program, item: Item) -> Result<Program, AllocError> {
+    program.items.push(item)?;
+    Ok(program)
+}
+
 /// The program with an input and an output more, behind all that it has, so that it has both. The equation of the input is
 /// the last one.
 pub fn with_ends(alloc: Global, program: Program) -> Result<Program, AllocError> {
-    let mut program = program;
-    let input = Item::Input {
-        name: unwritten(alloc, b"?in")?,
-        width: 1,
-    };
-    let output = Item::Output {
-        name: unwritten(alloc, b"?out")?,
-        width: None,
-        value: Expr::Number(0),
-    };
-    program.items.push(input)?;
-    program.items.push(output)?;
-    Ok(program)
+    let (input, output) = ends(alloc)?;
+    let program = with_item(program, input)?;
+    with_item(program, output)
 }

@@ -10,10 +10,13 @@ use pr_lens_cut::Cut;
 use pr_lens_points::{Frame, Points, points_of};
 use std::alloc::{AllocError, Global};
 
+/// The points that are tried one after the other at most.
+pub const MANY: u32 = 2000;
+
 /// A rule that is broken by an item.
 #[derive(Clone, Copy)]
 struct Broken<'a> {
-    source: &'a Source<'a>,
+    source: Source<'a>,
     rule: u8,
     number: usize,
     item: &'a Item,
@@ -21,9 +24,9 @@ struct Broken<'a> {
 
 /// Whether as much of the item as is kept breaks the rule.
 fn breaks(alloc: Global, broken: &Broken, cut: Cut) -> Result<bool, AllocError>
-    requires { length broken.now.source.entry.now.text.entry.now ≤ 1048576 }
+    requires { length broken.now.source.text.entry.now ≤ 1048576 }
 {
-    match cut_front(alloc, broken.source, broken.number, broken.item, cut)? {
+    match cut_front(alloc, &broken.source, broken.number, broken.item, cut)? {
         None => Ok(false),
         Some(program) => match see(alloc, program)? {
             Seen::Broken { rule, item } => {
@@ -64,8 +67,8 @@ fn cut_by(by: By, kept: u32) -> Cut {
 }
 
 /// A count in 1..=most with which the rule is broken and with one less it is not, where `most` breaks it and 0 does not.
-fn least(alloc: Global, broken: &Broken, by: By, most: u32) -> Result<u32, AllocError>
-    requires { length broken.now.source.entry.now.text.entry.now ≤ 1048576 }
+fn halved(alloc: Global, broken: &Broken, by: By, most: u32) -> Result<u32, AllocError>
+    requires { length broken.now.source.text.entry.now ≤ 1048576 }
 {
     let mut low = 0;
     let mut high = most;
@@ -78,6 +81,22 @@ fn least(alloc: Global, broken: &Broken, by: By, most: u32) -> Result<u32, Alloc
         }
     }
     Ok(high)
+}
+
+/// The least count with which the rule is broken, where `most` breaks it and 0 does not. Of many points it may be another one
+/// that breaks the rule.
+fn least(alloc: Global, broken: &Broken, by: By, most: u32) -> Result<u32, AllocError>
+    requires { length broken.now.source.text.entry.now ≤ 1048576 }
+{
+    if most > MANY {
+        return halved(alloc, broken, by, most);
+    }
+    for kept in 1..most {
+        if breaks(alloc, broken, cut_by(by, kept))? {
+            return Ok(kept);
+        }
+    }
+    Ok(most)
 }
 
 /// The token of the point of this number, from 1.
@@ -117,11 +136,11 @@ fn in_frame(
     frame: &Frame,
     frames: u32,
 ) -> Result<Option<usize>, AllocError>
-    requires { length broken.now.source.entry.now.text.entry.now ≤ 1048576 }
+    requires { length broken.now.source.text.entry.now ≤ 1048576 }
 {
     match broken.rule {
-        1 => Ok(name_again(broken.source, frame)),
-        8 => Ok(wrong_width(broken.source, frame)),
+        1 => Ok(name_again(&broken.source, frame)),
+        8 => Ok(wrong_width(&broken.source, frame)),
         9 => Ok(numbered(&frame.fixeds, frame.fixeds.len() as u32)),
         _ => {
             let most = frame.fixeds.len() as u32;
@@ -137,7 +156,7 @@ fn among_frames(
     broken: &Broken,
     points: &Points,
 ) -> Result<Option<usize>, AllocError>
-    requires { length broken.now.source.entry.now.text.entry.now ≤ 1048576 }
+    requires { length broken.now.source.text.entry.now ≤ 1048576 }
 {
     let frames = least(alloc, broken, By::Frames, points.frames.len() as u32)?;
     match points.frames.get((frames as usize).saturating_sub(1)) {
@@ -151,7 +170,7 @@ fn among_points(
     broken: &Broken,
     points: &Points,
 ) -> Result<Option<usize>, AllocError>
-    requires { length broken.now.source.entry.now.text.entry.now ≤ 1048576 }
+    requires { length broken.now.source.text.entry.now ≤ 1048576 }
 {
     if breaks(alloc, broken, cut_by(By::Values, 0))? {
         return among_frames(alloc, broken, points);
@@ -170,12 +189,15 @@ pub fn find_offence(
     requires { length source.now.text.entry.now ≤ 1048576 }
 {
     let first = source.first(number);
+    if number >= source.spans.len() {
+        return Ok(first);
+    }
     let Some(item) = item_of(alloc, source, number)? else {
         return Ok(first);
     };
     let points = points_of(alloc, first as u32, &item)?;
     let broken = Broken {
-        source,
+        source: *source,
         rule,
         number,
         item: &item,

@@ -1,15 +1,17 @@
 //! Equations without widths.
 
-ghost use Rattle.std.specs.Prelude.{◌≤◌, length};
+ghost use Rattle.std.specs.Prelude.{◌≡◌, ◌≤◌, length, None};
+ghost use Rattle.pr_scope.specs.Walk.{offence};
 
 use crate::fronts::{cut_front, front_of, item_of, with_ends};
+use crate::offences::MANY;
 use crate::sources::Source;
 use pr_expand::{ExpandFault, expand};
 use pr_flat::{Flat, Op, Operand};
 use pr_lang::{Item, Program};
 use pr_lens_cut::Cut;
 use pr_lens_points::points_of;
-use pr_scope::{ScopeFault, check};
+use pr_scope::{ScopeFault, Scoped, check};
 use pr_width::{WidthFault, Widths, solve};
 use std::alloc::{AllocError, Global};
 
@@ -21,18 +23,24 @@ enum Made {
     Refused,
 }
 
-/// The equations of a program, and of an input behind them.
-fn equations_of(alloc: Global, program: Program) -> Result<Made, AllocError> {
-    let program = with_ends(alloc, program)?;
-    let scoped = match check(alloc, program) {
-        Ok(scoped) => scoped,
-        Err(ScopeFault::Memory(error)) => return Err(error),
-        Err(_) => return Ok(Made::Refused),
-    };
-    match expand(alloc, &scoped) {
+/// The equations of a program that keeps the rules of scope.
+fn made_of(alloc: Global, scoped: &Scoped) -> Result<Made, AllocError>
+    requires { offence scoped.now.program ≡ None }
+{
+    match expand(alloc, scoped) {
         Ok(flat) => Ok(Made::Flat(flat)),
         Err(ExpandFault::Limit(_)) => Ok(Made::TooMany),
         Err(ExpandFault::Memory(error)) => Err(error),
+    }
+}
+
+/// The equations of a program, and of an input behind them.
+fn equations_of(alloc: Global, program: Program) -> Result<Made, AllocError> {
+    let program = with_ends(alloc, program)?;
+    match check(alloc, program) {
+        Ok(scoped) => made_of(alloc, &scoped),
+        Err(ScopeFault::Memory(error)) => Err(error),
+        Err(_) => Ok(Made::Refused),
     }
 }
 
@@ -102,8 +110,8 @@ fn lacks(
     }
 }
 
-/// The least count of points with which some equation of the item has no width.
-fn least(
+/// A count of points with which some equation of the item has no width, and with one less all have.
+fn halved(
     alloc: Global,
     source: &Source,
     number: usize,
@@ -123,6 +131,27 @@ fn least(
         }
     }
     Ok(high)
+}
+
+/// The least count of points with which some equation of the item has no width.
+fn least(
+    alloc: Global,
+    source: &Source,
+    number: usize,
+    item: &Item,
+    most: u32,
+) -> Result<u32, AllocError>
+    requires { length source.now.text.entry.now ≤ 1048576 }
+{
+    if most > MANY {
+        return halved(alloc, source, number, item, most);
+    }
+    for kept in 1..most {
+        if lacks(alloc, source, number, item, kept)? {
+            return Ok(kept);
+        }
+    }
+    Ok(most)
 }
 
 /// An equation without a width.

@@ -1,7 +1,8 @@
 //! What a call answers.
 
+use itoa::Buffer;
 use pr_compile::CompileFault;
-use pr_edge::{ReadAll, WriteFault};
+use pr_edge::{ReadAll, Sink, WriteFault, write_all};
 use std::alloc::AllocError;
 
 /// What a call answers.
@@ -46,18 +47,33 @@ impl Answer {
         }
     }
 
-    /// The line that is told beside what is written, or nothing.
-    pub fn note(self) -> &'static str {
+    /// The words that are told beside what is written, or none.
+    fn words(self) -> &'static str {
         match self {
-            Answer::Usage =>
-                "usage: pipelens TASK FILE [--fabric base|wide] [--samples N]; pipelens --help says more\n",
-            Answer::TooLong => "limit: the file has too many bytes\n",
-            Answer::ReadFault => "read fault\n",
-            Answer::WriteFault => "write fault\n",
-            Answer::Memory => "out of memory\n",
-            Answer::BadLog { line: _ } => "bad log\n",
+            Answer::Usage => {
+                "usage: pipelens TASK FILE [--fabric base|wide] [--samples N]; pipelens --help says more"
+            }
+            Answer::TooLong => "limit: the file has too many bytes",
+            Answer::ReadFault => "read fault",
+            Answer::WriteFault => "write fault",
+            Answer::Memory => "out of memory",
+            Answer::BadLog { line: _ } => "bad log: line ",
             Answer::Ok | Answer::Program | Answer::NoWidth | Answer::NoFit | Answer::Limit => "",
         }
+    }
+
+    /// Writes the line that is told beside what is written, where there is one.
+    pub fn put_note<K: Sink>(self, sink: &mut K) -> Result<(), WriteFault> {
+        let words = self.words();
+        if words.is_empty() {
+            return Ok(());
+        }
+        write_all(sink, words.as_bytes())?;
+        if let Answer::BadLog { line } = self {
+            let mut buffer = Buffer::new();
+            write_all(sink, buffer.format(line as u64).as_bytes())?;
+        }
+        write_all(sink, b"\n")
     }
 
     /// The answer to a program that is refused so.

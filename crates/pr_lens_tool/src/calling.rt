@@ -4,7 +4,7 @@ ghost use Rattle.std.specs.Prelude.{◌≤◌, length};
 
 use crate::answers::Answer;
 use crate::logs::{write_chart, write_wave};
-use crate::programs::{cost, why};
+use crate::programs::{cost, why, write_graph};
 use pr_edge::{Shelf, Sink, read_all, write_all};
 use pr_lens_words::{Fabric, Order, Task, WordsFault, read_words};
 use std::alloc::Global;
@@ -23,6 +23,7 @@ usage: pipelens TASK FILE [--fabric base|wide] [--samples N]
 
   why PROGRAM    where and why a program is refused, and what to do
   cost PROGRAM   equations, units and stages, and cycles by stripes
+  graph PROGRAM  the units by stage with their wires, for Graphviz
   wave LOG       the log of `piperench trace` as a waveform (VCD)
   chart LOG      the log of `piperench trace` as a picture (SVG)
 ";
@@ -42,6 +43,7 @@ fn of_program<const N: usize, const P: usize, K: Sink>(
 {
     match order.task {
         Task::Cost => cost::<N, P, K>(alloc, order.file, text, order.samples, out),
+        Task::Graph => write_graph::<N, P, K>(alloc, order.file, text, out),
         _ => why::<N, P, K>(alloc, order.file, text, out),
     }
 }
@@ -73,7 +75,7 @@ fn follow<S: Shelf, K: Sink>(
     out: &mut K,
 ) -> Result<Answer, Answer> {
     match order.task {
-        Task::Why | Task::Cost => read_program(alloc, order, shelf, out),
+        Task::Why | Task::Cost | Task::Graph => read_program(alloc, order, shelf, out),
         Task::Wave => write_wave(alloc, &read_log(alloc, order, shelf)?, out),
         Task::Chart => write_chart(alloc, &read_log(alloc, order, shelf)?, out),
     }

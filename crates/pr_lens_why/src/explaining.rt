@@ -1,6 +1,7 @@
 //! Explanations of refusals.
 
 ghost use Rattle.std.specs.Prelude.{◌≡◌, ◌≤◌, length, IfOk};
+ghost use Rattle.pr_compile.specs.Refusals.{IsCompileAnswer};
 ghost use Rattle.pr_lens_why.specs.Verdicts.{IsVerdict, IsIn};
 
 use crate::pieces::Message;
@@ -155,6 +156,27 @@ fn explained<const N: usize, const P: usize>(
     Ok(pointing(&source, token, fault, message.text))
 }
 
+/// The verdict on a text that is refused; want of memory is none.
+fn refused<const N: usize, const P: usize>(
+    alloc: Global,
+    text: &[u8],
+    fault: CompileFault,
+) -> Result<Verdict, AllocError>
+    requires short { length text.now ≤ 1048576 }
+    requires columns { 1 ≤ N }
+    requires most_columns { N ≤ 64 }
+    requires registers { 2 ≤ P }
+    requires most_registers { P ≤ 16 }
+    requires answer { IsCompileAnswer N P text.now fault }
+    ensures { IfOk result (IsVerdict N P text.now) }
+{
+    if let CompileFault::Memory(_) = &fault {
+        return Err(AllocError);
+    }
+    let explanation = explained::<N, P>(alloc, text, fault)?;
+    Ok(Verdict::Refused(explanation))
+}
+
 /// What the compiler says of a text on N columns and P registers, with an explanation where it is refused.
 pub fn explain<const N: usize, const P: usize>(
     alloc: Global,
@@ -169,10 +191,6 @@ pub fn explain<const N: usize, const P: usize>(
 {
     match compile::<N, P>(alloc, text) {
         Ok(_) => Ok(Verdict::Accepted),
-        Err(CompileFault::Memory(error)) => Err(error),
-        Err(fault) => {
-            let explanation = explained::<N, P>(alloc, text, fault)?;
-            Ok(Verdict::Refused(explanation))
-        }
+        Err(fault) => refused::<N, P>(alloc, text, fault),
     }
 }

@@ -10,6 +10,8 @@ pub enum Task {
     Why,
     /// What a program costs.
     Cost,
+    /// The units of a program by stage, with their wires.
+    Graph,
     /// A log as a waveform.
     Wave,
     /// A log as a picture.
@@ -43,6 +45,7 @@ pub fn task_named(name: &str) -> Option<Task>
     match name {
         "why" => Some(Task::Why),
         "cost" => Some(Task::Cost),
+        "graph" => Some(Task::Graph),
         "wave" => Some(Task::Wave),
         "chart" => Some(Task::Chart),
         _ => None,
