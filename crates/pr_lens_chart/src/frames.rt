@@ -26,7 +26,7 @@ pub fn put_head(text: &mut Vec<u8>, cycles: usize, log: &Log) -> Result<(), Allo
     let width = cycles.saturating_mul(WIDE).saturating_add(LEFT + 20);
     let height = below(log.stripes).saturating_add(130);
     put(text, "<svg xmlns=\"http://www.w3.org/2000/svg\" width=\"")?;
-    put_number(text, width.max(560))?;
+    put_number(text, width.max(660))?;
     put(text, "\" height=\"")?;
     put_number(text, height)?;
     put(text, "\">\n<style>\n")?;

@@ -120,7 +120,7 @@ fn symbols_at(alloc: Global, source: &Source, at: usize) -> Result<Vec<Symbol>, 
 
 /// Whether the text could end before a token.
 fn could_end(alloc: Global, source: &Source, at: usize) -> Result<bool, AllocError>
-    requires { length source.now.text.entry.now ≤ 1048576 }
+    requires { length source.now.text.now ≤ 1048576 }
 {
     let text = source.before(at);
     let found = tokens(alloc, text)?;
@@ -133,7 +133,7 @@ fn could_end(alloc: Global, source: &Source, at: usize) -> Result<bool, AllocErr
 
 /// What could stand in the place of a token, by what stands before it.
 pub fn expected_at(alloc: Global, source: &Source, at: usize) -> Result<Expected, AllocError>
-    requires { length source.now.text.entry.now ≤ 1048576 }
+    requires { length source.now.text.now ≤ 1048576 }
 {
     Ok(Expected {
         name: could_stand(alloc, source, at, b"name")?,

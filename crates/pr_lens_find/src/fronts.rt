@@ -23,14 +23,14 @@ fn program_of(alloc: Global, text: &[u8]) -> Result<Option<Program>, AllocError>
 
 /// The program of the items before this one.
 pub fn front_of(alloc: Global, source: &Source, item: usize) -> Result<Option<Program>, AllocError>
-    requires { length source.now.text.entry.now ≤ 1048576 }
+    requires { length source.now.text.now ≤ 1048576 }
 {
     program_of(alloc, source.front(item))
 }
 
 /// The tree of an item.
 pub fn item_of(alloc: Global, source: &Source, item: usize) -> Result<Option<Item>, AllocError>
-    requires { length source.now.text.entry.now ≤ 1048576 }
+    requires { length source.now.text.now ≤ 1048576 }
 {
     match front_of(alloc, source, item.saturating_add(1))? {
         None => Ok(None),
@@ -46,7 +46,7 @@ pub fn cut_front(
     item: &Item,
     cut: Cut,
 ) -> Result<Option<Program>, AllocError>
-    requires { length source.now.text.entry.now ≤ 1048576 }
+    requires { length source.now.text.now ≤ 1048576 }
 {
     match front_of(alloc, source, number)? {
         None => Ok(None),

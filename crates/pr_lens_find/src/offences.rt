@@ -24,7 +24,7 @@ struct Broken<'a> {
 
 /// Whether as much of the item as is kept breaks the rule.
 fn breaks(alloc: Global, broken: &Broken, cut: Cut) -> Result<bool, AllocError>
-    requires { length broken.now.source.text.entry.now ≤ 1048576 }
+    requires { length broken.now.source.text.now ≤ 1048576 }
 {
     match cut_front(alloc, &broken.source, broken.number, broken.item, cut)? {
         None => Ok(false),
@@ -68,7 +68,7 @@ fn cut_by(by: By, kept: u32) -> Cut {
 
 /// A count in 1..=most with which the rule is broken and with one less it is not, where `most` breaks it and 0 does not.
 fn halved(alloc: Global, broken: &Broken, by: By, most: u32) -> Result<u32, AllocError>
-    requires { length broken.now.source.text.entry.now ≤ 1048576 }
+    requires { length broken.now.source.text.now ≤ 1048576 }
 {
     let mut low = 0;
     let mut high = most;
@@ -86,7 +86,7 @@ fn halved(alloc: Global, broken: &Broken, by: By, most: u32) -> Result<u32, Allo
 /// The least count with which the rule is broken, where `most` breaks it and 0 does not. Of many points it may be another one
 /// that breaks the rule.
 fn least(alloc: Global, broken: &Broken, by: By, most: u32) -> Result<u32, AllocError>
-    requires { length broken.now.source.text.entry.now ≤ 1048576 }
+    requires { length broken.now.source.text.now ≤ 1048576 }
 {
     if most > MANY {
         return halved(alloc, broken, by, most);
@@ -136,7 +136,7 @@ fn in_frame(
     frame: &Frame,
     frames: u32,
 ) -> Result<Option<usize>, AllocError>
-    requires { length broken.now.source.text.entry.now ≤ 1048576 }
+    requires { length broken.now.source.text.now ≤ 1048576 }
 {
     match broken.rule {
         1 => Ok(name_again(&broken.source, frame)),
@@ -156,7 +156,7 @@ fn among_frames(
     broken: &Broken,
     points: &Points,
 ) -> Result<Option<usize>, AllocError>
-    requires { length broken.now.source.text.entry.now ≤ 1048576 }
+    requires { length broken.now.source.text.now ≤ 1048576 }
 {
     let frames = least(alloc, broken, By::Frames, points.frames.len() as u32)?;
     match points.frames.get((frames as usize).saturating_sub(1)) {
@@ -170,7 +170,7 @@ fn among_points(
     broken: &Broken,
     points: &Points,
 ) -> Result<Option<usize>, AllocError>
-    requires { length broken.now.source.text.entry.now ≤ 1048576 }
+    requires { length broken.now.source.text.now ≤ 1048576 }
 {
     if breaks(alloc, broken, cut_by(By::Values, 0))? {
         return among_frames(alloc, broken, points);
@@ -186,7 +186,7 @@ pub fn find_offence(
     rule: u8,
     number: usize,
 ) -> Result<usize, AllocError>
-    requires { length source.now.text.entry.now ≤ 1048576 }
+    requires { length source.now.text.now ≤ 1048576 }
 {
     let first = source.first(number);
     if number >= source.spans.len() {
@@ -207,7 +207,7 @@ pub fn find_offence(
 
 /// Whether the walk over the items before this one is too long.
 fn is_too_long(alloc: Global, source: &Source, item: usize) -> Result<bool, AllocError>
-    requires { length source.now.text.entry.now ≤ 1048576 }
+    requires { length source.now.text.now ≤ 1048576 }
 {
     match front_of(alloc, source, item)? {
         None => Ok(false),
@@ -221,7 +221,7 @@ fn is_too_long(alloc: Global, source: &Source, item: usize) -> Result<bool, Allo
 
 /// The item with which the walk over a program becomes too long.
 pub fn turns_item(alloc: Global, source: &Source) -> Result<usize, AllocError>
-    requires { length source.now.text.entry.now ≤ 1048576 }
+    requires { length source.now.text.now ≤ 1048576 }
 {
     let mut low = 0;
     let mut high = source.spans.len();

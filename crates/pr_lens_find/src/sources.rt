@@ -31,7 +31,7 @@ impl<'a> Source<'a> {
 
     /// The place of a token's first byte, and the text's end behind the last token.
     pub fn start(&self, at: usize) -> usize
-        ensures { result ≤ length self.now.text.entry.now }
+        ensures { result ≤ length self.now.text.now }
     {
         match self.tokens.get(at) {
             None => self.text.len(),
@@ -41,7 +41,7 @@ impl<'a> Source<'a> {
 
     /// The text before a token.
     pub fn before(&self, at: usize) -> &[u8]
-        ensures { length result.now ≤ length self.now.text.entry.now }
+        ensures { length result.now ≤ length self.now.text.now }
     {
         let end = self.start(at);
         &self.text[..end]
@@ -73,7 +73,7 @@ impl<'a> Source<'a> {
 
     /// The text of the items before this one.
     pub fn front(&self, item: usize) -> &[u8]
-        ensures { length result.now ≤ length self.now.text.entry.now }
+        ensures { length result.now ≤ length self.now.text.now }
     {
         self.before(self.first(item))
     }

@@ -46,7 +46,7 @@ fn equations_of(alloc: Global, program: Program) -> Result<Made, AllocError> {
 
 /// The equations of the items before this one, and of an input behind them.
 fn made_before(alloc: Global, source: &Source, item: usize) -> Result<Made, AllocError>
-    requires { length source.now.text.entry.now ≤ 1048576 }
+    requires { length source.now.text.now ≤ 1048576 }
 {
     match front_of(alloc, source, item)? {
         None => Ok(Made::Refused),
@@ -56,7 +56,7 @@ fn made_before(alloc: Global, source: &Source, item: usize) -> Result<Made, Allo
 
 /// Whether the items before this one have more than so many equations.
 fn has_more(alloc: Global, source: &Source, item: usize, count: usize) -> Result<bool, AllocError>
-    requires { length source.now.text.entry.now ≤ 1048576 }
+    requires { length source.now.text.now ≤ 1048576 }
 {
     match made_before(alloc, source, item)? {
         Made::Flat(flat) => Ok(flat.equations.len().saturating_sub(1) > count),
@@ -67,7 +67,7 @@ fn has_more(alloc: Global, source: &Source, item: usize, count: usize) -> Result
 
 /// The item that makes the equation of this number.
 pub fn equations_item(alloc: Global, source: &Source, equation: usize) -> Result<usize, AllocError>
-    requires { length source.now.text.entry.now ≤ 1048576 }
+    requires { length source.now.text.now ≤ 1048576 }
 {
     let mut low = 0;
     let mut high = source.spans.len();
@@ -90,7 +90,7 @@ fn lacks(
     item: &Item,
     values: u32,
 ) -> Result<bool, AllocError>
-    requires { length source.now.text.entry.now ≤ 1048576 }
+    requires { length source.now.text.now ≤ 1048576 }
 {
     let cut = Cut {
         values,
@@ -118,7 +118,7 @@ fn halved(
     item: &Item,
     most: u32,
 ) -> Result<u32, AllocError>
-    requires { length source.now.text.entry.now ≤ 1048576 }
+    requires { length source.now.text.now ≤ 1048576 }
 {
     let mut low = 0;
     let mut high = most;
@@ -141,7 +141,7 @@ fn least(
     item: &Item,
     most: u32,
 ) -> Result<u32, AllocError>
-    requires { length source.now.text.entry.now ≤ 1048576 }
+    requires { length source.now.text.now ≤ 1048576 }
 {
     if most > MANY {
         return halved(alloc, source, number, item, most);
@@ -205,7 +205,7 @@ fn widths_of(
 
 /// The widths of the equations of the items before this one, and of an input behind them.
 fn widths_before(alloc: Global, source: &Source, item: usize) -> Result<Option<Widths>, AllocError>
-    requires { length source.now.text.entry.now ≤ 1048576 }
+    requires { length source.now.text.now ≤ 1048576 }
 {
     match made_before(alloc, source, item)? {
         Made::TooMany | Made::Refused => Ok(None),
@@ -224,7 +224,7 @@ fn with_operands(
     equation: usize,
     missing: Missing,
 ) -> Result<Missing, AllocError>
-    requires { length source.now.text.entry.now ≤ 1048576 }
+    requires { length source.now.text.now ≤ 1048576 }
 {
     let mut missing = missing;
     let behind = missing.item.saturating_add(1);
@@ -244,7 +244,7 @@ fn with_operands(
 
 /// Where the first equation without a width, which has this number, is made.
 pub fn find_missing(alloc: Global, source: &Source, equation: usize) -> Result<Missing, AllocError>
-    requires { length source.now.text.entry.now ≤ 1048576 }
+    requires { length source.now.text.now ≤ 1048576 }
 {
     let number = equations_item(alloc, source, equation)?;
     let first = source.first(number);

@@ -43,7 +43,7 @@ fn tell_limit<const N: usize, const P: usize>(
     source: &Source,
     cap: Cap,
 ) -> Result<usize, AllocError>
-    requires short { length source.now.text.entry.now ≤ 1048576 }
+    requires short { length source.now.text.now ≤ 1048576 }
     requires columns { 1 ≤ N }
     requires most_columns { N ≤ 64 }
     requires registers { 2 ≤ P }
@@ -67,7 +67,7 @@ fn tell_fit<const N: usize, const P: usize>(
     source: &Source,
     unit: u32,
 ) -> Result<usize, AllocError>
-    requires short { length source.now.text.entry.now ≤ 1048576 }
+    requires short { length source.now.text.now ≤ 1048576 }
     requires columns { 1 ≤ N }
     requires most_columns { N ≤ 64 }
     requires registers { 2 ≤ P }
@@ -86,7 +86,7 @@ fn tell<const N: usize, const P: usize>(
     source: &Source,
     fault: &CompileFault,
 ) -> Result<usize, AllocError>
-    requires short { length source.now.text.entry.now ≤ 1048576 }
+    requires short { length source.now.text.now ≤ 1048576 }
     requires columns { 1 ≤ N }
     requires most_columns { N ≤ 64 }
     requires registers { 2 ≤ P }
@@ -116,7 +116,7 @@ fn tell<const N: usize, const P: usize>(
 /// The explanation of a refusal, which points at a token.
 fn pointing(source: &Source, token: usize, fault: CompileFault, message: Vec<u8>) -> Explanation
     ensures fault { result.fault ≡ fault }
-    ensures inside { IsIn source.now.text.entry.now result }
+    ensures inside { IsIn source.now.text.now result }
 {
     let start = source.start(token);
     let end = start.saturating_add(source.bytes(token).len());

@@ -141,7 +141,7 @@ pub fn tell(
     source: &Source,
     token: usize,
 ) -> Result<(), AllocError>
-    requires { length source.now.text.entry.now ≤ 1048576 }
+    requires { length source.now.text.now ≤ 1048576 }
 {
     let expected = expected_at(alloc, source, token)?;
     let kind = source.kind(token);
