@@ -1,6 +1,7 @@
 //! Whole logs.
 
 use crate::lines::{LogLine, Logged, read_line};
+use pr_lens_place::end_of;
 use std::alloc::{AllocError, Global};
 use thiserror::Error;
 
@@ -50,15 +51,6 @@ fn add(log: &mut Log, results: usize, logged: Logged) -> Result<bool, AllocError
     log.cycles.push(logged)?;
     log.written.push(results)?;
     Ok(true)
-}
-
-/// The end of the line that begins here: the place of its line feed, or the text's end.
-fn end_of(text: &[u8], start: usize) -> usize {
-    let mut end = start;
-    while end < text.len() && text[end] != b'\n' {
-        end += 1;
-    }
-    end
 }
 
 /// Takes a line into a log; whether it is one.

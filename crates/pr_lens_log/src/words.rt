@@ -1,5 +1,7 @@
 //! Words of a line.
 
+ghost use Rattle.std.specs.Prelude.{◌≤◌};
+
 use std::str;
 
 /// A line whose words are taken from the left.
@@ -77,7 +79,9 @@ pub fn configured(word: &[u8]) -> Option<Option<(u32, u32)>> {
 }
 
 /// What a hexadecimal digit stands for; 0 for another byte.
-fn digit(byte: u8) -> u8 {
+fn digit(byte: u8) -> u8
+    ensures { result ≤ 15 }
+{
     if b'0' <= byte && byte <= b'9' {
         byte - b'0'
     } else if b'a' <= byte && byte <= b'f' {
@@ -88,11 +92,14 @@ fn digit(byte: u8) -> u8 {
 }
 
 /// The bytes of a state of at most 64 columns, and how many columns it has.
-pub fn state(word: &[u8]) -> ([u8; 64], usize) {
+pub fn state(word: &[u8]) -> ([u8; 64], usize)
+    ensures { result.1 ≤ 64 }
+{
     let mut bytes = [0u8; 64];
-    let count = (word.len() / 2).min(64);
-    for at in 0..count {
-        bytes[at] = digit(word[2 * at]) * 16 + digit(word[2 * at + 1]);
+    for at in 0..64 {
+        if 2 * at + 1 < word.len() {
+            bytes[at] = digit(word[2 * at]) * 16 + digit(word[2 * at + 1]);
+        }
     }
-    (bytes, count)
+    (bytes, (word.len() / 2).min(64))
 }

@@ -4,5 +4,5 @@
 mod lines;
 mod places;
 
-pub use lines::{Line, line_at};
+pub use lines::{Line, end_of, line_at};
 pub use places::{Place, place_at, token_place};

@@ -30,7 +30,7 @@ fn start_of(text: &[u8], offset: usize) -> usize
 }
 
 /// Where the line of a byte ends.
-fn end_of(text: &[u8], offset: usize) -> usize
+pub fn end_of(text: &[u8], offset: usize) -> usize
     requires { offset ≤ length text.now }
     ensures least { offset ≤ result }
     ensures within { result ≤ length text.now }

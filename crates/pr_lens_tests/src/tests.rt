@@ -44,8 +44,8 @@ fn otherwise(alloc: Global, cases: &[Case]) -> Result<Option<&'static str>, Allo
 }
 
 #[test]
-fn syntax(rt: HostRuntime) -> Result<(), Fail> {
-    let cases: [Case; 10] = [
+fn tokens_out_of_place(rt: HostRuntime) -> Result<(), Fail> {
+    let cases: [Case; 6] = [
         (
             "input x:8\noutput y = x;",
             "p.dil:2:1: syntax: token 4\n",
@@ -55,26 +55,6 @@ fn syntax(rt: HostRuntime) -> Result<(), Fail> {
             "input x:8;\noutput y = x x;",
             "p.dil:2:14: syntax: token 9\n",
             "a `;` or an operator is missing",
-        ),
-        (
-            "input x:8;\noutput y = 12ab;",
-            "p.dil:2:12: syntax: token 8\n",
-            "a letter follows its digits",
-        ),
-        (
-            "input x:8;\noutput y = 0x;",
-            "p.dil:2:12: syntax: token 8\n",
-            "a hexadecimal digit has to follow",
-        ),
-        (
-            "input x:8;\noutput y = x + 18446744073709551616;",
-            "p.dil:2:16: syntax: token 10\n",
-            "above 18446744073709551615",
-        ),
-        (
-            "input x:8;\noutput y = x $ 1;",
-            "p.dil:2:14: syntax: token 9\n",
-            "No token begins with this byte.",
         ),
         (
             "input x:8;\noutput y = a < b < c;",
@@ -102,8 +82,36 @@ fn syntax(rt: HostRuntime) -> Result<(), Fail> {
 }
 
 #[test]
-fn scope(rt: HostRuntime) -> Result<(), Fail> {
-    let cases: [Case; 24] = [
+fn bytes_that_are_no_token(rt: HostRuntime) -> Result<(), Fail> {
+    let cases: [Case; 4] = [
+        (
+            "input x:8;\noutput y = 12ab;",
+            "p.dil:2:12: syntax: token 8\n",
+            "a letter follows its digits",
+        ),
+        (
+            "input x:8;\noutput y = 0x;",
+            "p.dil:2:12: syntax: token 8\n",
+            "a hexadecimal digit has to follow",
+        ),
+        (
+            "input x:8;\noutput y = x + 18446744073709551616;",
+            "p.dil:2:16: syntax: token 10\n",
+            "above 18446744073709551615",
+        ),
+        (
+            "input x:8;\noutput y = x $ 1;",
+            "p.dil:2:14: syntax: token 9\n",
+            "No token begins with this byte.",
+        ),
+    ];
+    assert_eq!(rt; otherwise(rt.alloc(), &cases)?, None);
+    Ok(())
+}
+
+#[test]
+fn names_introduced_twice(rt: HostRuntime) -> Result<(), Fail> {
+    let cases: [Case; 4] = [
         (
             "input x:8;\nlet a = x;\nlet a = x;\noutput y = a;",
             "p.dil:3:5: scope: rule 1 item 2\n",
@@ -124,6 +132,14 @@ fn scope(rt: HostRuntime) -> Result<(), Fail> {
             "p.dil:2:9: scope: rule 1 item 1\n",
             "a parameter, introduced at line 2 column 6",
         ),
+    ];
+    assert_eq!(rt; otherwise(rt.alloc(), &cases)?, None);
+    Ok(())
+}
+
+#[test]
+fn names_used_too_early(rt: HostRuntime) -> Result<(), Fail> {
+    let cases: [Case; 4] = [
         (
             "input x:8;\noutput y = x + z;",
             "p.dil:2:16: scope: rule 2 item 1\n",
@@ -144,6 +160,14 @@ fn scope(rt: HostRuntime) -> Result<(), Fail> {
             "p.dil:3:28: scope: rule 2 item 2\n",
             "`b` is used before it is assigned",
         ),
+    ];
+    assert_eq!(rt; otherwise(rt.alloc(), &cases)?, None);
+    Ok(())
+}
+
+#[test]
+fn names_of_another_kind(rt: HostRuntime) -> Result<(), Fail> {
+    let cases: [Case; 5] = [
         (
             "input x:8;\noutput y = x@n;",
             "p.dil:2:14: scope: rule 3 item 1\n",
@@ -169,6 +193,14 @@ fn scope(rt: HostRuntime) -> Result<(), Fail> {
             "p.dil:3:12: scope: rule 4 item 2\n",
             "It has 2 parameters.",
         ),
+    ];
+    assert_eq!(rt; otherwise(rt.alloc(), &cases)?, None);
+    Ok(())
+}
+
+#[test]
+fn constants(rt: HostRuntime) -> Result<(), Fail> {
+    let cases: [Case; 3] = [
         (
             "input x:8;\nconst k = 3 - 5;\noutput y = x;",
             "p.dil:2:13: scope: rule 5 item 1\n",
@@ -184,6 +216,14 @@ fn scope(rt: HostRuntime) -> Result<(), Fail> {
             "p.dil:4:32: scope: rule 7 item 3\n",
             "It has 3 entries",
         ),
+    ];
+    assert_eq!(rt; otherwise(rt.alloc(), &cases)?, None);
+    Ok(())
+}
+
+#[test]
+fn bounds(rt: HostRuntime) -> Result<(), Fail> {
+    let cases: [Case; 4] = [
         (
             "input x:0;\noutput y = x;",
             "p.dil:1:9: scope: rule 8 item 0\n",
@@ -204,6 +244,14 @@ fn scope(rt: HostRuntime) -> Result<(), Fail> {
             "p.dil:2:16: scope: rule 8 item 1\n",
             "more than 128 bits",
         ),
+    ];
+    assert_eq!(rt; otherwise(rt.alloc(), &cases)?, None);
+    Ok(())
+}
+
+#[test]
+fn recurrences_and_ends(rt: HostRuntime) -> Result<(), Fail> {
+    let cases: [Case; 4] = [
         (
             "input x:8;\nrec s:4 = 16 by s@1;\noutput y = s;",
             "p.dil:2:11: scope: rule 9 item 1\n",
