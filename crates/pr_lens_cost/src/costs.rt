@@ -2,12 +2,12 @@
 
 ghost use Rattle.std.specs.Prelude.{◌≡◌, ◌≤◌, length, IfOk, IfErr};
 ghost use Rattle.pr_compile.specs.Refusals.{IsCompileAnswer};
-ghost use Rattle.pr_lens_cost.specs.Costs.{IsCost};
+ghost use Rattle.pr_lens_cost.specs.Costs.{HasEquationCount, IsCost};
 
 use crate::counts::{StageCost, stage_costs};
-use pr_compile::{CompileFault, compile_front};
+use pr_compile::{CompileFault, compile_counted};
 use pr_compile_front::read_program;
-use std::alloc::Global;
+use std::alloc::{AllocError, Global};
 
 /// What a program costs.
 #[derive(Debug, Drop)]
@@ -17,24 +17,37 @@ pub struct Cost {
     pub stages: Vec<StageCost>,
 }
 
-/// What the program of a text costs on N columns and P registers; else why it has no configuration there.
+/// How many equations the program of a text has.
+fn equations_of(alloc: Global, text: &[u8]) -> Result<usize, AllocError>
+    requires { length text.now ≤ 1048576 }
+    ensures { IfOk result (HasEquationCount text.now) }
+{
+    match read_program(alloc, text) {
+        Ok(front) => Ok(front.flat.equations.len()),
+        Err(_) => Err(AllocError),
+    }
+}
+
+/// What the program of a text costs on N columns and P registers, with its equations narrowed where that is asked for; else why
+/// it has no configuration there.
 pub fn cost_of<const N: usize, const P: usize>(
     alloc: Global,
     text: &[u8],
+    narrowed: bool,
 ) -> Result<Cost, CompileFault>
     requires short { length text.now ≤ 1048576 }
     requires columns { 1 ≤ N }
     requires most_columns { N ≤ 64 }
     requires registers { 2 ≤ P }
     requires most_registers { P ≤ 16 }
-    ensures cost { IfOk result (IsCost N P text.now) }
-    ensures refused { IfErr result (IsCompileAnswer N P text.now) }
+    ensures cost { IfOk result (IsCost N P narrowed text.now) }
+    ensures refused { IfErr result (IsCompileAnswer N P narrowed text.now) }
 {
-    let front = read_program(alloc, text)?;
-    let compiled = compile_front::<N, P>(alloc, &front)?;
+    let compiled = compile_counted::<N, P>(alloc, text, narrowed)?;
     let stages = stage_costs(alloc, &compiled.conf.stages)?;
+    let equations = equations_of(alloc, text)?;
     Ok(Cost {
-        equations: front.flat.equations.len(),
+        equations,
         units: compiled.units,
         stages,
     })

@@ -87,10 +87,22 @@ fn put_stripes(
     Ok(())
 }
 
-/// The text of a cost, on so many columns, for runs of so many samples.
+/// Adds what narrowing saves.
+fn put_narrowed(text: &mut Vec<u8>, narrowed: Option<&Cost>) -> Result<(), AllocError> {
+    match narrowed {
+        None => Ok(()),
+        Some(cost) => {
+            put_count(text, "units with --narrow ", cost.units)?;
+            put_count(text, "stages with --narrow ", cost.stages.len())
+        }
+    }
+}
+
+/// The text of a cost, and of that with narrowed equations, on so many columns, for runs of so many samples.
 pub fn put_cost(
     alloc: Global,
     cost: &Cost,
+    narrowed: Option<&Cost>,
     columns: usize,
     samples: u64,
 ) -> Result<Vec<u8>, AllocError> {
@@ -98,6 +110,7 @@ pub fn put_cost(
     put_count(&mut text, "equations ", cost.equations)?;
     put_count(&mut text, "units ", cost.units)?;
     put_count(&mut text, "stages ", cost.stages.len())?;
+    put_narrowed(&mut text, narrowed)?;
     let (number, most) = fullest(&cost.stages);
     put_count(&mut text, "fullest stage ", number)?;
     put_count(&mut text, "its columns in use ", most)?;

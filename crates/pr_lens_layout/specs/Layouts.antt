@@ -7,7 +7,8 @@ use Rattle.pr_place.specs.declared.placements.Home.{Home}
 use Rattle.pr_place.specs.Placements.{HomeShape, PlacementShape}
 use Rattle.pr_place.specs.Greedy.{IsGreedy}
 use Rattle.pr_compile_front.specs.Refusals.{HasWidths}
-use Rattle.pr_compile.specs.Configured.{net_by}
+use Rattle.pr_expand_spec.specs.Programs.{equations_of}
+use Rattle.pr_cut_units.specs.Nets.{net_of}
 use Rattle.pr_lens_layout.specs.declared.layouts.Layout.{Layout}
 
 abbrev pub stage_of_home : Home → ℕ
@@ -28,4 +29,4 @@ pub record IsLayout (N P : ℕ) (text : List ℕ) (layout : Layout) : Type 0 whe
   pub program : Program
   pub widths : List ℕ
   pub has : HasWidths text program widths
-  pub laid_out : IsLaidOut N P (net_by program widths) layout
+  pub laid_out : IsLaidOut N P (net_of (equations_of program).equations widths (equations_of program).outputs) layout

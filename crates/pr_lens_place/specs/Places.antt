@@ -1,5 +1,5 @@
 -- Lines and columns. A line ends before a line feed, or with the text.
-use Rattle.std.specs.Prelude.{ℕ, ◌≡◌, ◌≢◌, ◌⊎◌, ◌+◌, ◌-◌, ◌<◌, ◌≤◌, List, length, take, count_by, slice_index, Unit}
+use Rattle.std.specs.Prelude.{ℕ, ◌≡◌, ◌≢◌, ◌⊎◌, ◌+◌, ◌-◌, ◌<◌, ◌≤◌, List, length, take, count_by, slice_index}
 use Rattle.pr_lang.specs.Spelling.{is_line_feed}
 use Rattle.pr_lens_place.specs.declared.lines.Line.{Line}
 use Rattle.pr_lens_place.specs.declared.places.Place.{Place}

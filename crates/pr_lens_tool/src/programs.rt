@@ -51,9 +51,10 @@ pub fn cost<const N: usize, const P: usize, K: Sink>(
     requires registers { 2 ≤ P }
     requires most_registers { P ≤ 16 }
 {
-    match cost_of::<N, P>(alloc, text) {
+    match cost_of::<N, P>(alloc, text, false) {
         Ok(cost) => {
-            let table = put_cost(alloc, &cost, N, samples)?;
+            let narrowed = cost_of::<N, P>(alloc, text, true).ok();
+            let table = put_cost(alloc, &cost, narrowed.as_ref(), N, samples)?;
             write_all(out, &table)?;
             Ok(Answer::Ok)
         }

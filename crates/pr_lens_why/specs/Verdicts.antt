@@ -1,5 +1,5 @@
 -- What an explanation says.
-use Rattle.std.specs.Prelude.{ℕ, ◌≤◌, List, length}
+use Rattle.std.specs.Prelude.{ℕ, ◌≤◌, false, List, length}
 use Rattle.pr_conf.specs.Shape.{Shape}
 use Rattle.pr_compile.specs.Configured.{IsCompiled}
 use Rattle.pr_compile.specs.Refusals.{IsRefused}
@@ -15,11 +15,11 @@ pub record IsIn (text : List ℕ) (e : Explanation) : Type 0 where
 -- a text has a configuration
 pub record HasConfiguration (N P : ℕ) (text : List ℕ) : Type 0 where
   pub conf : Shape
-  pub compiled : IsCompiled N P text conf
+  pub compiled : IsCompiled N P false text conf
 
 -- a text is refused as the explanation says, and it points into the text
 pub record IsExplained (N P : ℕ) (text : List ℕ) (e : Explanation) : Type 0 where
-  pub refused : IsRefused N P text e.fault
+  pub refused : IsRefused N P false text e.fault
   pub inside : IsIn text e
 
 -- a verdict on a text

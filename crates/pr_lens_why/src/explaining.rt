@@ -1,6 +1,6 @@
 //! Explanations of refusals.
 
-ghost use Rattle.std.specs.Prelude.{◌≡◌, ◌≤◌, length, IfOk};
+ghost use Rattle.std.specs.Prelude.{◌≡◌, ◌≤◌, false, length, IfOk};
 ghost use Rattle.pr_compile.specs.Refusals.{IsCompileAnswer};
 ghost use Rattle.pr_lens_why.specs.Verdicts.{IsVerdict, IsIn};
 
@@ -167,7 +167,7 @@ fn refused<const N: usize, const P: usize>(
     requires most_columns { N ≤ 64 }
     requires registers { 2 ≤ P }
     requires most_registers { P ≤ 16 }
-    requires answer { IsCompileAnswer N P text.now fault }
+    requires answer { IsCompileAnswer N P false text.now fault }
     ensures { IfOk result (IsVerdict N P text.now) }
 {
     if let CompileFault::Memory(_) = &fault {
