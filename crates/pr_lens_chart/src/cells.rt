@@ -24,7 +24,7 @@ fn put_cell(
     comes: bool,
 ) -> Result<(), AllocError> {
     put_area(text, area)?;
-    put_fill(text, stage, stages, !comes)?;
+    put_fill(text, stage as usize, stages, !comes)?;
     let class = if comes { "b" } else { "n" };
     let x = area.x.saturating_add(area.width / 2);
     put_digits(text, class, x, area.y.saturating_add(17), stage as usize)

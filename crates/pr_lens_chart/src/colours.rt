@@ -6,11 +6,11 @@ use std::alloc::AllocError;
 /// Adds the colour of a stage, of so many: round the circle of colours, paler where the stage computes.
 pub fn put_fill(
     text: &mut Vec<u8>,
-    stage: u32,
+    stage: usize,
     stages: usize,
     computes: bool,
 ) -> Result<(), AllocError> {
-    let hue = (stage as usize).saturating_mul(360) / stages.max(1) % 360;
+    let hue = stage.saturating_mul(360) / stages.max(1) % 360;
     put(text, " fill=\"hsl(")?;
     put_number(text, hue)?;
     put(

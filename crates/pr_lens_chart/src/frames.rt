@@ -68,7 +68,7 @@ fn put_stage(text: &mut Vec<u8>, stage: usize, stages: usize, y: usize) -> Resul
         height: 18,
     };
     put_area(text, area)?;
-    put_fill(text, stage as u32, stages, true)?;
+    put_fill(text, stage, stages, true)?;
     put_digits(text, "n", x.saturating_add(12), y.saturating_add(13), stage)
 }
 

@@ -4,7 +4,7 @@ ghost use Rattle.std.specs.Prelude.{◌≤◌, length};
 
 use crate::fronts::{Seen, cut_front, front_of, item_of, see};
 use crate::introduced::introduced_before;
-use crate::sources::Source;
+use crate::sources::{Source, short};
 use pr_lang::{Item, Kind};
 use pr_lens_cut::Cut;
 use pr_lens_points::{Frame, Points, points_of};
@@ -141,9 +141,9 @@ fn in_frame(
     match broken.rule {
         1 => Ok(name_again(&broken.source, frame)),
         8 => Ok(wrong_width(&broken.source, frame)),
-        9 => Ok(numbered(&frame.fixeds, frame.fixeds.len() as u32)),
+        9 => Ok(numbered(&frame.fixeds, short(frame.fixeds.len()))),
         _ => {
-            let most = frame.fixeds.len() as u32;
+            let most = short(frame.fixeds.len());
             let number = least(alloc, broken, By::Fixeds(frames), most)?;
             Ok(numbered(&frame.fixeds, number))
         }
@@ -158,7 +158,7 @@ fn among_frames(
 ) -> Result<Option<usize>, AllocError>
     requires { length broken.now.source.text.now ≤ 1048576 }
 {
-    let frames = least(alloc, broken, By::Frames, points.frames.len() as u32)?;
+    let frames = least(alloc, broken, By::Frames, short(points.frames.len()))?;
     match points.frames.get((frames as usize).saturating_sub(1)) {
         None => Ok(None),
         Some(frame) => in_frame(alloc, broken, frame, frames),
@@ -175,7 +175,7 @@ fn among_points(
     if breaks(alloc, broken, cut_by(By::Values, 0))? {
         return among_frames(alloc, broken, points);
     }
-    let number = least(alloc, broken, By::Values, points.values.len() as u32)?;
+    let number = least(alloc, broken, By::Values, short(points.values.len()))?;
     Ok(numbered(&points.values, number))
 }
 
@@ -195,7 +195,7 @@ pub fn find_offence(
     let Some(item) = item_of(alloc, source, number)? else {
         return Ok(first);
     };
-    let points = points_of(alloc, first as u32, &item)?;
+    let points = points_of(alloc, short(first), &item)?;
     let broken = Broken {
         source: *source,
         rule,

@@ -79,6 +79,14 @@ impl<'a> Source<'a> {
     }
 }
 
+/// The number, or the greatest of 32 bits where it has more.
+pub fn short(number: usize) -> u32 {
+    if number < 4_294_967_295 {
+        return number as u32;
+    }
+    u32::MAX
+}
+
 /// How deep brackets are open after a token.
 fn depth_after(depth: usize, kind: Kind) -> usize {
     match kind {

@@ -5,7 +5,7 @@ ghost use Rattle.pr_scope.specs.Walk.{offence};
 
 use crate::fronts::{cut_front, front_of, item_of, with_ends};
 use crate::offences::MANY;
-use crate::sources::Source;
+use crate::sources::{Source, short};
 use pr_expand::{ExpandFault, expand};
 use pr_flat::{Flat, Op, Operand};
 use pr_lang::{Item, Program};
@@ -257,8 +257,8 @@ pub fn find_missing(alloc: Global, source: &Source, equation: usize) -> Result<M
     let Some(item) = item_of(alloc, source, number)? else {
         return Ok(missing);
     };
-    let points = points_of(alloc, first as u32, &item)?;
-    let point = least(alloc, source, number, &item, points.values.len() as u32)?;
+    let points = points_of(alloc, short(first), &item)?;
+    let point = least(alloc, source, number, &item, short(points.values.len()))?;
     if let Some(token) = points.values.get((point as usize).saturating_sub(1)) {
         missing.token = *token as usize;
     }

@@ -22,12 +22,10 @@ pub fn put_name(text: &mut Vec<u8>, signal: usize) -> Result<(), AllocError> {
 
 /// Adds the bits of a number, the highest first, without leading zeros.
 fn put_bits(text: &mut Vec<u8>, number: u64) -> Result<(), AllocError> {
-    let mut left = 64;
     let mut begun = false;
-    while 0 < left {
-        left -= 1;
-        let bit = (number >> left) % 2;
-        begun = begun || bit == 1 || left == 0;
+    for place in 0..64u32 {
+        let bit = (number >> (63 - place)) % 2;
+        begun = begun || bit == 1 || place == 63;
         if begun {
             text.push(if bit == 1 { b'1' } else { b'0' })?;
         }
