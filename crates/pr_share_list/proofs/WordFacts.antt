@@ -190,3 +190,10 @@ no_line (b ∷ text) h = by_test (is_end b) refl (no_line text)
     by_test : (t : Bool) → is_end b ≡ t → (length text ≤ line_end text → lines_of text ≡ record { whole = []; last = text }) → lines_of (b ∷ text) ≡ record { whole = []; last = b ∷ text }
     by_test true e rest = absurd (let z = end-here b text e in omega (arith, h, z))
     by_test false e rest = lines_of-open b text text e (rest (let z = end-later b text e in omega (arith, h, z)))
+
+-- ---- as the code finds them
+pub word_found : (line rest : List ℕ) (n k : ℕ) → n ≡ unwrap_or (position (λ b. not (is_blank b)) line) (length line) → rest ≡ drop n line → k ≡ unwrap_or (position is_blank rest) (length rest) → (take k rest ≡ word_in line) × (drop k rest ≡ rest_in line)
+word_found line rest n k e f g =
+    let at : rest ≡ after_blanks line = f ∙ ap (λ m. drop m line) (e ∙ place_or_len (λ b. not (is_blank b)) line) in
+    let end : k ≡ letters (after_blanks line) = g ∙ (place_or_len is_blank rest ∙ ap letters at) in
+    (ap₂ (λ m xs. take m xs) end at, ap₂ (λ m xs. drop m xs) end at)

@@ -1,6 +1,5 @@
 //! The words of a line.
-ghost use Rattle.std.specs.Prelude.{◌≡◌, ◌≤◌, not, [], ◌∷◌, length, MatchOption};
-ghost use Rattle.std.specs.List.{position_or_len};
+ghost use Rattle.std.specs.Prelude.{◌≡◌, ◌≤◌, not, [], ◌∷◌, length, position, unwrap_or, MatchOption};
 ghost use Rattle.pr_samples.specs.Lines.{is_blank, words_of, begins_apart};
 
 /// Whether a byte is a blank.
@@ -22,7 +21,7 @@ pub(crate) fn begins_apart(line: &[u8]) -> bool
 
 /// The number of blanks at the front of a line.
 fn blanks(line: &[u8]) -> usize
-    ensures count { result ≡ position_or_len (λ b. not (is_blank b)) line.now }
+    ensures count { result ≡ unwrap_or (position (λ b. not (is_blank b)) line.now) (length line.now) }
     ensures within { result ≤ length line.now }
 {
     line.iter()
@@ -32,7 +31,7 @@ fn blanks(line: &[u8]) -> usize
 
 /// The number of bytes before the first blank of a line.
 fn letters(line: &[u8]) -> usize
-    ensures count { result ≡ position_or_len is_blank line.now }
+    ensures count { result ≡ unwrap_or (position is_blank line.now) (length line.now) }
     ensures within { result ≤ length line.now }
 {
     line.iter()
