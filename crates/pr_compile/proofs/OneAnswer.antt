@@ -1,9 +1,9 @@
 -- A net has one refusal at most, equations one configuration, and a text one refusal or one configuration.
-use Rattle.std.proofs.Common.{◌≡◌, ◌⊎◌, ℕ, Some, None, List, refl, sym, ap, ap₂, ◌∙◌, subst, inl, inr}
+use Rattle.std.proofs.Common.{◌≡◌, ◌⊎◌, ℕ, Bool, Some, None, List, refl, sym, ap, ap₂, ◌∙◌, subst, inl, inr}
 use Rattle.pr_lang.specs.declared.trees.Program.{Program}
 use Rattle.pr_flat.specs.declared.equations.Operand.{Operand}
 use Rattle.pr_flat.specs.Shape.{EquationShape}
-use Rattle.pr_expand_spec.specs.Programs.{Flattened}
+use Rattle.pr_expand_spec.specs.Programs.{Flattened, equations_of}
 use Rattle.pr_net.specs.Shape.{NetShape}
 use Rattle.pr_cut_units.specs.Nets.{net_of}
 use Rattle.pr_place.specs.Placements.{HomeShape, PlacementShape}
@@ -17,9 +17,10 @@ use Rattle.pr_compile_front.specs.Refusals.{HasWidths, IsRefusal}
 use Rattle.pr_compile_front.proofs.OneRefusal.{one-refusal, no-refusal}
 use Rattle.pr_compile.specs.declared.faults.CompileFault.{CompileFault}
 use Rattle.pr_compile.specs.declared.faults.CompileFault.TheVariants.{Syntax, Scope, NoWidth, NoFit, Limit, Memory}
-use Rattle.pr_compile.specs.Configured.{net_by, IsConfigured, IsCompiled}
-use Rattle.pr_compile.specs.Refusals.{IsNetRefusal, HasNetRefusal, IsRefused}
+use Rattle.pr_compile.specs.Configured.{net_by, IsConfigured, IsConfiguredBy, IsCompiled}
+use Rattle.pr_compile.specs.Refusals.{IsNetRefusal, IsUnfit, HasNetRefusal, IsRefused}
 use Rattle.pr_compile.specs.Faults.{front_fault}
+use Rattle.pr_compile.proofs.Ready.{ready_also, holds_also}
 use Rattle.pr_compile.proofs.Programs.{same_equations, configured_also}
 
 -- ---- nets and equations
@@ -52,35 +53,57 @@ record HasFrontRefusal (text : List ℕ) (e : CompileFault) : Type 0 where
   refused : IsRefusal text fault
   is : e ≡ front_fault fault
 
-refused_by : (N P : ℕ) (text : List ℕ) (e : CompileFault) → IsRefused N P text e → HasFrontRefusal text e ⊎ HasNetRefusal N P text e
-refused_by N P text (Syntax token) r = inl (record { fault = front.Syntax token; refused = r; is = refl })
-refused_by N P text (Scope rule item) r = inl (record { fault = front.Scope rule item; refused = r; is = refl })
-refused_by N P text (NoWidth equation) r = inl (record { fault = front.NoWidth equation; refused = r; is = refl })
-refused_by N P text (NoFit unit) r = inr r
-refused_by N P text (Limit which) (inl r) = inl (record { fault = front.Limit which; refused = r; is = refl })
-refused_by N P text (Limit which) (inr r) = inr r
-refused_by N P text (Memory e) r = absurd r
+refused_by : (N P : ℕ) (narrow : Bool) (text : List ℕ) (e : CompileFault) → IsRefused N P narrow text e → HasFrontRefusal text e ⊎ HasNetRefusal N P narrow text e
+refused_by N P narrow text (Syntax token) r = inl (record { fault = front.Syntax token; refused = r; is = refl })
+refused_by N P narrow text (Scope rule item) r = inl (record { fault = front.Scope rule item; refused = r; is = refl })
+refused_by N P narrow text (NoWidth equation) r = inl (record { fault = front.NoWidth equation; refused = r; is = refl })
+refused_by N P narrow text (NoFit unit) r = inr r
+refused_by N P narrow text (Limit which) (inl r) = inl (record { fault = front.Limit which; refused = r; is = refl })
+refused_by N P narrow text (Limit which) (inr r) = inr r
+refused_by N P narrow text (Memory e) r = absurd r
 
-same_net : (text : List ℕ) (p q : Program) (v w : List ℕ) → HasWidths text p v → HasWidths text q w → net_by p v ≡ net_by q w
-same_net text p q v w one other = let same = same_equations text p q v w one other in ap₂ (λ (f : Flattened) (ws : List ℕ). net_of f.equations ws f.outputs) same.0 same.1
+-- the net of flattened equations that are ready is refused so
+refused_flattened : (N P : ℕ) → CompileFault → Flattened → List EquationShape → List ℕ → Type 0
+refused_flattened N P e f ready news = IsNetRefusal N P (net_of ready news f.outputs) e
 
-pub one_answer : (N P : ℕ) (text : List ℕ) (e f : CompileFault) → IsRefused N P text e → IsRefused N P text f → e ≡ f
-one_answer N P text e f x y = elim (refused_by N P text e x) [
-  | inl a ↦ elim (refused_by N P text f y) [
+unfit_also : (N P : ℕ) (narrow : Bool) (text : List ℕ) (p q : Program) (v w : List ℕ) (e : CompileFault) → HasWidths text p v → HasWidths text q w → IsUnfit N P narrow p v e → IsUnfit N P narrow q w e
+unfolding refused_flattened
+unfit_also N P narrow text p q v w e one other r = ready_also (refused_flattened N P e) narrow (equations_of p) (equations_of q) v w (same_equations text p q v w one other) r
+
+one_unfit : (N P : ℕ) (narrow : Bool) (program : Program) (widths : List ℕ) (e f : CompileFault) → IsUnfit N P narrow program widths e → IsUnfit N P narrow program widths f → e ≡ f
+one_unfit N P narrow program widths e f x y =
+    let also = holds_also narrow (equations_of program).equations (equations_of program).outputs widths (λ ready news. IsNetRefusal N P (net_by program ready news) e) (λ ready news. IsNetRefusal N P (net_by program ready news) f) x y in
+    one_net_refusal N P (net_by program y.ready y.news) e f also y.holds
+
+unfit_or_configured : (N P : ℕ) (narrow : Bool) (program : Program) (widths : List ℕ) (e : CompileFault) (conf : Shape) → IsUnfit N P narrow program widths e → IsConfiguredBy N P narrow program widths conf → ⊥
+unfit_or_configured N P narrow program widths e conf x c =
+    let outputs = (equations_of program).outputs in
+    let also = holds_also narrow (equations_of program).equations outputs widths (λ ready news. IsNetRefusal N P (net_by program ready news) e) (λ ready news. IsConfigured N P ready news outputs conf) x c in
+    refused_or_configured N P c.ready c.news outputs e conf also c.holds
+
+one_configured : (N P : ℕ) (narrow : Bool) (program : Program) (widths : List ℕ) (c d : Shape) → IsConfiguredBy N P narrow program widths c → IsConfiguredBy N P narrow program widths d → c ≡ d
+one_configured N P narrow program widths c d x y =
+    let outputs = (equations_of program).outputs in
+    let also = holds_also narrow (equations_of program).equations outputs widths (λ ready news. IsConfigured N P ready news outputs c) (λ ready news. IsConfigured N P ready news outputs d) x y in
+    one_configuration N P y.ready y.news outputs c d also y.holds
+
+pub one_answer : (N P : ℕ) (narrow : Bool) (text : List ℕ) (e f : CompileFault) → IsRefused N P narrow text e → IsRefused N P narrow text f → e ≡ f
+one_answer N P narrow text e f x y = elim (refused_by N P narrow text e x) [
+  | inl a ↦ elim (refused_by N P narrow text f y) [
     | inl b ↦ a.is ∙ (ap front_fault (one-refusal text a.fault b.fault a.refused b.refused) ∙ sym b.is)
     | inr b ↦ absurd (no-refusal text a.fault b.program b.widths a.refused b.has)
   ]
-  | inr a ↦ elim (refused_by N P text f y) [
+  | inr a ↦ elim (refused_by N P narrow text f y) [
     | inl b ↦ absurd (no-refusal text b.fault a.program a.widths b.refused a.has)
-    | inr b ↦ one_net_refusal N P (net_by b.program b.widths) e f (subst (λ (net : NetShape). IsNetRefusal N P net e) (same_net text a.program b.program a.widths b.widths a.has b.has) a.refused) b.refused
+    | inr b ↦ one_unfit N P narrow b.program b.widths e f (unfit_also N P narrow text a.program b.program a.widths b.widths e a.has b.has a.refused) b.refused
   ]
 ]
 
-pub no_answer : (N P : ℕ) (text : List ℕ) (e : CompileFault) (conf : Shape) → IsRefused N P text e → IsCompiled N P text conf → ⊥
-no_answer N P text e conf x c = elim (refused_by N P text e x) [
+pub no_answer : (N P : ℕ) (narrow : Bool) (text : List ℕ) (e : CompileFault) (conf : Shape) → IsRefused N P narrow text e → IsCompiled N P narrow text conf → ⊥
+no_answer N P narrow text e conf x c = elim (refused_by N P narrow text e x) [
   | inl a ↦ no-refusal text a.fault c.program c.widths a.refused c.has
-  | inr a ↦ refused_or_configured N P _ c.widths _ e conf (subst (λ (net : NetShape). IsNetRefusal N P net e) (same_net text a.program c.program a.widths c.widths a.has c.has) a.refused) c.configured
+  | inr a ↦ unfit_or_configured N P narrow c.program c.widths e conf (unfit_also N P narrow text a.program c.program a.widths c.widths e a.has c.has a.refused) c.configured
 ]
 
-pub one_compiled : (N P : ℕ) (text : List ℕ) (c d : Shape) → IsCompiled N P text c → IsCompiled N P text d → c ≡ d
-one_compiled N P text c d x y = one_configuration N P _ y.widths _ c d (configured_also N P text x.program y.program x.widths y.widths c x.has y.has x.configured) y.configured
+pub one_compiled : (N P : ℕ) (narrow : Bool) (text : List ℕ) (c d : Shape) → IsCompiled N P narrow text c → IsCompiled N P narrow text d → c ≡ d
+one_compiled N P narrow text c d x y = one_configured N P narrow y.program y.widths c d (configured_also N P narrow text x.program y.program x.widths y.widths c x.has y.has x.configured) y.configured

@@ -1,5 +1,5 @@
 -- From the answers of the passes to those of the whole.
-use Rattle.std.proofs.Common.{◌≡◌, ℕ, Some, None, List, Result, Err, refl, sym, ap₂, subst, inl, inr}
+use Rattle.std.proofs.Common.{◌≡◌, ℕ, Bool, true, false, Some, None, List, Result, Err, refl, sym, subst, inl, inr}
 use Rattle.std.specs.Result.{IfErr}
 use Rattle.pr_base.specs.declared.caps.Cap.{Cap}
 use Rattle.pr_lang.specs.declared.trees.Program.{Program}
@@ -15,16 +15,17 @@ use Rattle.pr_cut_units.specs.Nets.{net_of, limit_passed}
 use Rattle.pr_cut_units.proofs.StartNets.{are_lawful}
 use Rattle.pr_cut_plan.specs.declared.faults.CutFault.{CutFault}
 use Rattle.pr_cut_plan.specs.declared.faults.CutFault.TheVariants as cut
-use Rattle.pr_conf.specs.Shape.{Shape}
 use Rattle.pr_compile_front.specs.declared.faults.FrontFault.{FrontFault}
 use Rattle.pr_compile_front.specs.declared.faults.FrontFault.TheVariants as front
 use Rattle.pr_compile_front.specs.Refusals.{HasWidths, IsAnswer}
 use Rattle.pr_compile_front.specs.Passed.{HasEquations}
 use Rattle.pr_compile.specs.declared.faults.CompileFault.{CompileFault}
 use Rattle.pr_compile.specs.declared.faults.CompileFault.TheVariants.{Syntax, Scope, NoWidth, NoFit, Limit, Memory}
-use Rattle.pr_compile.specs.Configured.{net_by, IsConfigured, IsConfiguredBy}
+use Rattle.pr_narrow.specs.Narrowed.{AreNarrowed}
+use Rattle.pr_compile.specs.Configured.{OfReadyBy, net_by}
 use Rattle.pr_compile.specs.Faults.{front_fault, cut_fault}
-use Rattle.pr_compile.specs.Refusals.{IsNetAnswer, IsCompileAnswer}
+use Rattle.pr_compile.specs.Refusals.{IsNetRefusal, IsNetAnswer, IsUnfit, IsFrontAnswer, IsCompileAnswer}
+use Rattle.pr_compile.proofs.Ready.{whole_ready, narrowed_ready}
 
 -- the net of equations is one that can be placed
 pub cut_lawful : (N : ℕ) (equations : List EquationShape) (widths : List ℕ) (outputs : List Operand) (net : NetShape) → IsFlat equations outputs → AreWidths equations widths
@@ -44,32 +45,50 @@ at_net_exit N P net r e p is = rw (p.1, p.2) is
 pub flat_widths : (program : Program) (flat : Flat) (widths : List ℕ) → HasEquations program flat → AreWidths (equations_of program).equations widths → AreWidths (shapes_of flat.equations.items) widths
 flat_widths program flat widths h are = subst (λ (es : List EquationShape). AreWidths es widths) (sym h.equations) are
 
-pub net_is : (program : Program) (flat : Flat) (widths : List ℕ) → HasEquations program flat → net_of (shapes_of flat.equations.items) widths flat.outputs.items ≡ net_by program widths
-net_is program flat widths h = ap₂ (λ (es : List EquationShape) (qs : List Operand). net_of es widths qs) h.equations h.outputs
+-- a net that is refused, of equations that are ready
+net_refusal : (N P : ℕ) → CompileFault → List EquationShape → List ℕ → List Operand → Type 0
+net_refusal N P e ready news outputs = IsNetRefusal N P (net_of ready news outputs) e
 
-pub configured_by : (N P : ℕ) (program : Program) (flat : Flat) (widths : List ℕ) (conf : Shape) → HasEquations program flat → IsConfigured N P (shapes_of flat.equations.items) widths flat.outputs.items conf → IsConfiguredBy N P program widths conf
-configured_by N P program flat widths conf h c =
-    subst (λ (qs : List Operand). IsConfigured N P (equations_of program).equations widths qs conf) h.outputs (subst (λ (es : List EquationShape). IsConfigured N P es widths flat.outputs.items conf) h.equations c)
+module _ (N P : ℕ) (program : Program) (flat : Flat) (widths : List ℕ) (h : HasEquations program flat) (all : AreWidths (equations_of program).equations widths) where
+  pub whole_answer : (e : CompileFault) → IsNetAnswer N P (net_of (shapes_of flat.equations.items) widths flat.outputs.items) e → IsFrontAnswer N P false program widths e
+  unfolding net_refusal
+  whole_answer (NoFit unit) is = whole_ready (net_refusal N P (NoFit unit)) program flat widths h all is
+  whole_answer (Limit which) is = whole_ready (net_refusal N P (Limit which)) program flat widths h all is
+  whole_answer (Memory e) is = is
+  whole_answer (Syntax token) is = absurd is
+  whole_answer (Scope rule item) is = absurd is
+  whole_answer (NoWidth equation) is = absurd is
 
-pub answer_by : (N P : ℕ) (program : Program) (flat : Flat) (widths : List ℕ) (e : CompileFault) → HasEquations program flat → IsNetAnswer N P (net_of (shapes_of flat.equations.items) widths flat.outputs.items) e → IsNetAnswer N P (net_by program widths) e
-answer_by N P program flat widths e h answer = subst (λ (net : NetShape). IsNetAnswer N P net e) (net_is program flat widths h) answer
+  pub narrowed_answer : (narrowed : Flat) (news : List ℕ) → AreNarrowed (shapes_of flat.equations.items) flat.outputs.items widths (shapes_of narrowed.equations.items) news → narrowed.outputs.items ≡ flat.outputs.items
+      → (e : CompileFault) → IsNetAnswer N P (net_of (shapes_of narrowed.equations.items) news narrowed.outputs.items) e → IsFrontAnswer N P true program widths e
+  unfolding net_refusal
+  narrowed_answer narrowed news n outputs (NoFit unit) is = narrowed_ready (net_refusal N P (NoFit unit)) program flat widths h all narrowed news n outputs is
+  narrowed_answer narrowed news n outputs (Limit which) is = narrowed_ready (net_refusal N P (Limit which)) program flat widths h all narrowed news n outputs is
+  narrowed_answer narrowed news n outputs (Memory e) is = is
+  narrowed_answer narrowed news n outputs (Syntax token) is = absurd is
+  narrowed_answer narrowed news n outputs (Scope rule item) is = absurd is
+  narrowed_answer narrowed news n outputs (NoWidth equation) is = absurd is
+
+-- the fault with which a step ends the compilation of a program
+pub at_front_exit : {T : Type 0} (N P : ℕ) (narrow : Bool) (program : Program) (widths : List ℕ) (r : Result T CompileFault) (e : CompileFault) → (y : CompileFault) × (r ≡ Err y) × (y ≡ e) → IsFrontAnswer N P narrow program widths e → IfErr r (λ x. IsFrontAnswer N P narrow program widths x)
+at_front_exit N P narrow program widths r e p is = rw (p.1, p.2) is
 
 -- ---- a text
-pub front_answer : (N P : ℕ) (text : List ℕ) (e : FrontFault) → IsAnswer text e → IsCompileAnswer N P text (front_fault e)
-front_answer N P text (front.Syntax token) is = is
-front_answer N P text (front.Scope rule item) is = is
-front_answer N P text (front.NoWidth equation) is = is
-front_answer N P text (front.Limit which) is = inl is
-front_answer N P text (front.Memory e) is = is
+pub front_answer : (N P : ℕ) (narrow : Bool) (text : List ℕ) (e : FrontFault) → IsAnswer text e → IsCompileAnswer N P narrow text (front_fault e)
+front_answer N P narrow text (front.Syntax token) is = is
+front_answer N P narrow text (front.Scope rule item) is = is
+front_answer N P narrow text (front.NoWidth equation) is = is
+front_answer N P narrow text (front.Limit which) is = inl is
+front_answer N P narrow text (front.Memory e) is = is
 
-pub net_answer : (N P : ℕ) (text : List ℕ) (program : Program) (widths : List ℕ) (e : CompileFault) → HasWidths text program widths → IsNetAnswer N P (net_by program widths) e → IsCompileAnswer N P text e
-net_answer N P text program widths (NoFit unit) has is = record { program = program; widths = widths; has = has; refused = is }
-net_answer N P text program widths (Limit which) has is = inr (record { program = program; widths = widths; has = has; refused = is })
-net_answer N P text program widths (Memory e) has is = is
-net_answer N P text program widths (Syntax token) has is = absurd is
-net_answer N P text program widths (Scope rule item) has is = absurd is
-net_answer N P text program widths (NoWidth equation) has is = absurd is
+pub net_answer : (N P : ℕ) (narrow : Bool) (text : List ℕ) (program : Program) (widths : List ℕ) (e : CompileFault) → HasWidths text program widths → IsFrontAnswer N P narrow program widths e → IsCompileAnswer N P narrow text e
+net_answer N P narrow text program widths (NoFit unit) has is = record { program = program; widths = widths; has = has; refused = is }
+net_answer N P narrow text program widths (Limit which) has is = inr (record { program = program; widths = widths; has = has; refused = is })
+net_answer N P narrow text program widths (Memory e) has is = is
+net_answer N P narrow text program widths (Syntax token) has is = absurd (is.holds)
+net_answer N P narrow text program widths (Scope rule item) has is = absurd (is.holds)
+net_answer N P narrow text program widths (NoWidth equation) has is = absurd (is.holds)
 
 -- the fault with which a step ends the whole
-pub at_exit : {T : Type 0} (N P : ℕ) (text : List ℕ) (r : Result T CompileFault) (e : CompileFault) → (y : CompileFault) × (r ≡ Err y) × (y ≡ e) → IsCompileAnswer N P text e → IfErr r (λ x. IsCompileAnswer N P text x)
-at_exit N P text r e p is = rw (p.1, p.2) is
+pub at_exit : {T : Type 0} (N P : ℕ) (narrow : Bool) (text : List ℕ) (r : Result T CompileFault) (e : CompileFault) → (y : CompileFault) × (r ≡ Err y) × (y ≡ e) → IsCompileAnswer N P narrow text e → IfErr r (λ x. IsCompileAnswer N P narrow text x)
+at_exit N P narrow text r e p is = rw (p.1, p.2) is

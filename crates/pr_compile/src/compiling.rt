@@ -1,20 +1,21 @@
 //! The steps from a text to its configuration.
 
-ghost use Rattle.std.specs.Prelude.{◌≡◌, ◌≤◌, length, IfOk, IfErr};
+ghost use Rattle.std.specs.Prelude.{◌≡◌, ◌≤◌, true, false, length, IfOk, IfErr};
 ghost use Rattle.pr_flat.specs.Shape.{shapes_of};
 ghost use Rattle.pr_flat.specs.Widths.{AreWidths};
 ghost use Rattle.pr_expand_spec.specs.Programs.{equations_of};
 ghost use Rattle.pr_cut_units.specs.Nets.{net_of};
 ghost use Rattle.pr_conf.specs.Configuration.{shape_of};
 ghost use Rattle.pr_compile_front.specs.Passed.{HasEquations};
-ghost use Rattle.pr_compile.specs.Configured.{net_by, IsConfigured, IsConfiguredBy, IsCompiled};
-ghost use Rattle.pr_compile.specs.Refusals.{IsNetAnswer, IsCompileAnswer};
+ghost use Rattle.pr_compile.specs.Configured.{IsConfigured, IsConfiguredBy, HasUnitsBy, IsCompiled, HasUnits};
+ghost use Rattle.pr_compile.specs.Refusals.{IsNetAnswer, IsFrontAnswer, IsCompileAnswer};
 
 use crate::faults::CompileFault;
 use pr_compile_front::{Front, read_program};
 use pr_conf::Configuration;
 use pr_cut::cut;
 use pr_flat::Flat;
+use pr_narrow::narrow;
 use pr_place::place;
 use pr_route::route;
 use pr_width::Widths;
@@ -54,10 +55,12 @@ pub fn configure<const N: usize, const P: usize>(
     })
 }
 
-/// The configuration of a program that is refused at no point up to the widths of its equations; else why it has none.
+/// The configuration of a program that is refused at no point up to the widths of its equations, whose equations are narrowed
+/// where that is asked for; else why it has none.
 pub fn compile_front<const N: usize, const P: usize>(
     alloc: Global,
     front: &Front,
+    narrowed: bool,
 ) -> Result<Compiled<N, P>, CompileFault>
     requires equations { HasEquations front.now.scoped.program front.now.flat }
     requires widths { AreWidths (equations_of front.now.scoped.program).equations front.now.widths }
@@ -65,16 +68,42 @@ pub fn compile_front<const N: usize, const P: usize>(
     requires most_columns { N ≤ 64 }
     requires registers { 2 ≤ P }
     requires most_registers { P ≤ 16 }
-    ensures configured { IfOk result (λ c. IsConfiguredBy N P front.now.scoped.program front.now.widths (shape_of c.conf)) }
-    ensures units { IfOk result (λ c. c.units ≡ length (net_by front.now.scoped.program front.now.widths).units) }
-    ensures refused { IfErr result (IsNetAnswer N P (net_by front.now.scoped.program front.now.widths)) }
+    ensures configured { IfOk result (λ c. IsConfiguredBy N P narrowed front.now.scoped.program front.now.widths (shape_of c.conf)) }
+    ensures units { IfOk result (λ c. HasUnitsBy narrowed front.now.scoped.program front.now.widths c.units) }
+    ensures refused { IfErr result (IsFrontAnswer N P narrowed front.now.scoped.program front.now.widths) }
 {
-    configure(alloc, &front.flat, &front.widths)
+    if !narrowed {
+        return configure(alloc, &front.flat, &front.widths);
+    }
+    let (flat, widths) = narrow(alloc, &front.flat, &front.widths)?;
+    configure(alloc, &flat, &widths)
 }
 
-/// The configuration of the program of a text, on N columns and P registers; else the first point that refuses the text: a
-/// token that is nested too deep or breaks the grammar, a broken rule of scope or too many turns, too many equations, an
-/// equation without a width, too many bytes of input, outputs or units, or a group that fits in no stripe.
+/// The configuration of the program of a text, on N columns and P registers, and how many units it was made of, with its
+/// equations narrowed where that is asked for; else the first point that refuses the text: a token that is nested too deep or
+/// breaks the grammar, a broken rule of scope or too many turns, too many equations, an equation without a width, too many
+/// bytes of input, outputs or units, or a group that fits in no stripe.
+pub fn compile_counted<const N: usize, const P: usize>(
+    alloc: Global,
+    text: &[u8],
+    narrowed: bool,
+) -> Result<Compiled<N, P>, CompileFault>
+    requires short { length text.now ≤ 1048576 }
+    requires columns { 1 ≤ N }
+    requires most_columns { N ≤ 64 }
+    requires registers { 2 ≤ P }
+    requires most_registers { P ≤ 16 }
+    ensures compiled { IfOk result (λ c. IsCompiled N P narrowed text.now (shape_of c.conf)) }
+    ensures units { IfOk result (λ c. HasUnits narrowed text.now c.units) }
+    ensures refused { IfErr result (IsCompileAnswer N P narrowed text.now) }
+{
+    let front = read_program(alloc, text)?;
+    let compiled = compile_front::<N, P>(alloc, &front, narrowed)?;
+    Ok(compiled)
+}
+
+/// The configuration of the program of a text, with its equations as they are; else the first point that refuses the text, as
+/// `compile_counted` says.
 pub fn compile<const N: usize, const P: usize>(
     alloc: Global,
     text: &[u8],
@@ -84,10 +113,27 @@ pub fn compile<const N: usize, const P: usize>(
     requires most_columns { N ≤ 64 }
     requires registers { 2 ≤ P }
     requires most_registers { P ≤ 16 }
-    ensures compiled { IfOk result (λ c. IsCompiled N P text.now (shape_of c)) }
-    ensures refused { IfErr result (IsCompileAnswer N P text.now) }
+    ensures compiled { IfOk result (λ c. IsCompiled N P false text.now (shape_of c)) }
+    ensures refused { IfErr result (IsCompileAnswer N P false text.now) }
 {
-    let front = read_program(alloc, text)?;
-    let compiled = compile_front::<N, P>(alloc, &front)?;
+    let compiled = compile_counted::<N, P>(alloc, text, false)?;
+    Ok(compiled.conf)
+}
+
+/// The configuration of the program of a text, with its equations narrowed; else the first point that refuses the text. The
+/// limits of units and the group that fits in no stripe are those of the narrowed equations.
+pub fn compile_narrow<const N: usize, const P: usize>(
+    alloc: Global,
+    text: &[u8],
+) -> Result<Configuration<N, P>, CompileFault>
+    requires short { length text.now ≤ 1048576 }
+    requires columns { 1 ≤ N }
+    requires most_columns { N ≤ 64 }
+    requires registers { 2 ≤ P }
+    requires most_registers { P ≤ 16 }
+    ensures compiled { IfOk result (λ c. IsCompiled N P true text.now (shape_of c)) }
+    ensures refused { IfErr result (IsCompileAnswer N P true text.now) }
+{
+    let compiled = compile_counted::<N, P>(alloc, text, true)?;
     Ok(compiled.conf)
 }

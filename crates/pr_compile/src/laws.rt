@@ -1,6 +1,6 @@
 //! What holds of compilation.
 
-ghost use Rattle.std.specs.Prelude.{◌≡◌, ◌≤◌, ℕ, List, None};
+ghost use Rattle.std.specs.Prelude.{◌≡◌, ◌≤◌, ℕ, Bool, true, false, List, None};
 ghost use Rattle.pr_lang.specs.declared.trees.Program.{Program};
 ghost use Rattle.pr_scope.specs.Walk.{offence};
 ghost use Rattle.pr_flat.specs.declared.equations.Operand.{Operand};
@@ -12,28 +12,32 @@ ghost use Rattle.pr_conf.specs.Rules.{IsLawful};
 ghost use Rattle.pr_conf.specs.Shape.{Shape};
 ghost use Rattle.pr_compile_front.specs.Refusals.{HasWidths};
 ghost use Rattle.pr_compile.specs.declared.faults.CompileFault.{CompileFault};
-ghost use Rattle.pr_compile.specs.Configured.{IsConfigured, IsConfiguredBy, IsCompiled};
+ghost use Rattle.pr_compile.specs.Configured.{AreReady, IsConfigured, IsConfiguredBy, HasUnitsBy, IsCompiled, HasUnits};
 ghost use Rattle.pr_compile.specs.Meant.{IsMeant};
 ghost use Rattle.pr_compile.specs.Refusals.{IsNetRefusal, IsRefused};
 
 /// The configuration of equations keeps every rule of the fabric. That of a program does what the program means, and so does
-/// the configuration of a text, whichever of its programs is asked: the inputs are the program's, the outputs are as wide as
-/// its streams, and the results are its rows, as numbers and as bytes, for every list of lawful samples.
+/// the configuration of a text, whichever of its programs is asked, with its equations narrowed or as they are: the inputs are
+/// the program's, the outputs are as wide as its streams, and the results are its rows, as numbers and as bytes, for every
+/// list of lawful samples. Narrowed equations take no more units.
 pub fn meaning_law()
     ensures lawful { (N P : ℕ) (equations : List EquationShape) (widths : List ℕ) (outputs : List Operand) (conf : Shape) → 1 ≤ N → N ≤ 64 → 2 ≤ P → P ≤ 16 → IsConfigured N P equations widths outputs conf → IsLawful N P conf }
-    ensures program { (N P : ℕ) (program : Program) (widths : List ℕ) (conf : Shape) → 2 ≤ P → offence program ≡ None → IsConfiguredBy N P program widths conf → IsMeant N P program conf }
-    ensures text { (N P : ℕ) (text : List ℕ) (program : Program) (widths : List ℕ) (conf : Shape) → 2 ≤ P → HasWidths text program widths → IsCompiled N P text conf → IsMeant N P program conf }
+    ensures program { (N P : ℕ) (narrowed : Bool) (program : Program) (widths : List ℕ) (conf : Shape) → 2 ≤ P → offence program ≡ None → IsConfiguredBy N P narrowed program widths conf → IsMeant N P program conf }
+    ensures text { (N P : ℕ) (narrowed : Bool) (text : List ℕ) (program : Program) (widths : List ℕ) (conf : Shape) → 2 ≤ P → HasWidths text program widths → IsCompiled N P narrowed text conf → IsMeant N P program conf }
+    ensures units { (program : Program) (widths : List ℕ) (whole few : ℕ) → HasUnitsBy false program widths whole → HasUnitsBy true program widths few → few ≤ whole }
+    ensures fewer { (text : List ℕ) (whole few : ℕ) → HasUnits false text whole → HasUnits true text few → few ≤ whole }
 {}
 
 /// Equations have one configuration at most, and a net one refusal at most, and none where its equations have a
-/// configuration. The programs of a text have the same equations and widths. So a text has one configuration at most, or one
-/// refusal.
+/// configuration. The programs of a text have the same equations and widths, and one list of equations is ready in their
+/// place. So a text has one configuration at most, or one refusal, with its equations narrowed or as they are.
 pub fn answer_law()
     ensures conf { (N P : ℕ) (equations : List EquationShape) (widths : List ℕ) (outputs : List Operand) (c d : Shape) → IsConfigured N P equations widths outputs c → IsConfigured N P equations widths outputs d → c ≡ d }
     ensures net { (N P : ℕ) (net : NetShape) (e f : CompileFault) → IsNetRefusal N P net e → IsNetRefusal N P net f → e ≡ f }
     ensures apart { (N P : ℕ) (equations : List EquationShape) (widths : List ℕ) (outputs : List Operand) (e : CompileFault) (conf : Shape) → IsNetRefusal N P (net_of equations widths outputs) e → IsConfigured N P equations widths outputs conf → ⊥ }
     ensures same { (text : List ℕ) (p q : Program) (v w : List ℕ) → HasWidths text p v → HasWidths text q w → (equations_of p ≡ equations_of q) × (v ≡ w) }
-    ensures one { (N P : ℕ) (text : List ℕ) (e f : CompileFault) → IsRefused N P text e → IsRefused N P text f → e ≡ f }
-    ensures none { (N P : ℕ) (text : List ℕ) (e : CompileFault) (conf : Shape) → IsRefused N P text e → IsCompiled N P text conf → ⊥ }
-    ensures compiled { (N P : ℕ) (text : List ℕ) (c d : Shape) → IsCompiled N P text c → IsCompiled N P text d → c ≡ d }
+    ensures ready { (narrowed : Bool) (equations : List EquationShape) (outputs : List Operand) (widths : List ℕ) (es : List EquationShape) (v : List ℕ) (fs : List EquationShape) (w : List ℕ) → AreReady narrowed equations outputs widths es v → AreReady narrowed equations outputs widths fs w → (es ≡ fs) × (v ≡ w) }
+    ensures one { (N P : ℕ) (narrowed : Bool) (text : List ℕ) (e f : CompileFault) → IsRefused N P narrowed text e → IsRefused N P narrowed text f → e ≡ f }
+    ensures none { (N P : ℕ) (narrowed : Bool) (text : List ℕ) (e : CompileFault) (conf : Shape) → IsRefused N P narrowed text e → IsCompiled N P narrowed text conf → ⊥ }
+    ensures compiled { (N P : ℕ) (narrowed : Bool) (text : List ℕ) (c d : Shape) → IsCompiled N P narrowed text c → IsCompiled N P narrowed text d → c ≡ d }
 {}

@@ -50,7 +50,6 @@ mapped_at f [] i x y e g = absurd (let z = e in cc)
 mapped_at f (z ∷ xs) zero x y e g = let a : z ≡ x = cc in let b : f z ≡ y = cc in sym b ∙ ap f a
 mapped_at f (z ∷ xs) (suc i) x y e g = mapped_at f xs i x y e g
 
-
 -- ---- two lists side by side
 pub zip_at : {X Y Z : Type 0} (f : X → Y → Z) (xs : List X) (ys : List Y) (i : ℕ) (x : X) (y : Y) → slice_get xs i ≡ Some x → slice_get ys i ≡ Some y → slice_get (zip2 f xs ys) i ≡ Some (f x y)
 zip_at f [] ys i x y a b = absurd (let z = a in cc)

@@ -81,7 +81,6 @@ quotas_set [] k part more e q h = h
 quotas_set (first ∷ parts) zero part more e q h = let is : first ≡ part = cc in (subst (λ n. 1 ≤ n) (ap (λ (x : Part). x.quota) is ∙ sym q) h.0, h.1)
 quotas_set (first ∷ parts) (suc k) part more e q h = (h.0, quotas_set parts k part more e q h.1)
 
-
 -- ---- turns
 -- the number of turns of a program, in round r before the turn of number k, and before the next
 pub turns_other : (r k i : ℕ) → (i ≡ k → ⊥) → cond (ltb i (k + 1)) (r + 1) r ≡ cond (ltb i k) (r + 1) r
@@ -111,7 +110,6 @@ turns_none r i = by_test (ltb i 0) refl
     by_test : (b : Bool) → ltb i 0 ≡ b → cond b (r + 1) r ≡ r
     by_test true e = let l = ltb-true i 0 e in absurd (omega arith)
     by_test false e = refl
-
 
 -- ---- reads that failed
 pub failed_parts : (told : Told) (f : Feed) (last : Got) → has_failed told f last ≡ true → (last ≡ Got.ReadFault) × (IsMissing told (name_of f) → ⊥)

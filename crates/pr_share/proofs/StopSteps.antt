@@ -140,8 +140,8 @@ module _ {N P : ℕ} (told : Told) (firsts items : List (ShareItem N P)) (start 
     stopped_text =
         let new = turn_rows first given.rows half.more in
         let begins = turn_begins r k before after (part_of first given.rows) (part_of first whole_here.0.rows) new (turn_rows first left.rows become_here.more)
-            (parts_at firsts st.givens k first given ef eg) (parts_at firsts wholes k first whole_here.0 ef whole_here.1) refl rows_here due
-            new_few whole_quotas same_text in
+        (parts_at firsts st.givens k first given ef eg) (parts_at firsts wholes k first whole_here.0 ef whole_here.1) refl rows_here due
+        new_few whole_quotas same_text in
         let front = front_after start.tape t t' (so_far r k before) (marked k new) st.text half.text in
         subst (λ xs. AppendsFront start.tape t' xs) begins.1 (front_longer start.tape t' (so_far r k before ++ marked k new) begins.0 front)
 

@@ -35,10 +35,12 @@ fn read_one<const N: usize, const P: usize, S: Shelf>(
     requires going { used.ended ≡ false }
     requires count { used.count < 2 ^ 32 - 1 }
     ensures turning { (s : Setting) (runs : List (List ℕ) → Run (List ℕ)) (t : Tape) → 0 < stages_of s
-        → IsTurning s runs machine.old feed.old (S.told shelf.old) t used → IsTurning s (λ xs. fed (stages_of s) s.stripes free (runs xs)) machine.new feed.new (S.told shelf.new) t result }
+        → IsTurning s runs machine.old feed.old (S.told shelf.old) t used
+        → IsTurning s (λ xs. fed (stages_of s) s.stripes free (runs xs)) machine.new feed.new (S.told shelf.new) t result }
     ensures count { result.count ≤ used.count + 1 }
     ensures unread { is_sample result.last ≡ true → result.ended ≡ false }
-    ensures cause { result.last ≡ Got.ReadFault → HasReadCause (S.told shelf.old) (name_of feed.old) (S.faults shelf.old) (S.faults shelf.new) }
+    ensures cause { result.last ≡ Got.ReadFault
+        → HasReadCause (S.told shelf.old) (name_of feed.old) (S.faults shelf.old) (S.faults shelf.new) }
     ensures later { S.faults shelf.old ≤ S.faults shelf.new }
     ensures told { S.told shelf.new ≡ S.told shelf.old }
     ensures file { SameFile feed.old feed.new }
@@ -78,10 +80,12 @@ pub(crate) fn feed_step<const N: usize, const P: usize, S: Shelf>(
     requires quota { used.count ≤ quota }
     requires spent { used.ended ≡ true → is_sample used.last ≡ true → used.count ≡ quota }
     ensures turning { (s : Setting) (runs : List (List ℕ) → Run (List ℕ)) (t : Tape) → 0 < stages_of s
-        → IsTurning s runs machine.old feed.old (S.told shelf.old) t used → IsTurning s (λ xs. fed (stages_of s) s.stripes free (runs xs)) machine.new feed.new (S.told shelf.new) t result }
+        → IsTurning s runs machine.old feed.old (S.told shelf.old) t used
+        → IsTurning s (λ xs. fed (stages_of s) s.stripes free (runs xs)) machine.new feed.new (S.told shelf.new) t result }
     ensures quota { result.count ≤ quota }
     ensures spent { result.ended ≡ true → is_sample result.last ≡ true → result.count ≡ quota }
-    ensures cause { result.last ≡ Got.ReadFault → (used.last ≡ Got.ReadFault) ⊎ HasReadCause (S.told shelf.old) (name_of feed.old) (S.faults shelf.old) (S.faults shelf.new) }
+    ensures cause { result.last ≡ Got.ReadFault
+        → (used.last ≡ Got.ReadFault) ⊎ HasReadCause (S.told shelf.old) (name_of feed.old) (S.faults shelf.old) (S.faults shelf.new) }
     ensures later { S.faults shelf.old ≤ S.faults shelf.new }
     ensures told { S.told shelf.new ≡ S.told shelf.old }
     ensures file { SameFile feed.old feed.new }

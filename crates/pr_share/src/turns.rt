@@ -50,7 +50,8 @@ pub(crate) fn run_turn<const N: usize, const P: usize, S: Shelf, K: Sink>(
     ensures cut { (s : Setting) → Begins s machine.old feed.old (S.told shelf.old) (K.told out.old) number
         → OnErr result (IsCut N P s feed.new (S.told shelf.new) (K.told out.new) quota (S.faults shelf.old) (S.faults shelf.new)) }
     ensures idle { OnOk result (IsIdle machine.new) }
-    ensures read_fault { IfOk result (λ last. last ≡ Got.ReadFault → HasReadCause (S.told shelf.old) (name_of feed.old) (S.faults shelf.old) (S.faults shelf.new)) }
+    ensures read_fault { IfOk result (λ last. last ≡ Got.ReadFault
+        → HasReadCause (S.told shelf.old) (name_of feed.old) (S.faults shelf.old) (S.faults shelf.new)) }
     ensures cause { OnErr result (Rose (K.faults out.old) (K.faults out.new)) }
     ensures file { SameFile feed.old feed.new }
     ensures conf { machine.new.parts.conf ≡ machine.old.parts.conf }

@@ -43,9 +43,12 @@ fn write_one<const N: usize, const P: usize, K: Sink>(
     requires number { number < 10 }
     requires bytes { length bytes.old ≡ result_bytes_of machine.old }
     requires waiting { 0 < length (waiting_results machine.old) }
-    ensures shown { (s : Setting) (h : History) → s.number ≡ number → HasShown s machine.old (K.told out.old) h → OnOk result (HasShown s machine.new (K.told out.new) (h ++ Take ∷ [])) }
-    ensures front { (s : Setting) (h : History) → s.number ≡ number → HasShown s machine.old (K.told out.old) h → OnErr result (AppendsFront s.tape (K.told out.new) (offered_text N P s h)) }
-    ensures offered { (s : Setting) (h : History) → HasShown s machine.old (K.told out.old) h → (account (stages_of s) s.stripes (h ++ Take ∷ [])).offered ≡ (account (stages_of s) s.stripes h).offered }
+    ensures shown { (s : Setting) (h : History) → s.number ≡ number → HasShown s machine.old (K.told out.old) h
+        → OnOk result (HasShown s machine.new (K.told out.new) (h ++ Take ∷ [])) }
+    ensures front { (s : Setting) (h : History) → s.number ≡ number → HasShown s machine.old (K.told out.old) h
+        → OnErr result (AppendsFront s.tape (K.told out.new) (offered_text N P s h)) }
+    ensures offered { (s : Setting) (h : History) → HasShown s machine.old (K.told out.old) h → (account (stages_of s) s.stripes (h ++ Take ∷ [])).offered
+        ≡ (account (stages_of s) s.stripes h).offered }
     ensures kept { IsKept machine.old machine.new }
     ensures samples { waiting_samples machine.new ≡ waiting_samples machine.old }
     ensures fewer { length (waiting_results machine.new) + 1 ≡ length (waiting_results machine.old) }
@@ -70,7 +73,8 @@ fn write_waiting<const N: usize, const P: usize, K: Sink>(
     requires bytes { length bytes.old ≡ result_bytes_of machine.old }
     ensures shown { (s : Setting) (h : History) → s.number ≡ number → HasShown s machine.old (K.told out.old) h
         → OnOk result (HasShown s machine.new (K.told out.new) (h ++ replicate (waiting (stages_of s) (account (stages_of s) s.stripes h)) Take)) }
-    ensures front { (s : Setting) (h : History) → s.number ≡ number → HasShown s machine.old (K.told out.old) h → OnErr result (AppendsFront s.tape (K.told out.new) (offered_text N P s h)) }
+    ensures front { (s : Setting) (h : History) → s.number ≡ number → HasShown s machine.old (K.told out.old) h
+        → OnErr result (AppendsFront s.tape (K.told out.new) (offered_text N P s h)) }
     ensures kept { IsKept machine.old machine.new }
     ensures cause { OnErr result (Rose (K.faults out.old) (K.faults out.new)) }
     ensures later { K.faults out.old ≤ K.faults out.new }
@@ -97,7 +101,8 @@ pub(crate) fn write_step<const N: usize, const P: usize, K: Sink>(
     requires bytes { length bytes.old ≡ 1024 }
     ensures shown { (s : Setting) (h : History) → s.number ≡ number → HasShown s machine.old (K.told out.old) h
         → OnOk result (HasShown s machine.new (K.told out.new) (h ++ replicate (waiting (stages_of s) (account (stages_of s) s.stripes h)) Take)) }
-    ensures front { (s : Setting) (h : History) → s.number ≡ number → HasShown s machine.old (K.told out.old) h → OnErr result (AppendsFront s.tape (K.told out.new) (offered_text N P s h)) }
+    ensures front { (s : Setting) (h : History) → s.number ≡ number → HasShown s machine.old (K.told out.old) h
+        → OnErr result (AppendsFront s.tape (K.told out.new) (offered_text N P s h)) }
     ensures kept { IsKept machine.old machine.new }
     ensures cause { OnErr result (Rose (K.faults out.old) (K.faults out.new)) }
     ensures later { K.faults out.old ≤ K.faults out.new }

@@ -66,10 +66,11 @@ rounds_further : (n d : ℕ) (parts : List Part) → (rest : List ℕ) × (round
 rounds_further n zero parts = let z : n ≡ n + 0 = omega arith in ([], append-nil (rounds n parts) ∙ ap (λ m. rounds m parts) z)
 rounds_further n (suc d) parts =
     let before = rounds_further n d parts in
-    let z : n + d + 1 ≡ n + suc d = omega arith in
-    (before.0 ++ round_from (n + d) 0 parts,
-    sym (append_assoc (rounds n parts) before.0 (round_from (n + d) 0 parts))
-    ∙ (ap (λ xs. xs ++ round_from (n + d) 0 parts) before.1 ∙ (sym (rounds_more (n + d) parts) ∙ ap (λ m. rounds m parts) z)))
+    let z : n + d + 1 ≡ n + suc d = omega arith in (
+      before.0 ++ round_from (n + d) 0 parts,
+      sym (append_assoc (rounds n parts) before.0 (round_from (n + d) 0 parts))
+          ∙ (ap (λ xs. xs ++ round_from (n + d) 0 parts) before.1 ∙ (sym (rounds_more (n + d) parts) ∙ ap (λ m. rounds m parts) z)),
+    )
 
 rounds_begin : (n : ℕ) (parts : List Part) → HaveQuotas parts → (rest : List ℕ) × (rounds n parts ++ rest ≡ share_text parts)
 rounds_begin n parts quotas =
@@ -82,9 +83,11 @@ rounds_begin n parts quotas =
 round_further : (r k : ℕ) (parts : List Part) → (rest : List ℕ) × (so_far r k parts ++ rest ≡ rounds (r + 1) parts)
 round_further r k parts =
     let first = take k parts in
-    let rest = round_from r (0 + length first) (drop k parts) in
-    (rest, append_assoc (rounds r parts) (round_from r 0 first) rest
-    ∙ (ap (λ xs. rounds r parts ++ xs) (sym (round-append r 0 first (drop k parts)) ∙ ap (round_from r 0) (take-append-drop k parts)) ∙ sym (rounds_more r parts)))
+    let rest = round_from r (0 + length first) (drop k parts) in (
+      rest,
+      append_assoc (rounds r parts) (round_from r 0 first) rest
+          ∙ (ap (λ xs. rounds r parts ++ xs) (sym (round-append r 0 first (drop k parts)) ∙ ap (round_from r 0) (take-append-drop k parts)) ∙ sym (rounds_more r parts)),
+    )
 
 -- what was written so far begins the whole text
 pub so_far_begins : (r k : ℕ) (parts : List Part) → HaveQuotas parts → (rest : List ℕ) × (so_far r k parts ++ rest ≡ share_text parts)
@@ -122,8 +125,9 @@ module _ (r k : ℕ) (xs ys : List Part) (a b : Part) (new more : List (List ℕ
   pub turn_begins : HaveQuotas ys → so_far r k xs ≡ so_far r k ys → (rest : List ℕ) × ((so_far r k xs ++ marked k new) ++ rest ≡ share_text ys)
   turn_begins quotas same =
       let end = so_far_begins r (k + 1) ys quotas in
-      let later = marked k (take (a.quota - length new) more) in
-      (later ++ end.0,
-      ap (λ zs. (zs ++ marked k new) ++ (later ++ end.0)) same
-      ∙ (sym (append_assoc (so_far r k ys ++ marked k new) later end.0)
-      ∙ (ap (λ zs. zs ++ end.0) (append_assoc (so_far r k ys) (marked k new) later ∙ sym turn_text) ∙ end.1)))
+      let later = marked k (take (a.quota - length new) more) in (
+        later ++ end.0,
+        ap (λ zs. (zs ++ marked k new) ++ (later ++ end.0)) same
+            ∙ (sym (append_assoc (so_far r k ys ++ marked k new) later end.0)
+            ∙ (ap (λ zs. zs ++ end.0) (append_assoc (so_far r k ys) (marked k new) later ∙ sym turn_text) ∙ end.1)),
+      )

@@ -1,22 +1,23 @@
 -- What follows of what a call comes to.
-use Rattle.std.proofs.Common.{◌≡◌, ◌⊎◌, ℕ, List, [], Option, Some, None, unwrap_or, refl, sym, ap, ◌∙◌, subst, inl, inr}
-use Rattle.pr_code.specs.declared.fabrics.Fabric.{Fabric}
+use Rattle.std.proofs.Common.{◌≡◌, ◌⊎◌, ℕ, List, Option, Some, None, refl, sym, ◌∙◌, subst, inl, inr}
 use Rattle.pr_edge.specs.Count.{Rose}
 use Rattle.pr_tool_words.specs.Lawful.{Order}
 use Rattle.pr_tool_answers.specs.declared.answers.Answer.{Answer}
 use Rattle.pr_tool_answers.specs.Owed.{IsOwed}
 use Rattle.pr_tool_answers.proofs.OwedLemmas.{owed_read}
 use Rattle.pr_tool_modes.specs.declared.benches.Bench.{Bench}
+use Rattle.pr_tool_modes.specs.declared.targets.Target.{Target}
 use Rattle.pr_tool_modes.specs.Calls.{Call}
 use Rattle.pr_tool_modes.specs.Executions.{HasCome}
 use Rattle.pr_tool_modes.specs.Jobs.{Job}
 use Rattle.pr_tool_modes.specs.Lines.{AreProgramLines}
 use Rattle.pr_tool_modes.specs.Sources.{Source, File, Text}
 use Rattle.pr_tool_modes.proofs.TextVerdicts.{text_owed, one_text, text_fault, text_memory, text_write, text_usage, text_bytes}
-use Rattle.pr_tool_modes.proofs.EvalVerdicts.{eval_owed, unbuilt_owed, one_eval, one_unbuilt, eval_fault, eval_memory, eval_write, eval_usage, unbuilt_fault, unbuilt_write, unbuilt_usage}
+use Rattle.pr_tool_modes.proofs.EvalVerdicts.{eval_owed, one_eval, eval_fault, eval_memory, eval_write, eval_usage}
 use Rattle.pr_tool_modes.proofs.RunVerdicts.{run_owed, one_run, run_fault, run_memory, run_write, run_usage}
+use Rattle.pr_tool_modes.proofs.GenVerdicts.{gen_owed, one_gen, gen_fault, gen_memory, gen_write, gen_usage}
 use Rattle.pr_tool_modes.proofs.LinesLemmas.{eval_lines, configuration_lines, program_lines}
-use Rattle.pr_tool.specs.Plans.{Plan, Texts, Runs, Evaluates, Refuses, Nothing, plan_of}
+use Rattle.pr_tool.specs.Plans.{Plan, Texts, Runs, Evaluates, Generates, Nothing, plan_of}
 use Rattle.pr_tool.specs.Words.{Asked}
 use Rattle.pr_tool.specs.Calls.{IsUnchanged, IsDone, IsCalled, AreLines, HasGained, IsPlanVerdict, IsVerdict, IsToldVerdict}
 
@@ -26,58 +27,58 @@ done_owed : (files : List ℕ → Option (List ℕ)) (plan : Plan) (k : Call) (w
 done_owed files (Texts form source) k was bench a told done = text_owed files form source k a told done.0
 done_owed files (Runs j) k was bench a told done = run_owed files j k was bench a told done
 done_owed files (Evaluates first second) k was bench a told done = eval_owed files first second k a told done.0
-done_owed files (Refuses name) k was bench a told done = unbuilt_owed files name k.before.told k.before.faults k.now.faults k.out_before k.out_now a told done.ended
+done_owed files (Generates g) k was bench a told done = gen_owed g k.old k.new k.before.faults k.now.faults k.out_before k.out_now was bench a done
 done_owed files Nothing k was bench a told done = inl done.0
 
 done_fault : (plan : Plan) (k : Call) (was bench : Bench) (a : Answer) → IsDone plan k was bench a → a ≡ Answer.ReadFault → k.before.told ≡ None → Rose k.before.faults k.now.faults
 done_fault (Texts form source) k was bench a done is untold = text_fault form source k a done.0 is untold
 done_fault (Runs j) k was bench a done is untold = run_fault j k was bench a done is untold
 done_fault (Evaluates first second) k was bench a done is untold = eval_fault first second k a done.0 is untold
-done_fault (Refuses name) k was bench a done is untold = unbuilt_fault k.before.told name k.before.faults k.now.faults a done.ended is untold
+done_fault (Generates g) k was bench a done is untold = absurd (gen_fault g k.old k.new k.out_before k.out_now was bench a done is)
 done_fault Nothing k was bench a done is untold = absurd (let no : Answer.ReadFault ≡ Answer.NotYet = sym is ∙ done.0 in cc)
 
 done_write : (plan : Plan) (k : Call) (was bench : Bench) (a : Answer) → IsDone plan k was bench a → a ≡ Answer.WriteFault → Rose k.out_before k.out_now
 done_write (Texts form source) k was bench a done is = text_write form source k a done.0 is
 done_write (Runs j) k was bench a done is = run_write j k was bench a done is
 done_write (Evaluates first second) k was bench a done is = eval_write first second k a done.0 is
-done_write (Refuses name) k was bench a done is = absurd (unbuilt_write k.before.told name k.before.faults k.now.faults a done.ended is)
+done_write (Generates g) k was bench a done is = gen_write g k.old k.new k.out_before k.out_now was bench a done is
 done_write Nothing k was bench a done is = absurd (let no : Answer.WriteFault ≡ Answer.NotYet = sym is ∙ done.0 in cc)
 
 done_memory : (plan : Plan) (k : Call) (was bench : Bench) (a : Answer) → IsDone plan k was bench a → a ≡ Answer.Memory → (k.new ≡ k.old) × (bench ≡ was)
 done_memory (Texts form source) k was bench a done is = (text_memory form source k a done.0 is, done.1)
 done_memory (Runs j) k was bench a done is = run_memory j k was bench a done is
 done_memory (Evaluates first second) k was bench a done is = (eval_memory first second k a done.0 is, done.1)
-done_memory (Refuses name) k was bench a done is = (done.unchanged.unwritten, done.unchanged.kept)
+done_memory (Generates g) k was bench a done is = gen_memory g k.old k.new k.out_before k.out_now was bench a done is
 done_memory Nothing k was bench a done is = (done.1.unwritten, done.1.kept)
 
 done_usage : (plan : Plan) (k : Call) (was bench : Bench) (a : Answer) → IsDone plan k was bench a → a ≡ Answer.Usage → ⊥
 done_usage (Texts form source) k was bench a done is = text_usage form source k a done.0 is
 done_usage (Runs j) k was bench a done is = run_usage j k was bench a done is
 done_usage (Evaluates first second) k was bench a done is = eval_usage first second k a done.0 is
-done_usage (Refuses name) k was bench a done is = unbuilt_usage k.before.told name k.before.faults k.now.faults a done.ended is
+done_usage (Generates g) k was bench a done is = gen_usage g k.old k.new k.out_before k.out_now was bench a done is
 done_usage Nothing k was bench a done is = (let no : Answer.Usage ≡ Answer.NotYet = sym is ∙ done.0 in cc)
 
 -- memory wanted before anything was done
 memory_lines : (files : List ℕ → Option (List ℕ)) (j : Job) (source : Source) (k : Call) (was bench : Bench) → IsUnchanged k was bench → AreLines files j source k was bench Answer.Memory
 memory_lines files j (File name) k was bench same = record { unwritten = same.unwritten; kept = same.kept }
-memory_lines files j (Text name fabric) k was bench same = record { unwritten = same.unwritten; kept = same.kept }
+memory_lines files j (Text name target) k was bench same = record { unwritten = same.unwritten; kept = same.kept }
 
 memory_gained : (files : List ℕ → Option (List ℕ)) (plan : Plan) (k : Call) (was bench : Bench) → IsUnchanged k was bench → HasGained files plan k was bench Answer.Memory
 memory_gained files (Texts form source) k was bench same = (same.unwritten, same.kept)
 memory_gained files (Runs j) k was bench same = memory_lines files j j.source k was bench same
 memory_gained files (Evaluates first second) k was bench same = (same.unwritten, same.kept)
-memory_gained files (Refuses name) k was bench same = same
+memory_gained files (Generates g) k was bench same = record { unwritten = same.unwritten; kept = same.kept }
 memory_gained files Nothing k was bench same = same
 
 source_lines : (files : List ℕ → Option (List ℕ)) (j : Job) (source : Source) (k : Call) (was bench : Bench) (a : Answer) → j.source ≡ source → k.before.told ≡ Some files → HasCome j k was bench a → AreLines files j source k was bench a
 source_lines files j (File name) k was bench a is told done = configuration_lines files j k was bench a told done
-source_lines files j (Text name fabric) k was bench a is told done = program_lines files j name fabric k was bench a is told done
+source_lines files j (Text name target) k was bench a is told done = program_lines files j name target k was bench a is told done
 
 done_gained : (files : List ℕ → Option (List ℕ)) (plan : Plan) (k : Call) (was bench : Bench) (a : Answer) → k.before.told ≡ Some files → IsDone plan k was bench a → HasGained files plan k was bench a
 done_gained files (Texts form source) k was bench a told done = (text_bytes files form source k a told done.0, done.1)
 done_gained files (Runs j) k was bench a told done = source_lines files j j.source k was bench a refl told done
 done_gained files (Evaluates first second) k was bench a told done = (eval_lines files first second k a told done.0, done.1)
-done_gained files (Refuses name) k was bench a told done = done.unchanged
+done_gained files (Generates g) k was bench a told done = done
 done_gained files Nothing k was bench a told done = done.1
 
 -- ---- calls
@@ -128,9 +129,9 @@ called_gained files asked order k was bench a told is h = elim (called_plan aske
 ]
 
 -- the lines of a run of a program
-pub called_lines : (files : List ℕ → Option (List ℕ)) (asked : Asked) (order : Order) (j : Job) (name : List ℕ) (fabric : Fabric) (k : Call) (was bench : Bench) (a : Answer) → k.before.told ≡ Some files → asked ≡ Some order
-    → plan_of order ≡ Runs j → j.source ≡ Text name fabric → IsCalled asked k was bench a → AreProgramLines files j k was bench a
-called_lines files asked order j name fabric k was bench a told is plan source h =
+pub called_lines : (files : List ℕ → Option (List ℕ)) (asked : Asked) (order : Order) (j : Job) (name : List ℕ) (target : Target) (k : Call) (was bench : Bench) (a : Answer) → k.before.told ≡ Some files → asked ≡ Some order
+    → plan_of order ≡ Runs j → j.source ≡ Text name target → IsCalled asked k was bench a → AreProgramLines files j k was bench a
+called_lines files asked order j name target k was bench a told is plan source h =
     let gained = subst (λ (p : Plan). HasGained files p k was bench a) plan (called_gained files asked order k was bench a told is h) in
     subst (λ (s : Source). AreLines files j s k was bench a) source gained
 
@@ -144,7 +145,7 @@ one_plan : (files : List ℕ → Option (List ℕ)) (plan : Plan) (a b : Answer)
 one_plan files (Texts form source) a b is by = one_text files source a b is by
 one_plan files (Runs j) a b is by = one_run files j a b is by
 one_plan files (Evaluates first second) a b is by = one_eval files first second a b is by
-one_plan files (Refuses name) a b is by = one_unbuilt files name a b is by
+one_plan files (Generates g) a b is by = one_gen g a b is by
 one_plan files Nothing a b is by = is ∙ sym by
 
 pub one_answer : (files : List ℕ → Option (List ℕ)) (asked : Asked) (a b : Answer) → IsVerdict files asked a → IsVerdict files asked b → a ≡ b

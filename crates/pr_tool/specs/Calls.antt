@@ -1,17 +1,17 @@
 -- What a call of the tool comes to, by its plan.
-use Rattle.std.specs.Prelude.{◌≡◌, ◌≢◌, ◌⊎◌, ℕ, List, [], Option, Some, None, unwrap_or}
+use Rattle.std.specs.Prelude.{◌≡◌, ◌⊎◌, ℕ, List, [], Option, Some, None, unwrap_or}
 use Rattle.pr_edge.specs.Files.{Told}
 use Rattle.pr_tool_answers.specs.declared.answers.Answer.{Answer}
 use Rattle.pr_tool_modes.specs.declared.benches.Bench.{Bench}
 use Rattle.pr_tool_modes.specs.Calls.{Call}
 use Rattle.pr_tool_modes.specs.Evaluations.{IsEvaluated, IsEvalVerdict}
 use Rattle.pr_tool_modes.specs.Executions.{HasCome, IsRunVerdict}
+use Rattle.pr_tool_modes.specs.Generations.{IsGenerated, IsGenVerdict}
 use Rattle.pr_tool_modes.specs.Jobs.{Job}
 use Rattle.pr_tool_modes.specs.Lines.{AreEvalLines, AreProgramLines, AreConfigurationLines}
-use Rattle.pr_tool_modes.specs.Programs.{IsUnbuilt, IsUnbuiltVerdict}
 use Rattle.pr_tool_modes.specs.Sources.{Source, File, Text}
 use Rattle.pr_tool_modes.specs.Texts.{IsTexted, AreTextBytes, IsTextVerdict}
-use Rattle.pr_tool.specs.Plans.{Plan, Texts, Runs, Evaluates, Refuses, Nothing, plan_of}
+use Rattle.pr_tool.specs.Plans.{Plan, Texts, Runs, Evaluates, Generates, Nothing, plan_of}
 use Rattle.pr_tool.specs.Words.{Asked}
 
 -- nothing is written, and the bench is as it was
@@ -19,18 +19,12 @@ pub record IsUnchanged (k : Call) (was bench : Bench) : Type 0 where
   pub unwritten : k.new ≡ k.old
   pub kept : bench ≡ was
 
--- a program was read for what is not built, and no other file
-pub record IsUnbuiltEnd (name : List ℕ) (k : Call) (was bench : Bench) (answer : Answer) : Type 0 where
-  pub ended : IsUnbuilt k.before.told name k.before.faults k.now.faults answer
-  pub unchanged : IsUnchanged k was bench
-  pub unread : (q : List ℕ) → q ≢ name → k.now.reach q ≡ k.before.reach q
-
--- what a plan comes to; only a run changes the bench
+-- what a plan comes to; only runs change the bench
 abbrev pub IsDone : Plan → Call → Bench → Bench → Answer → Type 0
 IsDone (Texts form source) k was bench answer = IsTexted form source k answer × (bench ≡ was)
 IsDone (Runs j) k was bench answer = HasCome j k was bench answer
 IsDone (Evaluates first second) k was bench answer = IsEvaluated first second k answer × (bench ≡ was)
-IsDone (Refuses name) k was bench answer = IsUnbuiltEnd name k was bench answer
+IsDone (Generates g) k was bench answer = IsGenerated g k.old k.new k.out_before k.out_now was bench answer
 IsDone Nothing k was bench answer = (answer ≡ Answer.NotYet) × IsUnchanged k was bench
 
 -- what a call comes to: memory may want before anything is done
@@ -42,14 +36,14 @@ IsCalled (Some order) k was bench answer = ((answer ≡ Answer.Memory) × IsUnch
 -- the lines of a run, by where its configuration comes from
 abbrev pub AreLines : (List ℕ → Option (List ℕ)) → Job → Source → Call → Bench → Bench → Answer → Type 0
 AreLines files j (File name) k was bench answer = AreConfigurationLines files j k was bench answer
-AreLines files j (Text name fabric) k was bench answer = AreProgramLines files j k was bench answer
+AreLines files j (Text name target) k was bench answer = AreProgramLines files j k was bench answer
 
 -- what is written for a plan over told files, and what is on the bench
 abbrev pub HasGained : (List ℕ → Option (List ℕ)) → Plan → Call → Bench → Bench → Answer → Type 0
 HasGained files (Texts form source) k was bench answer = AreTextBytes files form source k answer × (bench ≡ was)
 HasGained files (Runs j) k was bench answer = AreLines files j j.source k was bench answer
 HasGained files (Evaluates first second) k was bench answer = AreEvalLines files first (unwrap_or (files second) []) k.old k.new answer × (bench ≡ was)
-HasGained files (Refuses name) k was bench answer = IsUnchanged k was bench
+HasGained files (Generates g) k was bench answer = IsGenerated g k.old k.new k.out_before k.out_now was bench answer
 HasGained files Nothing k was bench answer = IsUnchanged k was bench
 
 -- ---- the verdict
@@ -58,7 +52,7 @@ abbrev pub IsPlanVerdict : (List ℕ → Option (List ℕ)) → Plan → Answer 
 IsPlanVerdict files (Texts form source) answer = IsTextVerdict files source answer
 IsPlanVerdict files (Runs j) answer = IsRunVerdict files j answer
 IsPlanVerdict files (Evaluates first second) answer = IsEvalVerdict files first second answer
-IsPlanVerdict files (Refuses name) answer = IsUnbuiltVerdict files name answer
+IsPlanVerdict files (Generates g) answer = IsGenVerdict g answer
 IsPlanVerdict files Nothing answer = answer ≡ Answer.NotYet
 
 -- what a call is to answer, by its words and the files alone

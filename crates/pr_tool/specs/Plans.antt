@@ -1,34 +1,36 @@
 -- What is done for a command line: each mode is one of a few kinds of work.
-use Rattle.std.specs.Prelude.{ℕ, Bool, true, false, List}
-use Rattle.pr_tool_words.specs.Lawful.{Order, Task, Run, Trace, Compile, Exec, Eval, Show, Migrate}
+use Rattle.std.specs.Prelude.{ℕ, true, false, List}
+use Rattle.pr_tool_words.specs.Lawful.{Order, Task, Run, Trace, Compile, Exec, Eval, Show, Gen, Migrate}
 use Rattle.pr_tool_modes.specs.declared.texts.Form.{Form}
+use Rattle.pr_tool_modes.specs.declared.targets.Target.{Target}
+use Rattle.pr_tool_modes.specs.Generations.{Generation, generation_of}
 use Rattle.pr_tool_modes.specs.Jobs.{Job, job, source_of, job_of}
 use Rattle.pr_tool_modes.specs.Sources.{Source, File, Text}
 use Rattle.pr_tool.specs.declared.plans.Plan.{Plan as NamedPlan}
 use Rattle.pr_tool.specs.declared.plans.Plan.TheVariants as named
 
--- a text of a configuration is written; a configuration is run; a program is evaluated; a program is read for what is not
--- built; nothing is done
+-- a text of a configuration is written; a configuration is run; a program is evaluated; a generated program is run; or
+-- nothing is done
 pub data Plan : Type 0 where
   Texts : (form : Form) (source : Source) → Plan
   Runs : (j : Job) → Plan
   Evaluates : (first second : List ℕ) → Plan
-  Refuses : (name : List ℕ) → Plan
+  Generates : (g : Generation) → Plan
   Nothing : Plan
 
--- programs are not narrowed yet: they are only read and refused
-abbrev pub unless : Bool → List ℕ → Plan → Plan
-unless true name plan = Refuses name
-unless false name plan = plan
+-- what programs are compiled for
+abbrev pub target_of : Order → Target
+target_of order = record { fabric = order.fabric; narrowed = order.narrow }
 
 abbrev pub plan_for : Order → Task → Plan
 plan_for order (Show configuration) = Texts Form.Summary (File configuration)
 plan_for order (Migrate configuration) = Texts Form.File (File configuration)
-plan_for order (Compile program) = unless order.narrow program (Texts Form.File (Text program order.fabric))
-plan_for order (Run program samples) = unless order.narrow program (Runs (job (Text program order.fabric) samples order.stall order.stripes false))
-plan_for order (Trace program samples) = unless order.narrow program (Runs (job (Text program order.fabric) samples order.stall order.stripes true))
+plan_for order (Compile program) = Texts Form.File (Text program (target_of order))
+plan_for order (Run program samples) = Runs (job (Text program (target_of order)) samples order.stall order.stripes false)
+plan_for order (Trace program samples) = Runs (job (Text program (target_of order)) samples order.stall order.stripes true)
 plan_for order (Exec configuration samples) = Runs (job (File configuration) samples order.stall order.stripes false)
 plan_for order (Eval program samples) = Evaluates program samples
+plan_for order (Gen turns) = Generates (record { turns = turns; target = target_of order; stripes = order.stripes })
 plan_for order task = Nothing
 
 abbrev pub plan_of : Order → Plan
@@ -39,5 +41,5 @@ abbrev pub plan_in : NamedPlan → Plan
 plan_in (named.Texts form source) = Texts form (source_of source)
 plan_in (named.Runs j) = Runs (job_of j)
 plan_in (named.Evaluates program samples) = Evaluates program.now samples.now
-plan_in (named.Refuses program) = Refuses program.now
+plan_in (named.Generates g) = Generates (generation_of g)
 plan_in named.Nothing = Nothing

@@ -1,11 +1,11 @@
 -- What the words of a command line ask for, which files are read for it, and its limits.
-use Rattle.std.specs.Prelude.{◌≡◌, ◌≢◌, ℕ, List, Option, Some, None, map, string_bytes, String, ⊤}
+use Rattle.std.specs.Prelude.{◌≢◌, ℕ, List, Option, Some, None, map, string_bytes, String, ⊤}
 use Rattle.std.specs.declared.alloc.Global.{Global}
 use Rattle.pr_tool_words.specs.Lawful.{Order, Task, Eval, lawful_words}
-use Rattle.pr_tool_modes.specs.Jobs.{first_of, IsNeither}
+use Rattle.pr_tool_modes.specs.Jobs.{IsNeither}
 use Rattle.pr_tool_modes.specs.Sources.{name_in, columns}
 use Rattle.pr_tool.specs.declared.notes.Bounds.{Bounds}
-use Rattle.pr_tool.specs.Plans.{Plan, Texts, Runs, Evaluates, Refuses, Nothing, plan_of}
+use Rattle.pr_tool.specs.Plans.{Plan, Texts, Runs, Evaluates, Generates, Nothing, plan_of}
 
 -- what is asked for, if the words are lawful
 abbrev pub Asked : Type 0
@@ -20,7 +20,7 @@ abbrev pub IsOtherFile : Plan → List ℕ → Type 0
 IsOtherFile (Texts form source) q = q ≢ name_in source
 IsOtherFile (Runs j) q = (q ≢ j.second) × IsNeither j q
 IsOtherFile (Evaluates first second) q = (q ≢ first) × (q ≢ second)
-IsOtherFile (Refuses name) q = q ≢ name
+IsOtherFile (Generates g) q = ⊤
 IsOtherFile Nothing q = ⊤
 
 abbrev pub IsOther : Asked → List ℕ → Type 0

@@ -9,7 +9,7 @@ ghost use Rattle.pr_tool.specs.Calls.{IsDone};
 use crate::plans::Plan;
 use pr_edge::{Shelf, Sink};
 use pr_tool_answers::Answer;
-use pr_tool_modes::{Bench, eval, execute, refuse_program, write_text};
+use pr_tool_modes::{Bench, eval, execute, generate, write_text};
 use std::alloc::Global;
 
 /// Carries out a plan.
@@ -32,7 +32,7 @@ pub fn carry_out<S: Shelf, K: Sink>(
         Plan::Texts { form, source } => write_text(alloc, &source, form, shelf, out),
         Plan::Runs(job) => execute(alloc, &job, shelf, out, bench),
         Plan::Evaluates { program, samples } => eval(alloc, program, samples, shelf, out),
-        Plan::Refuses { program } => refuse_program(alloc, shelf, program),
+        Plan::Generates(generation) => generate(alloc, &generation, out, bench),
         Plan::Nothing => Answer::NotYet,
     }
 }

@@ -2,9 +2,9 @@
 ghost use Rattle.std.specs.Prelude.{◌≡◌, option_map};
 ghost use Rattle.pr_tool_words.specs.Orders.{order_of};
 ghost use Rattle.pr_tool_modes.specs.Jobs.{job, source_of};
-ghost use Rattle.pr_tool.specs.Plans.{Runs, unless, plan_of, plan_in};
+ghost use Rattle.pr_tool.specs.Plans.{Runs, plan_of, plan_in};
 
-use pr_tool_modes::{Form, Job, Source};
+use pr_tool_modes::{Form, Generation, Job, Source, Target};
 use pr_tool_words::{Mode, Options, Words};
 
 /// What is done for a command line.
@@ -16,8 +16,8 @@ pub enum Plan<'a> {
     Runs(Job<'a>),
     /// A program is evaluated on samples.
     Evaluates { program: &'a str, samples: &'a str },
-    /// A program is read for what is not built.
-    Refuses { program: &'a str },
+    /// A generated program is run.
+    Generates(Generation),
     /// Nothing is built of it.
     Nothing,
 }
@@ -35,22 +35,15 @@ fn runs<'a>(options: &Options<'a>, source: Source<'a>, samples: &'a str, log: bo
     })
 }
 
-/// What is done for the program of this name, unless it is to be narrowed.
-fn plain<'a>(options: &Options<'a>, program: &'a str, plan: Plan<'a>) -> Plan<'a>
-    ensures { plan_in result ≡ unless options.now.narrow program.now (plan_in plan.entry) }
-{
-    if options.narrow {
-        return Plan::Refuses { program };
-    }
-    plan
-}
-
 /// What is done for a lawful command line.
 pub fn plan_of<'a>(words: &Words<'a>) -> Plan<'a>
     ensures { plan_in result ≡ plan_of (order_of words.now) }
 {
     let options = &words.options;
-    let fabric = options.fabric;
+    let target = Target {
+        fabric: options.fabric,
+        narrowed: options.narrow,
+    };
     match words.mode {
         Mode::Show {
             configuration: name,
@@ -70,25 +63,30 @@ pub fn plan_of<'a>(words: &Words<'a>) -> Plan<'a>
         } => runs(options, Source::File { name }, samples, false),
         Mode::Eval { program, samples } => Plan::Evaluates { program, samples },
         Mode::Compile { program: name } => {
-            let source = Source::Program { name, fabric };
+            let source = Source::Program { name, target };
             let form = Form::File;
-            plain(options, name, Plan::Texts { form, source })
+            Plan::Texts { form, source }
         }
         Mode::Run {
             program: name,
             samples,
         } => {
-            let source = Source::Program { name, fabric };
-            plain(options, name, runs(options, source, samples, false))
+            let source = Source::Program { name, target };
+            runs(options, source, samples, false)
         }
         Mode::Trace {
             program: name,
             samples,
         } => {
-            let source = Source::Program { name, fabric };
-            plain(options, name, runs(options, source, samples, true))
+            let source = Source::Program { name, target };
+            runs(options, source, samples, true)
         }
-        Mode::Gen { .. } | Mode::Share { .. } | Mode::Checkpoint { .. } => Plan::Nothing,
+        Mode::Gen { size } => Plan::Generates(Generation {
+            turns: size.turns,
+            target,
+            stripes: options.stripes,
+        }),
+        Mode::Share { .. } | Mode::Checkpoint { .. } => Plan::Nothing,
         Mode::Move { .. } | Mode::Extend { .. } => Plan::Nothing,
     }
 }

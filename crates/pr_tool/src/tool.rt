@@ -9,7 +9,7 @@ ghost use Rattle.pr_tool_modes.specs.Calls.{call};
 ghost use Rattle.pr_tool_modes.specs.Jobs.{Job};
 ghost use Rattle.pr_tool_modes.specs.Sources.{Text};
 ghost use Rattle.pr_tool_modes.specs.Lines.{AreProgramLines};
-ghost use Rattle.pr_code.specs.declared.fabrics.Fabric.{Fabric};
+ghost use Rattle.pr_tool_modes.specs.declared.targets.Target.{Target};
 ghost use Rattle.pr_tool.specs.Notes.{note_of};
 ghost use Rattle.pr_tool.specs.Noted.{GainsNote};
 ghost use Rattle.pr_tool.specs.Plans.{Runs, plan_of};
@@ -36,9 +36,8 @@ struct Reply {
 /// of an answer that is not Ok goes to `note`.
 ///
 /// The words are those of the system, the program's name first. A run leaves its machine on the bench, and else that is left
-/// as it was. Programs are evaluated, compiled and run on both fabrics, with the log of the cycles or without it, and so are
-/// configuration files. Narrowed programs are not built: the program is read and refused, and only where no point refuses it
-/// the answer is NotYet. Words and files have one verdict at most (`answer_law`).
+/// as it was. Programs are evaluated, and they are compiled and run on both fabrics, narrowed or not, with the log of the cycles or
+/// without it; so are configuration files and generated programs. Words and files have one verdict at most (`answer_law`).
 pub fn piperench<S: Shelf, K: Sink, E: Sink>(
     alloc: Global,
     words: &[String],
@@ -66,8 +65,8 @@ pub fn piperench<S: Shelf, K: Sink, E: Sink>(
     // that drain the samples. After a read fault they are first samples, and all their lines are written, or no run was begun.
     // After a write fault first bytes of the lines are. With the log the same lines stand among those of the cycles. At every
     // other answer no run was begun: nothing is written, and the bench is as it was.
-    ensures lines { (files : List ℕ → Option (List ℕ)) (order : Order) (j : Job) (name : List ℕ) (fabric : Fabric) → S.told shelf.old ≡ Some files
-        → asked_by words.now ≡ Some order → plan_of order ≡ Runs j → j.source ≡ Text name fabric
+    ensures lines { (files : List ℕ → Option (List ℕ)) (order : Order) (j : Job) (name : List ℕ) (target : Target) → S.told shelf.old ≡ Some files
+        → asked_by words.now ≡ Some order → plan_of order ≡ Runs j → j.source ≡ Text name target
         → AreProgramLines files j (call
         (view (S.told shelf.old) (S.reach shelf.old) (S.faults shelf.old)) (view (S.told shelf.new) (S.reach shelf.new) (S.faults shelf.new))
         (K.told out.old) (K.told out.new) (K.faults out.old) (K.faults out.new)) bench.old bench.new result }

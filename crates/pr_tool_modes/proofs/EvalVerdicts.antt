@@ -1,5 +1,5 @@
 -- From the parts of an evaluation to what it comes to, and the verdict on it.
-use Rattle.std.proofs.Common.{◌≡◌, ◌≢◌, ◌⊎◌, ◌≤◌, ◌<◌, ℕ, List, length, Option, Some, None, refl, sym, ap, ◌∙◌, subst, inl, inr}
+use Rattle.std.proofs.Common.{◌≡◌, ◌⊎◌, ◌≤◌, ◌<◌, ℕ, List, length, Option, Some, None, refl, sym, ap, ◌∙◌, subst, inl, inr}
 use Rattle.pr_base.specs.declared.caps.Cap.{Cap}
 use Rattle.pr_edge.specs.Count.{Rose}
 use Rattle.pr_edge.specs.Files.{Told, HasReadCause}
@@ -21,9 +21,9 @@ use Rattle.pr_tool_answers.specs.Owed.{IsOwed}
 use Rattle.pr_tool_answers.proofs.OwedLemmas.{owed_by}
 use Rattle.pr_tool_modes.specs.Calls.{Call}
 use Rattle.pr_tool_modes.specs.Files.{IsText, IsUnread, IsFileRefusal, IsRefusedFile}
-use Rattle.pr_tool_modes.specs.Programs.{inputs_of, front_answer, IsBadProgram, HasProgram, HasPassed, IsLoaded, IsUnbuilt, IsUnbuiltVerdict}
-use Rattle.pr_tool_modes.specs.Samples.{fed_in, fed_whole, ended_by, whole_file_verdict}
-use Rattle.pr_tool_modes.specs.Evaluations.{HasSamples, IsWhole, IsPrefix, IsEnd, HasNoResult, HasResult, IsEvaluated, answer_by, AreResults, IsPut, IsLastVerdict, IsEvalVerdict}
+use Rattle.pr_tool_modes.specs.Programs.{inputs_of, front_answer, IsBadProgram, HasProgram, IsLoaded}
+use Rattle.pr_tool_modes.specs.Samples.{fed_in, ended_by, whole_file_verdict}
+use Rattle.pr_tool_modes.specs.Evaluations.{HasSamples, IsWhole, IsEnd, IsEvaluated, answer_by, AreResults, IsPut, IsEvalVerdict}
 use Rattle.pr_tool_modes.proofs.FedLemmas.{short_fed, long_fed}
 use Rattle.pr_tool_modes.proofs.FileLemmas.{cause_earlier, refusal_owed, one_refused, never_refused, refusal_kind}
 use Rattle.pr_tool_modes.proofs.ReasonLemmas.{IsKind, kind_never, kind_fault, program_refuses, one_program, never_program}
@@ -40,9 +40,6 @@ front_refused text (front.Limit which) a is same = inl (record { fault = front.L
 
 pub program_of : (told : Told) (name : List ℕ) (f : Front) → IsLoaded told name f → HasProgram told name f.scoped.program f.widths
 program_of told name f is = record { text = is.text; file = is.file; short = is.short; has = is.passed.widths }
-
-pub unbuilt : (told : Told) (name : List ℕ) (before now : ℕ) (f : Front) → IsLoaded told name f → IsUnbuilt told name before now Answer.NotYet
-unbuilt told name before now f loaded = inr (refl, record { program = f.scoped.program; widths = f.widths; has = program_of told name f loaded })
 
 -- ---- the samples
 -- those that were not read whole
@@ -127,12 +124,6 @@ eval_owed files first second k a told (inr has) =
     owed_by (λ o. o ≡ whole_file_verdict (inputs_of has.program) (files second)) (IsEvalVerdict files first second) k.before.faults k.now.faults k.out_before k.out_now a
     (λ is. inr (record { program = has.program; widths = has.widths; has = program; last = is })) (end_owed files second has.program k a told has.end)
 
-pub unbuilt_owed : (files : List ℕ → Option (List ℕ)) (name : List ℕ) (told : Told) (sb sn ob on : ℕ) (a : Answer) → told ≡ Some files → IsUnbuilt told name sb sn a → IsOwed (IsUnbuiltVerdict files name) sb sn ob on a
-unbuilt_owed files name told sb sn ob on a is (inl refused) =
-    owed_by (IsRefusedFile 1048576 Cap.ProgramBytes IsBadProgram files name) (IsUnbuiltVerdict files name) sb sn ob on a inl
-    (refusal_owed 1048576 Cap.ProgramBytes IsBadProgram files name sb sn ob on a (subst (λ (t : Told). IsFileRefusal 1048576 Cap.ProgramBytes IsBadProgram t name sb sn a) is refused))
-unbuilt_owed files name told sb sn ob on a is (inr passed) = inl (inr (passed.0, subst (λ (t : Told). HasPassed t name) is passed.1))
-
 -- ---- one verdict
 module _ (files : List ℕ → Option (List ℕ)) (name : List ℕ) where
   same_tree : (p q : Program) (v w : List ℕ) → HasProgram (Some files) name p v → HasProgram (Some files) name q w → program_shape p ≡ program_shape q
@@ -154,12 +145,6 @@ module _ (files : List ℕ → Option (List ℕ)) (name : List ℕ) where
       let tree = same_tree is.program by.program is.widths by.widths is.has by.has in
       is.last ∙ (ap (λ (ws : List ℕ). whole_file_verdict ws (files second)) (same-inputs is.program by.program tree) ∙ sym by.last)
 
-  pub one_unbuilt : (a b : Answer) → IsUnbuiltVerdict files name a → IsUnbuiltVerdict files name b → a ≡ b
-  one_unbuilt a b (inl is) (inl by) = one_refused 1048576 Cap.ProgramBytes IsBadProgram files name one_program a b is by
-  one_unbuilt a b (inl is) (inr by) = absurd (never_bad a by.1.program by.1.widths is by.1.has)
-  one_unbuilt a b (inr is) (inl by) = absurd (never_bad b is.1.program is.1.widths by is.1.has)
-  one_unbuilt a b (inr is) (inr by) = is.0 ∙ sym by.0
-
 -- ---- single answers
 pub program_kind : (told : Told) (name : List ℕ) (before now : ℕ) (a : Answer) → IsFileRefusal 1048576 Cap.ProgramBytes IsBadProgram told name before now a → IsKind (HasReadCause told name before now) a
 program_kind told name before now a is = refusal_kind 1048576 Cap.ProgramBytes IsBadProgram told name before now a refl (λ text h. program_refuses text a h) is
@@ -179,15 +164,3 @@ eval_write first second k a (inr has) is = (subst (λ (o : Answer). IsEnd second
 pub eval_usage : (first second : List ℕ) (k : Call) (a : Answer) → IsEvaluated first second k a → a ≡ Answer.Usage → ⊥
 eval_usage first second k a (inl none) is = kind_never _ a Answer.Usage (program_kind k.before.told first k.before.faults k.now.faults a none.cause) is refl (λ e. cc) (λ e. cc)
 eval_usage first second k a (inr has) is = subst (λ (o : Answer). IsEnd second has.program k o) is has.end
-
-pub unbuilt_fault : (told : Told) (name : List ℕ) (sb sn : ℕ) (a : Answer) → IsUnbuilt told name sb sn a → a ≡ Answer.ReadFault → told ≡ None → Rose sb sn
-unbuilt_fault told name sb sn a (inl refused) is untold = untold_rose told name sb sn (kind_fault _ a (program_kind told name sb sn a refused) is) untold
-unbuilt_fault told name sb sn a (inr passed) is untold = absurd (let no : Answer.ReadFault ≡ Answer.NotYet = sym is ∙ passed.0 in cc)
-
-pub unbuilt_write : (told : Told) (name : List ℕ) (sb sn : ℕ) (a : Answer) → IsUnbuilt told name sb sn a → a ≡ Answer.WriteFault → ⊥
-unbuilt_write told name sb sn a (inl refused) is = kind_never _ a Answer.WriteFault (program_kind told name sb sn a refused) is refl (λ e. cc) (λ e. cc)
-unbuilt_write told name sb sn a (inr passed) is = (let no : Answer.WriteFault ≡ Answer.NotYet = sym is ∙ passed.0 in cc)
-
-pub unbuilt_usage : (told : Told) (name : List ℕ) (sb sn : ℕ) (a : Answer) → IsUnbuilt told name sb sn a → a ≡ Answer.Usage → ⊥
-unbuilt_usage told name sb sn a (inl refused) is = kind_never _ a Answer.Usage (program_kind told name sb sn a refused) is refl (λ e. cc) (λ e. cc)
-unbuilt_usage told name sb sn a (inr passed) is = (let no : Answer.Usage ≡ Answer.NotYet = sym is ∙ passed.0 in cc)

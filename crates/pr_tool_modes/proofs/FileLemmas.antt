@@ -1,12 +1,12 @@
 -- Files that are read whole: what comes of them, and the verdict on them.
-use Rattle.std.proofs.Common.{◌≡◌, ◌⊎◌, ◌+◌, ◌<◌, ◌≤◌, ℕ, true, List, length, replicate, Option, Some, None, IfSome, refl, sym, ap, subst, ◌∙◌, arith, inl, inr}
+use Rattle.std.proofs.Common.{◌≡◌, ◌+◌, ◌<◌, ◌≤◌, ℕ, true, List, length, replicate, Option, Some, None, IfSome, refl, sym, ap, subst, ◌∙◌, arith, inl, inr}
 use Rattle.std.proofs.lemmas.List.{length-replicate}
 use Rattle.pr_base.specs.declared.caps.Cap.{Cap}
 use Rattle.pr_edge.specs.Count.{Rose}
 use Rattle.pr_edge.specs.Files.{Told, OfFile, IsMissing, HasReadCause}
 use Rattle.pr_tool_answers.specs.declared.answers.Answer.{Answer}
 use Rattle.pr_tool_answers.specs.Owed.{IsOwed}
-use Rattle.pr_tool_modes.specs.Files.{IsText, IsLong, HasRefused, IsUnread, IsFileRefusal, IsRefusedFile}
+use Rattle.pr_tool_modes.specs.Files.{IsLong, IsUnread, IsFileRefusal, IsRefusedFile}
 use Rattle.pr_tool_modes.proofs.ReasonLemmas.{refuses, IsKind}
 
 pub long_file : (told : Told) (name : List ℕ) (limit : ℕ) → OfFile told name (λ file. limit < length file) → (IsMissing told name → ⊥) → IsLong told name limit

@@ -12,3 +12,7 @@ pub mod SampleLemmas
 pub mod LineLemmas
 pub mod LinesLemmas
 mod Examples
+pub mod GenVerdicts
+pub mod GenLemmas
+pub mod BehaviourLemmas
+pub mod GenTexts

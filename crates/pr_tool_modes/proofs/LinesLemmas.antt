@@ -1,5 +1,5 @@
 -- From what a call came to, to the lines that it has written.
-use Rattle.std.proofs.Common.{◌≡◌, ◌≢◌, ◌⊎◌, ◌≤◌, ◌<◌, ℕ, Bool, true, false, not, List, All, [], ◌++◌, length, take, drop, Option, Some, None, unwrap_or, refl, sym, ap, subst, ◌∙◌, arith, inl, inr, true≢false}
+use Rattle.std.proofs.Common.{◌≡◌, ◌⊎◌, ◌≤◌, ◌<◌, ℕ, Bool, true, false, not, List, All, [], ◌++◌, length, take, drop, Option, Some, None, unwrap_or, refl, sym, ap, subst, ◌∙◌, arith, inl, inr, true≢false}
 use Rattle.std.specs.Bool.{MatchBool}
 use Rattle.std.proofs.lemmas.List.{take-append-drop}
 use Rattle.std.proofs.lemmas.List.Elements.{All-take}
@@ -17,30 +17,30 @@ use Rattle.pr_samples.specs.Feed.{Tells}
 use Rattle.pr_lang_meaning.specs.Programs.{out}
 use Rattle.pr_lang_meaning.proofs.EvenPrograms.{take-out}
 use Rattle.pr_machine.specs.Stands.{Stands, History}
-use Rattle.pr_run_script.specs.Script.{Held, most_cycles}
+use Rattle.pr_run_script.specs.Script.{most_cycles}
 use Rattle.pr_run_script.specs.Counts.{cycles_in}
-use Rattle.pr_run.specs.Setting.{View}
 use Rattle.pr_run.specs.Turns.{Going}
 use Rattle.pr_run.proofs.Lines.{front_longer, nothing_appended}
 use Rattle.pr_code.specs.declared.fabrics.Fabric.{Fabric}
 use Rattle.pr_tool_answers.specs.declared.answers.Answer.{Answer}
 use Rattle.pr_tool_modes.specs.declared.benches.Bench.{Bench}
+use Rattle.pr_tool_modes.specs.declared.targets.Target.{Target}
 use Rattle.pr_tool_modes.specs.Calls.{Call}
 use Rattle.pr_tool_modes.specs.Evaluations as evaluations
 use Rattle.pr_tool_modes.specs.Evaluations.{HasNoResult, HasResult, IsEvaluated}
 use Rattle.pr_tool_modes.specs.Executions.{HasRan, HasNoRun, HasCome}
 use Rattle.pr_tool_modes.specs.Files.{IsText}
-use Rattle.pr_tool_modes.specs.Jobs.{Job, first_of, IsNeither}
+use Rattle.pr_tool_modes.specs.Jobs.{Job, first_of}
 use Rattle.pr_tool_modes.specs.Lines.{ByAnswer, HasAllLines, HasFirstLines, AreEvalLines, HasRunOn, HasBegunOn, OnBench, IsWholeRun, IsReadRun, IsCutRun, IsNoRun, IsUnreadRun, samples_file, AreRunLines, MeansLines, AreProgramLines, NoMore, AreConfigurationLines}
 use Rattle.pr_tool_modes.specs.Programs.{inputs_of, HasProgram}
-use Rattle.pr_tool_modes.specs.Runs.{Course, course, events_on, ends_well, HasAll, IsWhole, IsBroken, IsStopped, IsEnd}
-use Rattle.pr_tool_modes.specs.Samples.{fed_in, fed_to, fed_whole, pieces}
+use Rattle.pr_tool_modes.specs.Runs.{Course, course, ends_well, HasAll, IsWhole, IsBroken, IsStopped, IsEnd}
+use Rattle.pr_tool_modes.specs.Samples.{fed_in, fed_whole, pieces}
 use Rattle.pr_tool_modes.specs.Sources.{Source, Text, name_in, Gives, columns, registers}
 use Rattle.pr_tool_modes.specs.Stalls.{HasStall}
 use Rattle.pr_tool_modes.proofs.CompileLaws.{is_meant}
 use Rattle.pr_tool_modes.proofs.EvalVerdicts.{program_kind}
 use Rattle.pr_tool_modes.proofs.FedLemmas.{fed_rows, fed_limit, short_fed, long_fed}
-use Rattle.pr_tool_modes.proofs.ReasonLemmas.{is_of_samples, refuses, IsKind, kind_fault}
+use Rattle.pr_tool_modes.proofs.ReasonLemmas.{is_of_samples, refuses, IsKind}
 use Rattle.pr_tool_modes.proofs.RunVerdicts.{refusal_is}
 use Rattle.pr_tool_modes.proofs.SourceLemmas.{of_fabric}
 
@@ -336,21 +336,21 @@ record IsProgramOf (files : List ℕ → Option (List ℕ)) (j : Job) (N P : ℕ
   pub has : HasProgram (Some files) (first_of j) program widths
   pub means : IsMeant N P program conf
 
-two_registers : (fabric : Fabric) → 2 ≤ registers fabric
+pub two_registers : (fabric : Fabric) → 2 ≤ registers fabric
 two_registers Fabric.Base = omega arith
 two_registers Fabric.Wide = omega arith
 
-program_in : (files : List ℕ → Option (List ℕ)) (j : Job) (name : List ℕ) (fabric : Fabric) (N P : ℕ) (conf : Shape) → j.source ≡ Text name fabric → Gives (Some files) j.source N P conf → IsProgramOf files j N P conf
-program_in files j name fabric N P conf is gives =
+program_in : (files : List ℕ → Option (List ℕ)) (j : Job) (name : List ℕ) (target : Target) (N P : ℕ) (conf : Shape) → j.source ≡ Text name target → Gives (Some files) j.source N P conf → IsProgramOf files j N P conf
+program_in files j name target N P conf is gives =
     let on = subst (λ (s : Source). Gives (Some files) s N P conf) is gives in
-    let has = of_fabric (Some files) name fabric N P conf on in
+    let has = of_fabric (Some files) name target N P conf on in
     let c = has.is in
-    let meant = is_meant (columns fabric) (registers fabric) has.text c.program c.widths conf (two_registers fabric) c.has c in
+    let meant = is_meant (columns target.fabric) (registers target.fabric) target.narrowed has.text c.program c.widths conf (two_registers target.fabric) c.has c in
     record {
       program = c.program;
       widths = c.widths;
       has = subst (λ (s : Source). HasProgram (Some files) (name_in s) c.program c.widths) (sym is) (record { text = has.text; file = has.file; short = has.short; has = c.has });
-      means = subst (λ (n : ℕ). IsMeant n P c.program conf) (sym on.columns_are) (subst (λ (p : ℕ). IsMeant (columns fabric) p c.program conf) (sym on.registers_are) meant);
+      means = subst (λ (n : ℕ). IsMeant n P c.program conf) (sym on.columns_are) (subst (λ (p : ℕ). IsMeant (columns target.fabric) p c.program conf) (sym on.registers_are) meant);
     }
 
 -- the lines of the configuration's results are those of the program
@@ -361,12 +361,12 @@ lines_same files j conf p rows first =
     let fed : All (IsRow conf.inputs) rows = subst (All (IsRow conf.inputs)) (sym first) (All-take (IsRow conf.inputs) (length rows) (fed_in conf.inputs (samples_file files j)).samples all) in
     ap written (p.means.numbers rows fed)
 
-program_ran : {N P : ℕ} (files : List ℕ → Option (List ℕ)) (j : Job) (name : List ℕ) (fabric : Fabric) (k : Call) (was bench : Bench) (machine : Going N P) (a : Answer) → j.source ≡ Text name fabric → k.before.told ≡ Some files → (has : HasRan j k machine a)
+program_ran : {N P : ℕ} (files : List ℕ → Option (List ℕ)) (j : Job) (name : List ℕ) (target : Target) (k : Call) (was bench : Bench) (machine : Going N P) (a : Answer) → j.source ≡ Text name target → k.before.told ≡ Some files → (has : HasRan j k machine a)
     → ((widths : List ℕ) (rows : List (List ℕ)) (good : Bool) → HasRunOn files j k widths rows good machine → OnBench (λ N P m. HasRunOn files j k widths rows good m) bench)
     → ((widths : List ℕ) (rows : List (List ℕ)) → HasBegunOn files j k widths rows machine → OnBench (λ N P m. HasBegunOn files j k widths rows m) bench)
     → AreProgramLines files j k was bench a
-program_ran {N} {P} files j name fabric k was bench machine a is told has on_run on_begun =
-    let p = program_in files j name fabric N P has.conf is (subst (λ (t : Told). Gives t j.source N P has.conf) told has.gives) in
+program_ran {N} {P} files j name target k was bench machine a is told has on_run on_begun =
+    let p = program_in files j name target N P has.conf is (subst (λ (t : Told). Gives t j.source N P has.conf) told has.gives) in
     let r : Ran N P (MeansLines files j) = record {
       files = files;
       j = j;
@@ -402,8 +402,8 @@ program_ran {N} {P} files j name fabric k was bench machine a is told has on_run
     } in
     ended_run r was a has.run.run.end
 
-pub program_lines : (files : List ℕ → Option (List ℕ)) (j : Job) (name : List ℕ) (fabric : Fabric) (k : Call) (was bench : Bench) (a : Answer) → j.source ≡ Text name fabric → k.before.told ≡ Some files → HasCome j k was bench a → AreProgramLines files j k was bench a
-program_lines files j name fabric k was bench a is told (inl none) = no_run (MeansLines files j) files j k was bench a none
-program_lines files j name fabric k was (Bench.Base machine) a is told (inr has) = program_ran files j name fabric k was (Bench.Base machine) machine a is told has (λ ws xs g h. h) (λ ws xs h. h)
-program_lines files j name fabric k was (Bench.Wide machine) a is told (inr has) = program_ran files j name fabric k was (Bench.Wide machine) machine a is told has (λ ws xs g h. h) (λ ws xs h. h)
-program_lines files j name fabric k was Bench.Nothing a is told (inr has) = absurd has
+pub program_lines : (files : List ℕ → Option (List ℕ)) (j : Job) (name : List ℕ) (target : Target) (k : Call) (was bench : Bench) (a : Answer) → j.source ≡ Text name target → k.before.told ≡ Some files → HasCome j k was bench a → AreProgramLines files j k was bench a
+program_lines files j name target k was bench a is told (inl none) = no_run (MeansLines files j) files j k was bench a none
+program_lines files j name target k was (Bench.Base machine) a is told (inr has) = program_ran files j name target k was (Bench.Base machine) machine a is told has (λ ws xs g h. h) (λ ws xs h. h)
+program_lines files j name target k was (Bench.Wide machine) a is told (inr has) = program_ran files j name target k was (Bench.Wide machine) machine a is told has (λ ws xs g h. h) (λ ws xs h. h)
+program_lines files j name target k was Bench.Nothing a is told (inr has) = absurd has

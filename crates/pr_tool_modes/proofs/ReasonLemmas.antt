@@ -1,7 +1,6 @@
 -- Why texts are refused: one reason at most, none for a text from which something came, and never as samples are.
-use Rattle.std.proofs.Common.{◌≡◌, ◌⊎◌, ◌≤◌, ◌∙◌, ℕ, Bool, true, false, cond, not, List, length, nat_lt, Option, Some, None, refl, sym, ap, subst, inl, inr, true≢false}
+use Rattle.std.proofs.Common.{◌≡◌, ◌⊎◌, ◌∙◌, ℕ, Bool, true, false, cond, not, List, Some, None, refl, sym, ap, subst, inl, inr, true≢false}
 use Rattle.pr_base.specs.declared.caps.Cap.{Cap}
-use Rattle.pr_code.specs.Rules.{Broken}
 use Rattle.pr_lang.specs.declared.trees.Program.{Program}
 use Rattle.pr_net.specs.Shape.{NetShape}
 use Rattle.pr_conf.specs.Shape.{Shape}
@@ -15,7 +14,7 @@ use Rattle.pr_compile.specs.declared.faults.CompileFault.TheVariants as fault
 use Rattle.pr_compile.specs.Configured.{net_by, IsCompiled}
 use Rattle.pr_compile.specs.Refusals.{IsRefused, IsCompileAnswer}
 use Rattle.pr_tool_answers.specs.declared.answers.Answer.{Answer}
-use Rattle.pr_tool_modes.specs.Configurations.{broken_answer, HasBroken, IsWordRefusal, IsBadConfiguration, broken_in}
+use Rattle.pr_tool_modes.specs.Configurations.{broken_answer, IsWordRefusal, IsBadConfiguration, broken_in}
 use Rattle.pr_tool_modes.specs.Programs.{front_answer, compile_answer, IsBadProgram, IsUncompiled}
 use Rattle.pr_tool_modes.proofs.CompileLaws.{one_refusal, never_compiled}
 
@@ -92,32 +91,32 @@ three_caps false false false which is = absurd (cc)
 net_cap : (columns : ℕ) (net : NetShape) (which : Cap) → limit_passed columns net ≡ Some which → refuses (Answer.Limit which) ≡ true
 net_cap columns net which is = three_caps _ _ _ which is
 
-fault_refuses : (N P : ℕ) (text : List ℕ) (e : CompileFault) → IsRefused N P text e → refuses (compile_answer e) ≡ true
-fault_refuses N P text (fault.Syntax token) is = refl
-fault_refuses N P text (fault.Scope rule item) is = refl
-fault_refuses N P text (fault.NoWidth equation) is = refl
-fault_refuses N P text (fault.NoFit unit) is = refl
-fault_refuses N P text (fault.Limit which) (inl is) = front_cap text which is
-fault_refuses N P text (fault.Limit which) (inr is) = net_cap N (net_by is.program is.widths) which is.refused
-fault_refuses N P text (fault.Memory e) is = absurd is
+fault_refuses : (N P : ℕ) (narrowed : Bool) (text : List ℕ) (e : CompileFault) → IsRefused N P narrowed text e → refuses (compile_answer e) ≡ true
+fault_refuses N P narrowed text (fault.Syntax token) is = refl
+fault_refuses N P narrowed text (fault.Scope rule item) is = refl
+fault_refuses N P narrowed text (fault.NoWidth equation) is = refl
+fault_refuses N P narrowed text (fault.NoFit unit) is = refl
+fault_refuses N P narrowed text (fault.Limit which) (inl is) = front_cap text which is
+fault_refuses N P narrowed text (fault.Limit which) (inr is) = net_cap N (net_by is.program is.refused.ready is.refused.news) which is.refused.holds
+fault_refuses N P narrowed text (fault.Memory e) is = absurd is
 
-pub compile_refuses : (N P : ℕ) (text : List ℕ) (a : Answer) → IsUncompiled N P text a → refuses a ≡ true
-compile_refuses N P text a is = ap refuses is.answers ∙ fault_refuses N P text is.fault is.refused
+pub compile_refuses : (N P : ℕ) (narrowed : Bool) (text : List ℕ) (a : Answer) → IsUncompiled N P narrowed text a → refuses a ≡ true
+compile_refuses N P narrowed text a is = ap refuses is.answers ∙ fault_refuses N P narrowed text is.fault is.refused
 
-pub one_uncompiled : (N P : ℕ) (text : List ℕ) (a b : Answer) → IsUncompiled N P text a → IsUncompiled N P text b → a ≡ b
-one_uncompiled N P text a b is by = is.answers ∙ (ap compile_answer (one_refusal N P text is.fault by.fault is.refused by.refused) ∙ sym by.answers)
+pub one_uncompiled : (N P : ℕ) (narrowed : Bool) (text : List ℕ) (a b : Answer) → IsUncompiled N P narrowed text a → IsUncompiled N P narrowed text b → a ≡ b
+one_uncompiled N P narrowed text a b is by = is.answers ∙ (ap compile_answer (one_refusal N P narrowed text is.fault by.fault is.refused by.refused) ∙ sym by.answers)
 
-pub never_uncompiled : (N P : ℕ) (text : List ℕ) (a : Answer) (conf : Shape) → IsCompiled N P text conf → IsUncompiled N P text a → ⊥
-never_uncompiled N P text a conf compiled is = never_compiled N P text is.fault conf is.refused compiled
+pub never_uncompiled : (N P : ℕ) (narrowed : Bool) (text : List ℕ) (a : Answer) (conf : Shape) → IsCompiled N P narrowed text conf → IsUncompiled N P narrowed text a → ⊥
+never_uncompiled N P narrowed text a conf compiled is = never_compiled N P narrowed text is.fault conf is.refused compiled
 
 -- a fault of compilation, or want of memory
-pub compile_refused : (N P : ℕ) (text : List ℕ) (e : CompileFault) (a : Answer) → IsCompileAnswer N P text e → a ≡ compile_answer e → IsUncompiled N P text a ⊎ (a ≡ Answer.Memory)
-compile_refused N P text (fault.Memory e) a is same = inr same
-compile_refused N P text (fault.Syntax token) a is same = inl (record { fault = fault.Syntax token; refused = is; answers = same })
-compile_refused N P text (fault.Scope rule item) a is same = inl (record { fault = fault.Scope rule item; refused = is; answers = same })
-compile_refused N P text (fault.NoWidth equation) a is same = inl (record { fault = fault.NoWidth equation; refused = is; answers = same })
-compile_refused N P text (fault.NoFit unit) a is same = inl (record { fault = fault.NoFit unit; refused = is; answers = same })
-compile_refused N P text (fault.Limit which) a is same = inl (record { fault = fault.Limit which; refused = is; answers = same })
+pub compile_refused : (N P : ℕ) (narrowed : Bool) (text : List ℕ) (e : CompileFault) (a : Answer) → IsCompileAnswer N P narrowed text e → a ≡ compile_answer e → IsUncompiled N P narrowed text a ⊎ (a ≡ Answer.Memory)
+compile_refused N P narrowed text (fault.Memory e) a is same = inr same
+compile_refused N P narrowed text (fault.Syntax token) a is same = inl (record { fault = fault.Syntax token; refused = is; answers = same })
+compile_refused N P narrowed text (fault.Scope rule item) a is same = inl (record { fault = fault.Scope rule item; refused = is; answers = same })
+compile_refused N P narrowed text (fault.NoWidth equation) a is same = inl (record { fault = fault.NoWidth equation; refused = is; answers = same })
+compile_refused N P narrowed text (fault.NoFit unit) a is same = inl (record { fault = fault.NoFit unit; refused = is; answers = same })
+compile_refused N P narrowed text (fault.Limit which) a is same = inl (record { fault = fault.Limit which; refused = is; answers = same })
 
 -- ---- configurations
 -- a word that breaks its rule, or want of memory

@@ -6,6 +6,7 @@ use Rattle.pr_edge.specs.Count.{Rose}
 use Rattle.pr_edge.specs.Files.{Told, IsMissing, HasReadCause}
 use Rattle.pr_edge.specs.Tape.{Tape}
 use Rattle.pr_conf.specs.Shape.{Shape}
+use Rattle.pr_conf.specs.Configuration.{shape_of}
 use Rattle.pr_samples.specs.Fed.{Ending, End, BadSample, Limit}
 use Rattle.pr_samples.specs.Feed.{Tells}
 use Rattle.pr_run_script.specs.Script.{Held}
@@ -16,13 +17,14 @@ use Rattle.pr_tool_answers.specs.declared.answers.Answer.{Answer}
 use Rattle.pr_tool_answers.specs.Owed.{IsOwed}
 use Rattle.pr_tool_answers.proofs.OwedLemmas.{owed_by}
 use Rattle.pr_tool_modes.specs.declared.benches.Bench.{Bench}
-use Rattle.pr_tool_modes.specs.Calls.{Call}
-use Rattle.pr_tool_modes.specs.Executions.{HasRun, HasRan, IsExecuted, IsRunRefusal, HasNoRun, HasCome, IsLastVerdict, IsRunVerdict}
+use Rattle.pr_tool_modes.specs.declared.loadables.Loadable.{Loadable}
+use Rattle.pr_tool_modes.specs.Calls.{Call, call}
+use Rattle.pr_tool_modes.specs.Executions.{HasRun, HasRan, IsRunOf, IsRunRefusal, HasCome, IsRunVerdict}
 use Rattle.pr_tool_modes.specs.Files.{IsUnread}
 use Rattle.pr_tool_modes.specs.Jobs.{Job, first_of, IsNoStall, IsNeither}
 use Rattle.pr_tool_modes.specs.Runs.{Course, course, HasAll, IsEnd}
 use Rattle.pr_tool_modes.specs.Samples.{ended_by, samples_verdict}
-use Rattle.pr_tool_modes.specs.Sources.{Source, Gives, IsGood, IsSourceRefusal, IsRefusedSource}
+use Rattle.pr_tool_modes.specs.Sources.{columns_in, registers_in, shape_in, Gives, IsGood, IsSourceRefusal, IsRefusedSource}
 use Rattle.pr_tool_modes.specs.Stalls.{HasStall, HasBadStall, IsStallRefusal, after_text, after_stall, bad_or, first_bad}
 use Rattle.pr_tool_modes.proofs.FileLemmas.{rose_earlier, unread_earlier}
 use Rattle.pr_tool_modes.proofs.ReasonLemmas.{refuses, IsKind, kind_never, kind_fault}
@@ -68,6 +70,23 @@ pub later_refusal : (j : Job) (k : Call) (mid_told : Told) (mid : ℕ) (N P : �
 later_refusal j k mid_told mid N P c a gives told later (inl stall) =
     inr (inl (record { N = N; P = P; conf = c; gives = gives }, stall_earlier k.before.told mid_told j.stall k.before.faults mid k.now.faults a told later stall))
 later_refusal j k mid_told mid N P c a gives told later (inr memory) = inr (inr memory)
+
+-- a configuration that was to be run, after the source was read
+pub come_of : (j : Job) (k : Call) (mid : View) (l : Loadable) (was bench : Bench) (a : Answer) → Gives k.before.told j.source (columns_in l) (registers_in l) (shape_in l)
+    → mid.told ≡ k.before.told → k.before.faults ≤ mid.faults → ((q : List ℕ) → q ≢ first_of j → mid.reach q ≡ k.before.reach q)
+    → IsRunOf l j (call mid k.now k.old k.new k.out_before k.out_now) was bench a → HasCome j k was bench a
+come_of j k mid l was bench a gives told later reach (inl held) = inl (record {
+  cause = later_refusal j k mid.told mid.faults (columns_in l) (registers_in l) (shape_in l) a gives told later held.cause;
+  unwritten = held.unwritten;
+  kept = held.kept;
+  unread = λ q neither. held.unread q neither.1 ∙ reach q neither.0;
+})
+come_of j k mid (Loadable.Base conf) was (Bench.Base machine) a gives told later reach (inr ran) = inr (has_ran j k mid (shape_of conf) machine a gives told later reach ran.write_fault ran.run)
+come_of j k mid (Loadable.Wide conf) was (Bench.Wide machine) a gives told later reach (inr ran) = inr (has_ran j k mid (shape_of conf) machine a gives told later reach ran.write_fault ran.run)
+come_of j k mid (Loadable.Base conf) was (Bench.Wide machine) a gives told later reach (inr ran) = absurd ran
+come_of j k mid (Loadable.Base conf) was Bench.Nothing a gives told later reach (inr ran) = absurd ran
+come_of j k mid (Loadable.Wide conf) was (Bench.Base machine) a gives told later reach (inr ran) = absurd ran
+come_of j k mid (Loadable.Wide conf) was Bench.Nothing a gives told later reach (inr ran) = absurd ran
 
 -- ---- the stall text
 passes_text : (file : Option (List ℕ)) (text : List ℕ) (next : Answer) → file ≡ Some text → length text ≤ 1048576 → first_bad text ≡ None → after_text file next ≡ next

@@ -1,14 +1,14 @@
 -- What comes of the file of a source, and the verdict on it.
-use Rattle.std.proofs.Common.{◌≡◌, ◌⊎◌, ◌≤◌, ◌∙◌, ℕ, List, length, Option, Some, None, refl, sym, ap, subst, inl, inr}
+use Rattle.std.proofs.Common.{◌≡◌, ◌⊎◌, ◌≤◌, ◌∙◌, ℕ, List, length, Option, Some, refl, sym, ap, subst, inl, inr}
 use Rattle.pr_base.specs.declared.caps.Cap.{Cap}
-use Rattle.pr_code.specs.declared.fabrics.Fabric.{Fabric}
 use Rattle.pr_conf.specs.Shape.{Shape}
 use Rattle.pr_compile.specs.Configured.{IsCompiled}
 use Rattle.pr_edge.specs.Files.{Told, HasReadCause}
 use Rattle.pr_tool_answers.specs.declared.answers.Answer.{Answer}
 use Rattle.pr_tool_answers.specs.Owed.{IsOwed}
-use Rattle.pr_tool_modes.specs.Files.{IsText, HasRefused, IsUnread, IsFileRefusal}
-use Rattle.pr_tool_modes.specs.Configurations.{HasConfiguration, IsBadConfiguration, configuration_in}
+use Rattle.pr_tool_modes.specs.declared.targets.Target.{Target}
+use Rattle.pr_tool_modes.specs.Files.{IsText, IsFileRefusal}
+use Rattle.pr_tool_modes.specs.Configurations.{IsBadConfiguration, configuration_in}
 use Rattle.pr_tool_modes.specs.Programs.{HasCompiled, IsUncompiled}
 use Rattle.pr_tool_modes.specs.Sources.{Source, File, Text, name_in, columns, registers, CompilesTo, IsOnFabric, Gives, IsSourceRefusal, IsRefusedSource}
 use Rattle.pr_tool_modes.proofs.CompileLaws.{one_compiled}
@@ -22,8 +22,8 @@ pub text_refusal : (limit : ℕ) (cap : Cap) (reasons : List ℕ → Answer → 
 text_refusal limit cap reasons told name text before now a file short (inl is) = inr (record { text = text; file = file; short = short; refused = is })
 text_refusal limit cap reasons told name text before now a file short (inr memory) = inl (inr (inr memory))
 
-pub on_fabric : (told : Told) (name text : List ℕ) (fabric : Fabric) (N P : ℕ) (conf : Shape) → IsText told name text → length text ≤ 1048576 → CompilesTo fabric N P text conf → IsOnFabric told name fabric N P conf
-on_fabric told name text fabric N P conf file short is = record {
+pub on_fabric : (told : Told) (name text : List ℕ) (target : Target) (N P : ℕ) (conf : Shape) → IsText told name text → length text ≤ 1048576 → CompilesTo target N P text conf → IsOnFabric told name target N P conf
+on_fabric told name text target N P conf file short is = record {
   columns_are = is.columns_are;
   registers_are = is.registers_are;
   has = record { text = text; file = file; short = short; is = is.is };
@@ -32,38 +32,38 @@ on_fabric told name text fabric N P conf file short is = record {
 -- ---- the verdict
 pub source_owed : (files : List ℕ → Option (List ℕ)) (source : Source) (sb sn ob on : ℕ) (a : Answer) → IsSourceRefusal (Some files) source sb sn a → IsOwed (IsRefusedSource files source) sb sn ob on a
 source_owed files (File name) sb sn ob on a is = refusal_owed 16777216 Cap.ConfigBytes IsBadConfiguration files name sb sn ob on a is
-source_owed files (Text name fabric) sb sn ob on a is = refusal_owed 1048576 Cap.ProgramBytes (IsUncompiled (columns fabric) (registers fabric)) files name sb sn ob on a is
+source_owed files (Text name target) sb sn ob on a is = refusal_owed 1048576 Cap.ProgramBytes (IsUncompiled (columns target.fabric) (registers target.fabric) target.narrowed) files name sb sn ob on a is
 
 pub one_source : (files : List ℕ → Option (List ℕ)) (source : Source) (a b : Answer) → IsRefusedSource files source a → IsRefusedSource files source b → a ≡ b
 one_source files (File name) a b is by = one_refused 16777216 Cap.ConfigBytes IsBadConfiguration files name one_configuration a b is by
-one_source files (Text name fabric) a b is by =
-    one_refused 1048576 Cap.ProgramBytes (IsUncompiled (columns fabric) (registers fabric)) files name (one_uncompiled (columns fabric) (registers fabric)) a b is by
+one_source files (Text name target) a b is by =
+    one_refused 1048576 Cap.ProgramBytes (IsUncompiled (columns target.fabric) (registers target.fabric) target.narrowed) files name (one_uncompiled (columns target.fabric) (registers target.fabric) target.narrowed) a b is by
 
--- a compiled program, by its fabric
-pub of_fabric : (told : Told) (name : List ℕ) (fabric : Fabric) (N P : ℕ) (conf : Shape) → IsOnFabric told name fabric N P conf → HasCompiled told name (columns fabric) (registers fabric) conf
-of_fabric told name fabric N P conf is =
-    subst (λ (n : ℕ). HasCompiled told name n (registers fabric) conf) is.columns_are (subst (λ (p : ℕ). HasCompiled told name N p conf) is.registers_are is.has)
+-- a compiled program, by its target
+pub of_fabric : (told : Told) (name : List ℕ) (target : Target) (N P : ℕ) (conf : Shape) → IsOnFabric told name target N P conf → HasCompiled told name (columns target.fabric) (registers target.fabric) target.narrowed conf
+of_fabric told name target N P conf is =
+    subst (λ (n : ℕ). HasCompiled told name n (registers target.fabric) target.narrowed conf) is.columns_are (subst (λ (p : ℕ). HasCompiled told name N p target.narrowed conf) is.registers_are is.has)
 
 pub never_source : (files : List ℕ → Option (List ℕ)) (source : Source) (a : Answer) (N P : ℕ) (conf : Shape) → Gives (Some files) source N P conf → IsRefusedSource files source a → ⊥
 never_source files (File name) a N P conf gives is =
     never_refused 16777216 Cap.ConfigBytes IsBadConfiguration files name a gives.bytes is gives.file gives.short (never_configuration gives.bytes a gives.loadable.good)
-never_source files (Text name fabric) a N P conf gives is =
-    let has = of_fabric (Some files) name fabric N P conf gives in
-    never_refused 1048576 Cap.ProgramBytes (IsUncompiled (columns fabric) (registers fabric)) files name a has.text is has.file has.short (never_uncompiled (columns fabric) (registers fabric) has.text a conf has.is)
+never_source files (Text name target) a N P conf gives is =
+    let has = of_fabric (Some files) name target N P conf gives in
+    never_refused 1048576 Cap.ProgramBytes (IsUncompiled (columns target.fabric) (registers target.fabric) target.narrowed) files name a has.text is has.file has.short (never_uncompiled (columns target.fabric) (registers target.fabric) target.narrowed has.text a conf has.is)
 
 -- a source gives one configuration at most
 pub one_conf : (files : List ℕ → Option (List ℕ)) (source : Source) (N P M Q : ℕ) (c d : Shape) → Gives (Some files) source N P c → Gives (Some files) source M Q d → c ≡ d
 one_conf files (File name) N P M Q c d is by =
     let same : is.bytes ≡ by.bytes = (let both : Some is.bytes ≡ Some by.bytes = sym is.file ∙ by.file in cc) in
     is.loadable.read ∙ (ap configuration_in same ∙ sym by.loadable.read)
-one_conf files (Text name fabric) N P M Q c d is by =
-    let one = of_fabric (Some files) name fabric N P c is in
-    let other = of_fabric (Some files) name fabric M Q d by in
+one_conf files (Text name target) N P M Q c d is by =
+    let one = of_fabric (Some files) name target N P c is in
+    let other = of_fabric (Some files) name target M Q d by in
     let same : other.text ≡ one.text = (let both : Some other.text ≡ Some one.text = sym other.file ∙ one.file in cc) in
-    one_compiled (columns fabric) (registers fabric) one.text c d one.is (subst (λ (t : List ℕ). IsCompiled (columns fabric) (registers fabric) t d) same other.is)
+    one_compiled (columns target.fabric) (registers target.fabric) target.narrowed one.text c d one.is (subst (λ (t : List ℕ). IsCompiled (columns target.fabric) (registers target.fabric) target.narrowed t d) same other.is)
 
 -- ---- what a refusal answers
 pub source_kind : (told : Told) (source : Source) (before now : ℕ) (a : Answer) → IsSourceRefusal told source before now a → IsKind (HasReadCause told (name_in source) before now) a
 source_kind told (File name) before now a is = refusal_kind 16777216 Cap.ConfigBytes IsBadConfiguration told name before now a refl (λ bytes h. configuration_refuses bytes a h) is
-source_kind told (Text name fabric) before now a is =
-    refusal_kind 1048576 Cap.ProgramBytes (IsUncompiled (columns fabric) (registers fabric)) told name before now a refl (λ text h. compile_refuses (columns fabric) (registers fabric) text a h) is
+source_kind told (Text name target) before now a is =
+    refusal_kind 1048576 Cap.ProgramBytes (IsUncompiled (columns target.fabric) (registers target.fabric) target.narrowed) told name before now a refl (λ text h. compile_refuses (columns target.fabric) (registers target.fabric) target.narrowed text a h) is

@@ -1,5 +1,5 @@
 -- What comes of a text of a configuration, and the verdict on it.
-use Rattle.std.proofs.Common.{◌≡◌, ◌⊎◌, ℕ, true, List, Option, Some, None, refl, sym, ap, ◌∙◌, subst, inl, inr, true≢false}
+use Rattle.std.proofs.Common.{◌≡◌, ℕ, true, List, Option, Some, None, refl, sym, ◌∙◌, subst, inl, inr, true≢false}
 use Rattle.pr_edge.specs.Count.{Rose}
 use Rattle.pr_edge.specs.Files.{Told}
 use Rattle.pr_edge.specs.Tape.{Tape}
@@ -10,7 +10,7 @@ use Rattle.pr_tool_answers.proofs.OwedLemmas.{owed_by}
 use Rattle.pr_tool_modes.specs.declared.texts.Form.{Form}
 use Rattle.pr_tool_modes.specs.Calls.{Call}
 use Rattle.pr_tool_modes.specs.Sources.{Source, Gives, IsGood, IsSourceRefusal, IsRefusedSource}
-use Rattle.pr_tool_modes.specs.Texts.{text_in, IsPut, HasText, IsTexted, AreTextBytes, IsTextVerdict}
+use Rattle.pr_tool_modes.specs.Texts.{text_in, IsPut, IsTexted, AreTextBytes, IsTextVerdict}
 use Rattle.pr_tool_modes.proofs.ReasonLemmas.{refuses, IsKind, kind_never, kind_fault}
 use Rattle.pr_tool_modes.proofs.SourceLemmas.{source_owed, source_kind, one_source, never_source}
 use Rattle.pr_tool_modes.proofs.RunVerdicts.{untold_rose}

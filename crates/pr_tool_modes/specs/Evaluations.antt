@@ -1,5 +1,5 @@
 -- What the mode comes to that evaluates a program on samples.
-use Rattle.std.specs.Prelude.{◌≡◌, ◌≢◌, ◌⊎◌, ◌≤◌, ℕ, List, length, Option, Some}
+use Rattle.std.specs.Prelude.{◌≡◌, ◌≢◌, ◌⊎◌, ◌≤◌, ◌^◌, ℕ, List, [], length, Option, Some}
 use Rattle.pr_base.specs.declared.caps.Cap.{Cap}
 use Rattle.pr_base.specs.Rows.{written}
 use Rattle.pr_edge.specs.Count.{Rose}
@@ -8,7 +8,10 @@ use Rattle.pr_edge.specs.Tape.{Tape, Appends, AppendsFront}
 use Rattle.pr_lang.specs.declared.trees.Program.{Program}
 use Rattle.pr_lang_meaning.specs.Programs.{out}
 use Rattle.pr_samples.specs.Fed.{Ending, End, BadSample, Limit}
+use Rattle.pr_samples.specs.Feed.{widths_of, limit_of, most_of, fed, ReadsOn}
+use Rattle.pr_samples.specs.declared.feed.Feed.{Feed}
 use Rattle.pr_samples.specs.declared.feed.Got.{Got}
+use Rattle.pr_run.specs.Setting.{IsFresh}
 use Rattle.pr_tool_answers.specs.declared.answers.Answer.{Answer}
 use Rattle.pr_tool_modes.specs.Calls.{Call}
 use Rattle.pr_tool_modes.specs.Files.{IsText, IsLong, IsFileRefusal, IsRefusedFile}
@@ -91,6 +94,33 @@ pub record AreResults (program : Program) (file text : List ℕ) (end : Got) : T
   pub fed : AreFed (inputs_of program) file rows end
   pub lines : text ≡ written (out program rows)
 
+-- they are those of a file that has no more bytes than are allowed
+pub record HasLines (told : Told) (name : List ℕ) (program : Program) (text : List ℕ) (end : Got) : Type 0 where
+  pub bytes : List ℕ
+  pub file : IsText told name bytes
+  pub short : length bytes ≤ 16777216
+  pub results : AreResults program bytes text end
+
+-- ---- results while the samples are read
+-- a feed that was not asked yet, with inputs of these widths, over a file that has no more bytes than are allowed
+pub record IsShortFeed (widths : List ℕ) (feed : Feed) : Type 0 where
+  pub fresh : IsFresh feed
+  pub inputs : widths_of feed ≡ widths
+  pub limit : limit_of feed ≡ 16777216
+  pub most : most_of feed ≡ 2 ^ 40
+
+-- these are all samples that such a feed gives of a file, and they end so
+pub record AreAll (feed : Feed) (file : List ℕ) (rows : List (List ℕ)) (end : Got) : Type 0 where
+  pub all : rows ≡ (fed feed file).samples
+  pub ends : EndsBy end (fed feed file).ending
+
+-- a feed was read to its end: the lines of what a program means on all samples of each file that begins so
+pub record HasEvaluated (told : Told) (program : Program) (first now : Feed) (text : List ℕ) (end : Got) : Type 0 where
+  pub rows : List (List ℕ)
+  pub reads : ReadsOn told [] first now (λ file. AreAll first file rows end)
+  pub lines : text ≡ written (out program rows)
+
+-- ---- results that are written
 -- the text is written, and the answer is that of the samples, or a write failed
 pub record IsAll (text : List ℕ) (end : Got) (old new : Tape) (answer : Answer) : Type 0 where
   pub whole : Appends old new text

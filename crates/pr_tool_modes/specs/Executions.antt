@@ -3,13 +3,15 @@ use Rattle.std.specs.Prelude.{◌≡◌, ◌⊎◌, ◌≤◌, ℕ, List, Option
 use Rattle.pr_edge.specs.Count.{Rose}
 use Rattle.pr_edge.specs.Tape.{Tape}
 use Rattle.pr_conf.specs.Shape.{Shape}
+use Rattle.pr_conf.specs.Configuration.{shape_of}
 use Rattle.pr_run_script.specs.Script.{Held}
 use Rattle.pr_run.specs.Setting.{View}
 use Rattle.pr_run.specs.Turns.{Going}
 use Rattle.pr_tool_answers.specs.declared.answers.Answer.{Answer}
 use Rattle.pr_tool_modes.specs.declared.benches.Bench.{Bench}
 use Rattle.pr_tool_modes.specs.Calls.{Call}
-use Rattle.pr_tool_modes.specs.Jobs.{Job, first_of, IsNeither}
+use Rattle.pr_tool_modes.specs.declared.loadables.Loadable.{Loadable}
+use Rattle.pr_tool_modes.specs.Jobs.{Job, IsNoStall, IsNeither}
 use Rattle.pr_tool_modes.specs.Runs.{course, IsRun}
 use Rattle.pr_tool_modes.specs.Samples.{samples_verdict}
 use Rattle.pr_tool_modes.specs.Sources.{Gives, IsGood, IsSourceRefusal, IsRefusedSource}
@@ -28,6 +30,28 @@ pub record HasRun {N P : ℕ} (kept : List ℕ → Type 0) (c : Shape) (j : Job)
   pub start : View
   pub later : IsLater kept before start
   pub run : IsRun (course c j.stripes turns j.log j.second start now old new) machine answer
+
+-- the stall text is refused, or memory was wanting: nothing is written, the bench is as it was, and no other file was read
+pub record IsHeldBack (j : Job) (k : Call) (was bench : Bench) (answer : Answer) : Type 0 where
+  pub cause : IsStallRefusal k.before.told j.stall k.before.faults k.now.faults answer ⊎ (answer ≡ Answer.Memory)
+  pub unwritten : k.new ≡ k.old
+  pub kept : bench ≡ was
+  pub unread : (q : List ℕ) → IsNoStall j q → k.now.reach q ≡ k.before.reach q
+
+-- a run of this configuration, of which a write fails only by a count
+pub record HasBeenRun {N P : ℕ} (c : Shape) (j : Job) (k : Call) (machine : Going N P) (answer : Answer) : Type 0 where
+  pub run : HasRun (IsNoStall j) c j k.before k.now k.old k.new machine answer
+  pub write_fault : answer ≡ Answer.WriteFault → Rose k.out_before k.out_now
+
+-- its machine is on the bench, in the variant of the configuration's fabric
+abbrev pub IsRunOn : Loadable → Job → Call → Bench → Answer → Type 0
+IsRunOn (Loadable.Base conf) j k (Bench.Base machine) answer = HasBeenRun (shape_of conf) j k machine answer
+IsRunOn (Loadable.Wide conf) j k (Bench.Wide machine) answer = HasBeenRun (shape_of conf) j k machine answer
+IsRunOn loaded j k bench answer = ⊥
+
+-- what a configuration came to that was to be run
+abbrev pub IsRunOf : Loadable → Job → Call → Bench → Bench → Answer → Type 0
+IsRunOf loaded j k was bench answer = IsHeldBack j k was bench answer ⊎ IsRunOn loaded j k bench answer
 
 -- a run of the configuration of the source
 pub record HasRan {N P : ℕ} (j : Job) (k : Call) (machine : Going N P) (answer : Answer) : Type 0 where

@@ -32,7 +32,7 @@ IsNeither j q = (q ≢ first_of j) × IsNoStall j q
 -- ---- as the code has them
 abbrev pub source_of : NamedSource → Source
 source_of (named.File name) = File name.now
-source_of (named.Program name fabric) = Text name.now fabric
+source_of (named.Program name target) = Text name.now target
 
 abbrev pub job_of : NamedJob → Job
 job_of j = job (source_of j.source) j.samples.now (option_map (λ s. s.now) j.stall) j.stripes j.log

@@ -12,3 +12,5 @@ pub mod Runs
 pub mod Executions
 pub mod Evaluations
 pub mod Lines
+pub mod Generations
+pub mod Behaviours

@@ -12,7 +12,6 @@ use Rattle.pr_machine.specs.Stands.{Stands, History}
 use Rattle.pr_run_script.specs.Script.{Held, most_cycles, script}
 use Rattle.pr_run_script.specs.Counts.{cycles_in, IsPrefix}
 use Rattle.pr_run_script.specs.Text.{run_text}
-use Rattle.pr_run.specs.Setting.{View}
 use Rattle.pr_run.specs.Turns.{Going}
 use Rattle.pr_tool_answers.specs.declared.answers.Answer.{Answer}
 use Rattle.pr_tool_modes.specs.declared.benches.Bench.{Bench}

@@ -1,6 +1,5 @@
 -- Programs that are read from files, and why their texts are refused.
-use Rattle.std.specs.Prelude.{◌≡◌, ◌≤◌, ◌⊎◌, ℕ, List, length, Option, Some}
-use Rattle.pr_base.specs.declared.caps.Cap.{Cap}
+use Rattle.std.specs.Prelude.{◌≡◌, ◌≤◌, ℕ, Bool, List, length}
 use Rattle.pr_edge.specs.Files.{Told}
 use Rattle.pr_lang.specs.declared.trees.Program.{Program}
 use Rattle.pr_conf.specs.Shape.{Shape}
@@ -12,10 +11,10 @@ use Rattle.pr_compile_front.specs.Refusals.{HasWidths, IsRefusal}
 use Rattle.pr_compile_front.specs.Passed.{IsPassed}
 use Rattle.pr_compile.specs.declared.faults.CompileFault.{CompileFault}
 use Rattle.pr_compile.specs.declared.faults.CompileFault.TheVariants as fault
-use Rattle.pr_compile.specs.Configured.{IsCompiled}
+use Rattle.pr_compile.specs.Configured.{IsCompiled, HasUnits}
 use Rattle.pr_compile.specs.Refusals.{IsRefused}
 use Rattle.pr_tool_answers.specs.declared.answers.Answer.{Answer}
-use Rattle.pr_tool_modes.specs.Files.{IsText, IsFileRefusal, IsRefusedFile}
+use Rattle.pr_tool_modes.specs.Files.{IsText}
 
 -- the widths of a program's inputs
 abbrev pub inputs_of : Program → List ℕ
@@ -49,23 +48,6 @@ pub record IsLoaded (told : Told) (name : List ℕ) (f : Front) : Type 0 where
   pub short : length text ≤ 1048576
   pub passed : IsPassed text f
 
--- ---- what is not built
--- the file has a program that no such point refuses
-pub record HasPassed (told : Told) (name : List ℕ) : Type 0 where
-  pub program : Program
-  pub widths : List ℕ
-  pub has : HasProgram told name program widths
-
--- what comes of a program that is read for what is not built: it is refused, or no such point refuses it
-abbrev pub IsUnbuilt : Told → List ℕ → ℕ → ℕ → Answer → Type 0
-IsUnbuilt told name before now answer =
-    IsFileRefusal 1048576 Cap.ProgramBytes IsBadProgram told name before now answer ⊎ ((answer ≡ Answer.NotYet) × HasPassed told name)
-
--- by the files alone
-abbrev pub IsUnbuiltVerdict : (List ℕ → Option (List ℕ)) → List ℕ → Answer → Type 0
-IsUnbuiltVerdict files name answer =
-    IsRefusedFile 1048576 Cap.ProgramBytes IsBadProgram files name answer ⊎ ((answer ≡ Answer.NotYet) × HasPassed (Some files) name)
-
 -- ---- up to a configuration
 abbrev pub compile_answer : CompileFault → Answer
 compile_answer (fault.Syntax token) = Answer.Syntax token
@@ -75,15 +57,21 @@ compile_answer (fault.NoFit unit) = Answer.NoFit unit
 compile_answer (fault.Limit which) = Answer.Limit which
 compile_answer (fault.Memory e) = Answer.Memory
 
--- a point up to a configuration for N columns and P registers refuses the text so
-pub record IsUncompiled (N P : ℕ) (text : List ℕ) (answer : Answer) : Type 0 where
+-- a point up to a configuration for N columns and P registers, narrowed or not, refuses the text so
+pub record IsUncompiled (N P : ℕ) (narrowed : Bool) (text : List ℕ) (answer : Answer) : Type 0 where
   pub fault : CompileFault
-  pub refused : IsRefused N P text fault
+  pub refused : IsRefused N P narrowed text fault
   pub answers : answer ≡ compile_answer fault
 
--- the file has the text of a program that no point refuses, and this is its configuration
-pub record HasCompiled (told : Told) (name : List ℕ) (N P : ℕ) (conf : Shape) : Type 0 where
+-- the file has the text of a program that no point refuses, and this is its configuration, narrowed or not
+pub record HasCompiled (told : Told) (name : List ℕ) (N P : ℕ) (narrowed : Bool) (conf : Shape) : Type 0 where
   pub text : List ℕ
   pub file : IsText told name text
   pub short : length text ≤ 1048576
-  pub is : IsCompiled N P text conf
+  pub is : IsCompiled N P narrowed text conf
+
+-- the net of the program in a file has so many units
+pub record IsCounted (told : Told) (name : List ℕ) (narrowed : Bool) (units : ℕ) : Type 0 where
+  pub text : List ℕ
+  pub file : IsText told name text
+  pub has : HasUnits narrowed text units

@@ -7,6 +7,7 @@ use Rattle.pr_conf.specs.Configuration.{shape_of}
 use Rattle.pr_code.specs.declared.fabrics.Fabric.{Fabric}
 use Rattle.pr_compile.specs.Configured.{IsCompiled}
 use Rattle.pr_tool_answers.specs.declared.answers.Answer.{Answer}
+use Rattle.pr_tool_modes.specs.declared.targets.Target.{Target}
 use Rattle.pr_tool_modes.specs.declared.loadables.Loadable.{Loadable}
 use Rattle.pr_tool_modes.specs.Files.{IsFileRefusal, IsRefusedFile}
 use Rattle.pr_tool_modes.specs.Configurations.{HasConfiguration, IsBadConfiguration}
@@ -14,11 +15,11 @@ use Rattle.pr_tool_modes.specs.Programs.{HasCompiled, IsUncompiled}
 
 pub data Source : Type 0 where
   File : (name : List ℕ) → Source
-  Text : (name : List ℕ) (fabric : Fabric) → Source
+  Text : (name : List ℕ) (target : Target) → Source
 
 abbrev pub name_in : Source → List ℕ
 name_in (File name) = name
-name_in (Text name fabric) = name
+name_in (Text name target) = name
 
 -- ---- fabrics
 abbrev pub columns : Fabric → ℕ
@@ -42,22 +43,22 @@ shape_in (Loadable.Base conf) = shape_of conf
 shape_in (Loadable.Wide conf) = shape_of conf
 
 -- ---- what comes from a source
--- the configuration of the text, on the columns and registers of the fabric
-pub record CompilesTo (fabric : Fabric) (N P : ℕ) (text : List ℕ) (conf : Shape) : Type 0 where
-  pub columns_are : N ≡ columns fabric
-  pub registers_are : P ≡ registers fabric
-  pub is : IsCompiled N P text conf
+-- the configuration of the text, on the columns and registers of the target's fabric
+pub record CompilesTo (target : Target) (N P : ℕ) (text : List ℕ) (conf : Shape) : Type 0 where
+  pub columns_are : N ≡ columns target.fabric
+  pub registers_are : P ≡ registers target.fabric
+  pub is : IsCompiled N P target.narrowed text conf
 
 -- the same of the program in a file
-pub record IsOnFabric (told : Told) (name : List ℕ) (fabric : Fabric) (N P : ℕ) (conf : Shape) : Type 0 where
-  pub columns_are : N ≡ columns fabric
-  pub registers_are : P ≡ registers fabric
-  pub has : HasCompiled told name N P conf
+pub record IsOnFabric (told : Told) (name : List ℕ) (target : Target) (N P : ℕ) (conf : Shape) : Type 0 where
+  pub columns_are : N ≡ columns target.fabric
+  pub registers_are : P ≡ registers target.fabric
+  pub has : HasCompiled told name N P target.narrowed conf
 
 -- the source gives this configuration
 abbrev pub Gives : Told → Source → ℕ → ℕ → Shape → Type 0
 Gives told (File name) N P conf = HasConfiguration told name N P conf
-Gives told (Text name fabric) N P conf = IsOnFabric told name fabric N P conf
+Gives told (Text name target) N P conf = IsOnFabric told name target N P conf
 
 -- the source gives a configuration
 pub record IsGood (told : Told) (source : Source) : Type 0 where
@@ -69,9 +70,9 @@ pub record IsGood (told : Told) (source : Source) : Type 0 where
 -- why a source gives none
 abbrev pub IsSourceRefusal : Told → Source → ℕ → ℕ → Answer → Type 0
 IsSourceRefusal told (File name) before now answer = IsFileRefusal 16777216 Cap.ConfigBytes IsBadConfiguration told name before now answer
-IsSourceRefusal told (Text name fabric) before now answer = IsFileRefusal 1048576 Cap.ProgramBytes (IsUncompiled (columns fabric) (registers fabric)) told name before now answer
+IsSourceRefusal told (Text name target) before now answer = IsFileRefusal 1048576 Cap.ProgramBytes (IsUncompiled (columns target.fabric) (registers target.fabric) target.narrowed) told name before now answer
 
 -- by the files alone
 abbrev pub IsRefusedSource : (List ℕ → Option (List ℕ)) → Source → Answer → Type 0
 IsRefusedSource files (File name) answer = IsRefusedFile 16777216 Cap.ConfigBytes IsBadConfiguration files name answer
-IsRefusedSource files (Text name fabric) answer = IsRefusedFile 1048576 Cap.ProgramBytes (IsUncompiled (columns fabric) (registers fabric)) files name answer
+IsRefusedSource files (Text name target) answer = IsRefusedFile 1048576 Cap.ProgramBytes (IsUncompiled (columns target.fabric) (registers target.fabric) target.narrowed) files name answer

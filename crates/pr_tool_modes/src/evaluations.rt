@@ -1,33 +1,15 @@
 //! A program that is evaluated on the samples of a file.
-ghost use Rattle.std.specs.Prelude.{◌≡◌, ◌≢◌, ◌≤◌, ℕ, List, IfOk};
+ghost use Rattle.std.specs.Prelude.{◌≡◌, ◌≢◌, ◌≤◌, ℕ, List};
 ghost use Rattle.pr_run.specs.Setting.{view};
-ghost use Rattle.pr_scope.specs.Walk.{IsScoped};
-ghost use Rattle.pr_flat.specs.Widths.{AreWidths};
-ghost use Rattle.pr_expand_spec.specs.Programs.{equations_of};
-ghost use Rattle.pr_compile_front.specs.Passed.{HasEquations};
 ghost use Rattle.pr_tool_modes.specs.Calls.{call};
-ghost use Rattle.pr_tool_modes.specs.Evaluations.{answer_by, AreResults, IsPut, IsEvaluated};
+ghost use Rattle.pr_tool_modes.specs.Evaluations.{answer_by, IsPut, IsEvaluated};
 
-use crate::files::read_file;
-use crate::lines::lines_of;
 use crate::programs::load_program;
-use crate::samples::read_samples;
-use pr_base::Cap;
-use pr_compile_front::Front;
+use crate::results::{Results, results_of};
 use pr_edge::{Shelf, Sink, write_all};
 use pr_samples::Got;
 use pr_tool_answers::Answer;
-use std::alloc::{AllocError, Global};
-
-/// The bytes of a file of samples at most.
-const LIMIT: usize = 16_777_216;
-
-/// The lines of results, and how the samples end.
-#[derive(Drop)]
-struct Results {
-    text: Vec<u8>,
-    end: Got,
-}
+use std::alloc::Global;
 
 /// What comes of samples that end so.
 fn answer_of(end: Got) -> Answer
@@ -39,22 +21,6 @@ fn answer_of(end: Got) -> Answer
         Got::ReadFault => Answer::ReadFault,
         Got::Limit(which) => Answer::Limit { which },
     }
-}
-
-/// The lines of what a program means on the samples of a file.
-fn evaluate(alloc: Global, front: &Front, bytes: Vec<u8>) -> Result<Results, AllocError>
-    requires scoped { IsScoped front.now.scoped.program front.now.scoped }
-    requires flat { HasEquations front.now.scoped.program front.now.flat }
-    requires widths { AreWidths (equations_of front.now.scoped.program).equations front.now.widths }
-    ensures { IfOk result (λ r. AreResults front.now.scoped.program bytes.items r.text.items r.end) }
-{
-    let samples = read_samples(alloc, bytes, &front.scoped.inputs)?;
-    let rows = pr_source::eval(alloc, &front.flat, &front.widths, &samples.rows)?;
-    let text = lines_of(alloc, &rows)?;
-    Ok(Results {
-        text,
-        end: samples.end,
-    })
 }
 
 /// Writes the lines of results.
@@ -70,8 +36,8 @@ fn put_results<K: Sink>(out: &mut K, results: &Results) -> Answer
 
 /// Evaluates the program of a file on the samples of another. The line of each result goes to `out`.
 ///
-/// The program is read first, and then the whole file of samples. Where a line is no sample, or there are too many samples,
-/// the results of the samples before are written. All is evaluated before the first byte is written.
+/// The program is read first, and then the whole file of samples, of which each is evaluated when it is read. Where a line is no
+/// sample, the results of the samples before are written. All is evaluated before the first byte is written.
 pub fn eval<S: Shelf, K: Sink>(
     alloc: Global,
     program: &str,
@@ -93,12 +59,8 @@ pub fn eval<S: Shelf, K: Sink>(
         Ok(front) => front,
         Err(answer) => return answer,
     };
-    let bytes = match read_file(alloc, shelf, samples, LIMIT, Cap::SampleBytes) {
-        Ok(bytes) => bytes,
-        Err(answer) => return answer,
-    };
-    match evaluate(alloc, &front, bytes) {
+    match results_of(alloc, &front, samples, shelf) {
         Ok(results) => put_results(out, &results),
-        Err(_) => Answer::Memory,
+        Err(answer) => answer,
     }
 }

@@ -6,7 +6,7 @@ ghost use Rattle.pr_run.specs.Setting.{view};
 ghost use Rattle.pr_tool_modes.specs.Calls.{call};
 ghost use Rattle.pr_tool_modes.specs.Jobs.{job_of, IsNoStall, IsNeither};
 ghost use Rattle.pr_tool_modes.specs.Stalls.{IsStallRefusal};
-ghost use Rattle.pr_tool_modes.specs.Executions.{HasRun, HasCome};
+ghost use Rattle.pr_tool_modes.specs.Executions.{HasRun, IsRunOf, HasCome};
 
 use crate::benches::Bench;
 use crate::jobs::Job;
@@ -52,6 +52,42 @@ fn run_on<const N: usize, const P: usize, S: Shelf, K: Sink>(
     Ok(run_all(ready, job.log, shelf, out))
 }
 
+/// Runs a configuration as the job says, on the fabric that it is for, and leaves the machine on the bench. Where the stall text
+/// is refused, or there is no memory, nothing is written and the bench is as it was.
+pub fn run_loaded<S: Shelf, K: Sink>(
+    alloc: Global,
+    loaded: Loadable,
+    job: &Job<'_>,
+    shelf: &mut S,
+    out: &mut K,
+    bench: &mut Bench,
+) -> Answer
+    ensures ended { IsRunOf loaded (job_of job.now) (call
+        (view (S.told shelf.old) (S.reach shelf.old) (S.faults shelf.old)) (view (S.told shelf.new) (S.reach shelf.new) (S.faults shelf.new))
+        (K.told out.old) (K.told out.new) (K.faults out.old) (K.faults out.new)) bench.old bench.new result }
+    ensures told { S.told shelf.new ≡ S.told shelf.old }
+    ensures others { (q : List ℕ) → q ≢ (job_of job.now).second → IsNoStall (job_of job.now) q → S.reach shelf.new q ≡ S.reach shelf.old q }
+    ensures shelf_later { S.faults shelf.old ≤ S.faults shelf.new }
+    ensures out_later { K.faults out.old ≤ K.faults out.new }
+{
+    match loaded {
+        Loadable::Base(conf) => match run_on(alloc, conf, job, shelf, out) {
+            Err(answer) => answer,
+            Ok(Over { answer, machine }) => {
+                *bench = Bench::Base(machine);
+                answer
+            }
+        },
+        Loadable::Wide(conf) => match run_on(alloc, conf, job, shelf, out) {
+            Err(answer) => answer,
+            Ok(Over { answer, machine }) => {
+                *bench = Bench::Wide(machine);
+                answer
+            }
+        },
+    }
+}
+
 /// Runs the configuration of a source on the samples of a file, on so many stripes, under the stall file where there is one.
 /// The line of each result goes to `out`, with the log among them where it is asked for, and the machine to the bench.
 ///
@@ -76,19 +112,6 @@ pub fn execute<S: Shelf, K: Sink>(
 {
     match load(alloc, &job.source, shelf) {
         Err(answer) => answer,
-        Ok(Loadable::Base(conf)) => match run_on(alloc, conf, job, shelf, out) {
-            Err(answer) => answer,
-            Ok(Over { answer, machine }) => {
-                *bench = Bench::Base(machine);
-                answer
-            }
-        },
-        Ok(Loadable::Wide(conf)) => match run_on(alloc, conf, job, shelf, out) {
-            Err(answer) => answer,
-            Ok(Over { answer, machine }) => {
-                *bench = Bench::Wide(machine);
-                answer
-            }
-        },
+        Ok(loaded) => run_loaded(alloc, loaded, job, shelf, out, bench),
     }
 }

@@ -1,7 +1,7 @@
 //! What a run is asked to do.
 ghost use Rattle.std.specs.Prelude.{◌≤◌};
 
-use pr_code::Fabric;
+use crate::targets::Target;
 
 /// Where a configuration comes from.
 #[derive(Clone, Copy, PartialEq, Eq, Debug)]
@@ -15,8 +15,8 @@ pub enum Source<'a> {
     Program {
         /// Its name.
         name: &'a str,
-        /// The fabric that it is compiled for.
-        fabric: Fabric,
+        /// What it is compiled for.
+        target: Target,
     },
 }
 
@@ -33,6 +33,21 @@ pub struct Job<'a> {
     pub stripes: usize,
     /// Whether the log is written among the results.
     pub log: bool,
+    ghost least: { 2 ≤ stripes },
+    ghost greatest: { stripes ≤ 256 },
+}
+
+/// A program that is to be generated and run.
+#[derive(Clone, Copy, PartialEq, Eq, Debug)]
+pub struct Generation {
+    /// The turns of its loop.
+    pub turns: u32,
+    /// What it is compiled for.
+    pub target: Target,
+    /// The number of stripes.
+    pub stripes: usize,
+    ghost least_turns: { 1 ≤ turns },
+    ghost greatest_turns: { turns ≤ 1000 },
     ghost least: { 2 ≤ stripes },
     ghost greatest: { stripes ≤ 256 },
 }

@@ -1,10 +1,10 @@
 //! Lines of numbers.
-ghost use Rattle.std.specs.Prelude.{◌≡◌, ◌++◌, ◌∷◌, decimal, IfOk, OnOk, if◌then◌else◌};
-ghost use Rattle.pr_base.specs.Rows.{row_line, written};
+ghost use Rattle.std.specs.Prelude.{◌≡◌, ◌++◌, ◌∷◌, decimal, OnOk, if◌then◌else◌};
+ghost use Rattle.pr_base.specs.Rows.{row_line};
 
 use itoa::Buffer;
-use pr_base::{Num, Sample};
-use std::alloc::{AllocError, Global};
+use pr_base::Num;
+use std::alloc::AllocError;
 
 /// Appends a number, after a blank where it is not the first.
 fn push_number(text: &mut Vec<u8>, begun: bool, number: Num) -> Result<(), AllocError>
@@ -19,7 +19,7 @@ fn push_number(text: &mut Vec<u8>, begun: bool, number: Num) -> Result<(), Alloc
 }
 
 /// Appends the line of a row.
-fn push_line(text: &mut Vec<u8>, numbers: &[Num]) -> Result<(), AllocError>
+pub fn push_line(text: &mut Vec<u8>, numbers: &[Num]) -> Result<(), AllocError>
     ensures { OnOk result (text.new.items ≡ text.old.items ++ row_line numbers.now) }
 {
     for i in 0..numbers.len() {
@@ -27,15 +27,4 @@ fn push_line(text: &mut Vec<u8>, numbers: &[Num]) -> Result<(), AllocError>
     }
     text.push(b'\n')?;
     Ok(())
-}
-
-/// The lines of rows.
-pub fn lines_of(alloc: Global, rows: &[Sample]) -> Result<Vec<u8>, AllocError>
-    ensures { IfOk result (λ v. v.items ≡ written rows.now) }
-{
-    let mut text = Vec::new(alloc);
-    for row in rows {
-        push_line(&mut text, row.numbers())?;
-    }
-    Ok(text)
 }

@@ -2,18 +2,18 @@
 ghost use Rattle.std.specs.Prelude.{◌≡◌, ◌≢◌, ◌≤◌, ◌⊎◌, ℕ, List, length, IfOk, IfErr};
 ghost use Rattle.pr_base.specs.declared.caps.Cap.{Cap};
 ghost use Rattle.pr_conf.specs.Configuration.{shape_of};
-ghost use Rattle.pr_compile.specs.Configured.{IsCompiled};
+ghost use Rattle.pr_compile.specs.Configured.{IsCompiled, HasUnits};
 ghost use Rattle.pr_tool_modes.specs.Files.{IsFileRefusal};
-ghost use Rattle.pr_tool_modes.specs.Programs.{front_answer, compile_answer, IsBadProgram, IsUncompiled, IsLoaded, IsUnbuilt};
+ghost use Rattle.pr_tool_modes.specs.Programs.{front_answer, compile_answer, IsBadProgram, IsUncompiled, IsLoaded, IsCounted};
 ghost use Rattle.pr_tool_modes.specs.Sources.{columns, registers, columns_in, registers_in, shape_in, IsOnFabric, CompilesTo};
 
 use crate::files::read_file;
 use crate::loadables::Loadable;
+use crate::targets::Target;
 use pr_base::Cap;
 use pr_code::Fabric;
-use pr_compile::{CompileFault, compile};
+use pr_compile::{CompileFault, Compiled, compile_counted};
 use pr_compile_front::{Front, FrontFault, read_program};
-use pr_conf::Configuration;
 use pr_edge::Shelf;
 use pr_tool_answers::Answer;
 use std::alloc::Global;
@@ -66,46 +66,67 @@ pub fn load_program<S: Shelf>(alloc: Global, shelf: &mut S, name: &str) -> Resul
     }
 }
 
-/// The configuration of a text, on this fabric.
+/// A program that was compiled.
+#[derive(Drop)]
+pub struct Made {
+    /// Its configuration.
+    pub loaded: Loadable,
+    /// The units of its net.
+    pub units: usize,
+}
+
+/// The configuration of a text, on this fabric, narrowed or not.
 fn compile_text<const N: usize, const P: usize>(
     alloc: Global,
     text: &[u8],
-) -> Result<Configuration<N, P>, Answer>
+    narrowed: bool,
+) -> Result<Compiled<N, P>, Answer>
     requires short { length text.now ≤ 1048576 }
     requires columns { 1 ≤ N }
     requires most_columns { N ≤ 64 }
     requires registers { 2 ≤ P }
     requires most_registers { P ≤ 16 }
-    ensures compiled { IfOk result (λ c. IsCompiled N P text.now (shape_of c)) }
-    ensures refused { IfErr result (λ a. IsUncompiled N P text.now a ⊎ (a ≡ Answer.Memory)) }
+    ensures compiled { IfOk result (λ c. IsCompiled N P narrowed text.now (shape_of c.conf)) }
+    ensures units { IfOk result (λ c. HasUnits narrowed text.now c.units) }
+    ensures refused { IfErr result (λ a. IsUncompiled N P narrowed text.now a ⊎ (a ≡ Answer.Memory)) }
 {
-    match compile::<N, P>(alloc, text) {
-        Ok(conf) => Ok(conf),
+    match compile_counted::<N, P>(alloc, text, narrowed) {
+        Ok(compiled) => Ok(compiled),
         Err(fault) => Err(answer_of(fault)),
     }
 }
 
-/// The configuration of a text, on the fabric that is named.
-fn compile_named(alloc: Global, text: &[u8], fabric: Fabric) -> Result<Loadable, Answer>
+/// The configuration of a text, for this target.
+fn compile_for(alloc: Global, text: &[u8], target: Target) -> Result<Made, Answer>
     requires short { length text.now ≤ 1048576 }
-    ensures compiled { IfOk result (λ l. CompilesTo fabric (columns_in l) (registers_in l) text.now (shape_in l)) }
-    ensures refused { IfErr result (λ a. IsUncompiled (columns fabric) (registers fabric) text.now a ⊎ (a ≡ Answer.Memory)) }
+    ensures compiled { IfOk result (λ m. CompilesTo target (columns_in m.loaded) (registers_in m.loaded) text.now (shape_in m.loaded)) }
+    ensures units { IfOk result (λ m. HasUnits target.narrowed text.now m.units) }
+    ensures refused { IfErr result (λ a. IsUncompiled (columns target.fabric) (registers target.fabric) target.narrowed text.now a ⊎ (a ≡ Answer.Memory)) }
 {
-    match fabric {
-        Fabric::Base => Ok(Loadable::Base(compile_text::<16, 8>(alloc, text)?)),
-        Fabric::Wide => Ok(Loadable::Wide(compile_text::<32, 16>(alloc, text)?)),
+    match target.fabric {
+        Fabric::Base => {
+            let Compiled { conf, units } = compile_text::<16, 8>(alloc, text, target.narrowed)?;
+            let loaded = Loadable::Base(conf);
+            Ok(Made { loaded, units })
+        }
+        Fabric::Wide => {
+            let Compiled { conf, units } = compile_text::<32, 16>(alloc, text, target.narrowed)?;
+            let loaded = Loadable::Wide(conf);
+            Ok(Made { loaded, units })
+        }
     }
 }
 
-/// Reads and compiles the program of a file, for this fabric.
+/// Reads and compiles the program of a file, for this target.
 pub fn compile_file<S: Shelf>(
     alloc: Global,
     shelf: &mut S,
     name: &str,
-    fabric: Fabric,
-) -> Result<Loadable, Answer>
-    ensures compiled { IfOk result (λ l. IsOnFabric (S.told shelf.old) name.now fabric (columns_in l) (registers_in l) (shape_in l)) }
-    ensures refused { IfErr result (IsFileRefusal 1048576 Cap.ProgramBytes (IsUncompiled (columns fabric) (registers fabric)) (S.told shelf.old) name.now (S.faults shelf.old) (S.faults shelf.new)) }
+    target: Target,
+) -> Result<Made, Answer>
+    ensures compiled { IfOk result (λ m. IsOnFabric (S.told shelf.old) name.now target (columns_in m.loaded) (registers_in m.loaded) (shape_in m.loaded)) }
+    ensures units { IfOk result (λ m. IsCounted (S.told shelf.old) name.now target.narrowed m.units) }
+    ensures refused { IfErr result (IsFileRefusal 1048576 Cap.ProgramBytes (IsUncompiled (columns target.fabric) (registers target.fabric) target.narrowed) (S.told shelf.old) name.now (S.faults shelf.old) (S.faults shelf.new)) }
     ensures later { S.faults shelf.old ≤ S.faults shelf.new }
     ensures same { S.told shelf.new ≡ S.told shelf.old }
     ensures others { (q : List ℕ) → q ≢ name.now → S.reach shelf.new q ≡ S.reach shelf.old q }
@@ -114,19 +135,5 @@ pub fn compile_file<S: Shelf>(
         Ok(text) => text,
         Err(answer) => return Err(answer),
     };
-    compile_named(alloc, &text, fabric)
-}
-
-/// Reads the program of a file for what is not built, and refuses it by every point up to the widths of its equations. Where
-/// none refuses it, the answer is NotYet. No other file is read.
-pub fn refuse_program<S: Shelf>(alloc: Global, shelf: &mut S, name: &str) -> Answer
-    ensures ended { IsUnbuilt (S.told shelf.old) name.now (S.faults shelf.old) (S.faults shelf.new) result }
-    ensures later { S.faults shelf.old ≤ S.faults shelf.new }
-    ensures same { S.told shelf.new ≡ S.told shelf.old }
-    ensures others { (q : List ℕ) → q ≢ name.now → S.reach shelf.new q ≡ S.reach shelf.old q }
-{
-    match load_program(alloc, shelf, name) {
-        Ok(_front) => Answer::NotYet,
-        Err(answer) => answer,
-    }
+    compile_for(alloc, &text, target)
 }

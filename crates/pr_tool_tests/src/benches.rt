@@ -27,7 +27,7 @@ fn machine_on(bench: &Bench) -> Held {
 
 /// Words of calls that follow one another, the answer to each, and what the bench holds after it. Two samples take four
 /// cycles. A bad first line takes none.
-const CALLS: [(&[&str], Answer, Held); 11] = [
+const CALLS: [(&[&str], Answer, Held); 13] = [
     (&["show", "c"], Answer::Ok, Held::Nothing),
     (&["run", "n", "s"], Answer::ReadFault, Held::Nothing),
     (&["run", "p", "s"], Answer::Ok, Held::Base(4)),
@@ -52,12 +52,14 @@ const CALLS: [(&[&str], Answer, Held); 11] = [
         Held::Wide(0),
     ),
     (&["exec", "wide", "s"], Answer::Ok, Held::Wide(4)),
-    (
-        &["run", "p", "s", "--narrow"],
-        Answer::NotYet,
-        Held::Wide(4),
-    ),
+    (&["compile", "p"], Answer::Ok, Held::Wide(4)),
     (&["fly", "p", "s"], Answer::Usage, Held::Wide(4)),
+    (&["run", "p", "s", "--narrow"], Answer::Ok, Held::Base(4)),
+    (
+        &["gen", "1", "--fabric", "wide"],
+        Answer::Ok,
+        Held::Wide(1003),
+    ),
     (
         &["exec", "c", "s", "--fabric", "wide"],
         Answer::Ok,

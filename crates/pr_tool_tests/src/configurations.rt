@@ -1,4 +1,5 @@
 //! Configuration files, word by word.
+ghost use Rattle.std.specs.Prelude.{◌≤◌};
 
 use std::alloc::{AllocError, Global};
 
@@ -89,6 +90,29 @@ pub(crate) fn plain(
     for _ in 4..words {
         put(&mut bytes, &[0])?;
     }
+    Ok(bytes)
+}
+
+/// A file with another word at this place, where it has one.
+pub(crate) fn with_word(mut bytes: Vec<u8>, place: usize, word: u32) -> Vec<u8>
+    requires { place ≤ 1000 }
+{
+    let at = 4 * place;
+    if at + 4 <= bytes.len() {
+        bytes[at..at + 4].copy_from_slice(&word.to_be_bytes());
+    }
+    bytes
+}
+
+/// A file without its last byte.
+pub(crate) fn shortened(mut bytes: Vec<u8>) -> Vec<u8> {
+    bytes.pop();
+    bytes
+}
+
+/// A file with one byte more.
+pub(crate) fn lengthened(mut bytes: Vec<u8>) -> Result<Vec<u8>, AllocError> {
+    bytes.push(0)?;
     Ok(bytes)
 }
 

@@ -244,10 +244,10 @@ const LINES: [Line<'_>; 42] = [
     ),
     (
         &["run", "p", "s", "--narrow"],
-        Answer::NotYet,
-        13,
+        Answer::Ok,
+        0,
+        "6\n254\n",
         "",
-        "not yet\n",
     ),
     (
         &["run", "n", "s"],
@@ -263,7 +263,7 @@ const LINES: [Line<'_>; 42] = [
         "end cycles 0 stalls 0 records 0\n",
         "",
     ),
-    (&["gen", "1000"], Answer::NotYet, 13, "", "not yet\n"),
+    (&["share", "p"], Answer::NotYet, 13, "", "not yet\n"),
     (&["run", "p"], Answer::Usage, 2, "", USAGE),
     (&["fly", "p", "s"], Answer::Usage, 2, "", USAGE),
     (

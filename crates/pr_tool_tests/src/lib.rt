@@ -16,6 +16,10 @@ mod faults;
 #[cfg(test)]
 mod files;
 #[cfg(test)]
+mod generated;
+#[cfg(test)]
+mod limits;
+#[cfg(test)]
 mod run_faults;
 #[cfg(test)]
 mod streams;

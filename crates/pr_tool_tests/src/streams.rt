@@ -2,6 +2,7 @@
 
 use crate::calls::answer_over;
 use crate::files::XOR;
+use crate::trials::repeated;
 use pr_edge::{MemShelf, MemSink, SureSink};
 use pr_tool::Answer;
 use std::alloc::{AllocError, Global};
@@ -31,15 +32,6 @@ struct Stream {
     answer: Answer,
     status: u8,
     text: Vec<u8>,
-}
-
-/// So many times the same piece.
-fn repeated(alloc: Global, piece: &[u8], count: usize) -> Result<Vec<u8>, AllocError> {
-    let mut bytes = Vec::new(alloc);
-    for _ in 0..count {
-        bytes.extend_from_slice(piece)?;
-    }
-    Ok(bytes)
 }
 
 /// The sums of the first weights, and then that of all weights on each line up to the thousandth.

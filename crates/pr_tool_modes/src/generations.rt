@@ -1,0 +1,193 @@
+//! Runs of generated programs, of which a summary is told.
+ghost use Rattle.std.specs.Prelude.{◌≡◌, ◌≢◌, ◌≤◌, ◌⊎◌, ◌++◌, ℕ, Some, decimal, length, IfOk, OnOk, IfErr};
+ghost use Rattle.pr_edge.specs.SureShelf.{told_of};
+ghost use Rattle.pr_conf.specs.Shape.{Shape};
+ghost use Rattle.pr_machine.specs.Stands.{Stands, History, account_of};
+ghost use Rattle.pr_tool_modes.specs.Jobs.{job_of as job_in};
+ghost use Rattle.pr_tool_modes.specs.Lines.{OnBench};
+ghost use Rattle.pr_tool_modes.specs.Generations.{generation_of, job_for, generated, first_line, last_line, Tells, TellsOn, HasGenerated, IsGenVerdict, IsGenerated};
+
+use crate::benches::Bench;
+use crate::executions::run_loaded;
+use crate::jobs::{Generation, Job, Source};
+use crate::programs::compile_file;
+use itoa::Buffer;
+use pr_edge::{MemSink, Sink, SureShelf, write_all};
+use pr_gen::{program_of, samples_of};
+use pr_machine::{Machine, Running};
+use pr_tool_answers::Answer;
+use std::alloc::{AllocError, Global};
+
+/// The name of the generated program.
+const PROGRAM: &str = "program";
+
+/// The name of the generated samples.
+const SAMPLES: &str = "samples";
+
+/// Room for the lines of a thousand results.
+const ROOM: usize = 8_192;
+
+/// A run of a generated program: what is told of it, and its machine.
+#[derive(Drop)]
+struct Generated {
+    text: Vec<u8>,
+    bench: Bench,
+}
+
+/// The run of the program on the samples.
+fn job_of(generation: &Generation) -> Job<'static>
+    ensures { job_in result ≡ job_for (generation_of generation.now) }
+{
+    Job {
+        source: Source::Program {
+            name: PROGRAM,
+            target: generation.target,
+        },
+        samples: SAMPLES,
+        stall: None,
+        stripes: generation.stripes,
+        log: false,
+    }
+}
+
+/// The generated texts as the files of a shelf.
+fn shelf_of(alloc: Global, turns: u32) -> Result<SureShelf, AllocError>
+    requires least { 1 ≤ turns }
+    requires greatest { turns ≤ 1000 }
+    ensures { IfOk result (λ s. told_of s ≡ Some (generated turns)) }
+{
+    let program = program_of(alloc, turns)?;
+    let samples = samples_of(alloc, turns)?;
+    let first = String::from_str(alloc, PROGRAM)?;
+    let second = String::from_str(alloc, SAMPLES)?;
+    let files = vec![in alloc; (first, program), (second, samples)]?;
+    Ok(SureShelf::make(files))
+}
+
+/// The first line of a text, without its end.
+fn first_line(text: &[u8]) -> &[u8]
+    ensures { result.now ≡ first_line text.now }
+{
+    let mut end = 0;
+    while end < text.len() && text[end] != b'\n' {
+        end += 1;
+    }
+    &text[..end]
+}
+
+/// The last line of a text, without its end: read backwards, it is the first line after that end.
+fn last_line(alloc: Global, text: &[u8]) -> Result<Vec<u8>, AllocError>
+    ensures { IfOk result (λ v. v.items ≡ last_line text.now) }
+{
+    let mut backwards = Vec::from_slice(alloc, text)?;
+    backwards.reverse();
+    let start = backwards.len().min(1);
+    let mut line = Vec::from_slice(alloc, first_line(&backwards[start..]))?;
+    line.reverse();
+    Ok(line)
+}
+
+/// Appends a label and a number.
+fn put(text: &mut Vec<u8>, label: &str, number: u64) -> Result<(), AllocError>
+    ensures { OnOk result (text.new.items ≡ text.old.items ++ (label.now ++ decimal number)) }
+{
+    text.extend_from_slice(label.as_bytes())?;
+    let mut buffer = Buffer::new();
+    text.extend_from_slice(buffer.format(number).as_bytes())?;
+    Ok(())
+}
+
+/// What is told of a run of a program of so many turns and units: its machine's stages and cycles, and the first and the last
+/// of its lines.
+fn summary_of<const N: usize, const P: usize>(
+    alloc: Global,
+    turns: u32,
+    units: usize,
+    machine: &Machine<N, P, Running>,
+    lines: &[u8],
+) -> Result<Vec<u8>, AllocError>
+    ensures { IfOk result (λ v. Tells turns units lines.now v.items machine.now) }
+{
+    let mut text = Vec::new(alloc);
+    put(&mut text, "k ", u64::from(turns))?;
+    put(&mut text, " units ", units as u64)?;
+    put(&mut text, " stages ", machine.conf().stages() as u64)?;
+    put(&mut text, " samples 1000 cycles ", machine.time())?;
+    text.extend_from_slice(b" first ")?;
+    text.extend_from_slice(first_line(lines))?;
+    text.extend_from_slice(b" last ")?;
+    text.extend_from_slice(&last_line(alloc, lines)?)?;
+    text.push(b'\n')?;
+    Ok(text)
+}
+
+/// The same of the machine on a bench; nothing where there is none.
+fn summary_on(
+    alloc: Global,
+    turns: u32,
+    units: usize,
+    bench: &Bench,
+    lines: &[u8],
+) -> Result<Vec<u8>, AllocError>
+    ensures { IfOk result (λ v. TellsOn turns units lines.now v.items bench.now) }
+{
+    match bench {
+        Bench::Nothing => Ok(Vec::new(alloc)),
+        Bench::Base(machine) => summary_of(alloc, turns, units, machine, lines),
+        Bench::Wide(machine) => summary_of(alloc, turns, units, machine, lines),
+    }
+}
+
+/// Makes both texts, compiles the program and runs it on the samples, and says what is to be told of it.
+fn run_generated(alloc: Global, generation: &Generation) -> Result<Generated, Answer>
+    ensures told { IfOk result (λ r. OnBench (λ N P machine. HasGenerated (generation_of generation.now) (λ text. r.text.items ≡ text) machine) r.bench) }
+    ensures refused { IfErr result (λ a. IsGenVerdict (generation_of generation.now) a ⊎ (a ≡ Answer.Memory)) }
+    ensures failed { IfErr result (λ a. a ≢ Answer.Ok) }
+{
+    let mut shelf = match shelf_of(alloc, generation.turns) {
+        Ok(shelf) => shelf,
+        Err(_) => return Err(Answer::Memory),
+    };
+    let made = match compile_file(alloc, &mut shelf, PROGRAM, generation.target) {
+        Ok(made) => made,
+        Err(answer) => return Err(answer),
+    };
+    let mut lines = match MemSink::make(alloc, ROOM, Vec::new(alloc)) {
+        Ok(lines) => lines,
+        Err(_) => return Err(Answer::Memory),
+    };
+    let job = job_of(generation);
+    let mut bench = Bench::Nothing;
+    match run_loaded(alloc, made.loaded, &job, &mut shelf, &mut lines, &mut bench) {
+        Answer::Ok => {}
+        Answer::WriteFault => return Err(Answer::Memory),
+        answer => return Err(answer),
+    }
+    match summary_on(alloc, generation.turns, made.units, &bench, lines.bytes()) {
+        Ok(text) => Ok(Generated { text, bench }),
+        Err(_) => Err(Answer::Memory),
+    }
+}
+
+/// Makes a program of so many turns and a thousand samples, compiles the program and runs it on the samples, and tells of the
+/// run: its size, its cycles, and its first and last result. The machine goes to the bench. No file is read. Where the lines of
+/// the results need more room than was made for them, memory is wanting.
+pub fn generate<K: Sink>(
+    alloc: Global,
+    generation: &Generation,
+    out: &mut K,
+    bench: &mut Bench,
+) -> Answer
+    ensures ended { IsGenerated (generation_of generation.now) (K.told out.old) (K.told out.new) (K.faults out.old) (K.faults out.new) bench.old bench.new result }
+    ensures later { K.faults out.old ≤ K.faults out.new }
+{
+    let ran = match run_generated(alloc, generation) {
+        Ok(ran) => ran,
+        Err(answer) => return answer,
+    };
+    *bench = ran.bench;
+    match write_all(out, &ran.text) {
+        Ok(()) => Answer::Ok,
+        Err(_) => Answer::WriteFault,
+    }
+}

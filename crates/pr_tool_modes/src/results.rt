@@ -1,0 +1,140 @@
+//! The results of a program on the samples of a file.
+ghost use Rattle.std.specs.Prelude.{◌≡◌, ◌≢◌, ◌≤◌, ◌↔◌, ℕ, List, length, vec_len, IfOk, IfErr, IsTrue};
+ghost use Rattle.pr_samples.specs.declared.feed.Got.{Got};
+ghost use Rattle.pr_base.specs.declared.caps.Cap.{Cap};
+ghost use Rattle.pr_edge.specs.Files.{IsMissing, HasReadCause};
+ghost use Rattle.pr_flat.specs.Widths.{AreWidths};
+ghost use Rattle.pr_scope.specs.Walk.{IsScoped};
+ghost use Rattle.pr_expand_spec.specs.Programs.{equations_of};
+ghost use Rattle.pr_compile_front.specs.Passed.{HasEquations};
+ghost use Rattle.pr_samples.specs.Feed.{name_of, SameFile};
+ghost use Rattle.pr_tool_modes.specs.Files.{IsUnread};
+ghost use Rattle.pr_tool_modes.specs.Programs.{inputs_of};
+ghost use Rattle.pr_tool_modes.specs.Evaluations.{IsShortFeed, HasEvaluated, HasLines};
+
+use crate::lines::push_line;
+use pr_base::{Cap, Num};
+use pr_compile_front::Front;
+use pr_edge::Shelf;
+use pr_samples::{Feed, Got};
+use pr_source::Evaluator;
+use pr_tool_answers::Answer;
+use std::alloc::{AllocError, Global};
+
+/// The bytes of a file of samples at most.
+const LIMIT: u64 = 16_777_216;
+
+/// The samples at most.
+const MOST: u64 = 1_099_511_627_776;
+
+/// The lines of results, and how the samples end.
+#[derive(Drop)]
+pub struct Results {
+    pub text: Vec<u8>,
+    pub end: Got,
+}
+
+/// Whether samples end with a read that failed.
+fn is_read_fault(end: Got) -> bool
+    ensures { IsTrue result ↔ (end ≡ Got.ReadFault) }
+{
+    matches!(end, Got::ReadFault)
+}
+
+/// Evaluates a program on the samples of a feed, one after the other. `sample` and `row` have room for one of each.
+fn results_in<S: Shelf>(
+    alloc: Global,
+    front: &Front,
+    feed: &mut Feed,
+    shelf: &mut S,
+    sample: &mut [Num],
+    row: &mut [Num],
+) -> Result<Results, AllocError>
+    requires scoped { IsScoped front.now.scoped.program front.now.scoped }
+    requires flat { HasEquations front.now.scoped.program front.now.flat }
+    requires widths { AreWidths (equations_of front.now.scoped.program).equations front.now.widths }
+    requires feed { IsShortFeed (inputs_of front.now.scoped.program) feed.old }
+    requires sample { length sample.old ≡ vec_len front.now.scoped.inputs }
+    requires row { length row.old ≡ vec_len front.now.flat.outputs }
+    ensures results { IfOk result (λ r. r.end ≢ Got.ReadFault → HasEvaluated (S.told shelf.old) front.now.scoped.program feed.old feed.new r.text.items r.end) }
+    ensures there { IfOk result (λ r. r.end ≢ Got.ReadFault → IsMissing (S.told shelf.old) (name_of feed.old) → ⊥) }
+    ensures cause { IfOk result (λ r. r.end ≡ Got.ReadFault → HasReadCause (S.told shelf.old) (name_of feed.old) (S.faults shelf.old) (S.faults shelf.new)) }
+    ensures file { SameFile feed.old feed.new }
+    ensures later { S.faults shelf.old ≤ S.faults shelf.new }
+    ensures same { S.told shelf.new ≡ S.told shelf.old }
+    ensures others { (q : List ℕ) → q ≢ name_of feed.old → S.reach shelf.new q ≡ S.reach shelf.old q }
+{
+    let mut evaluator = Evaluator::new(alloc, &front.flat)?;
+    let mut text = Vec::new(alloc);
+    'samples: loop {
+        match feed.next(shelf, sample) {
+            Got::Sample => {
+                evaluator.next(&front.flat, &front.widths, sample, row);
+                push_line(&mut text, row)?;
+            }
+            end => return Ok(Results { text, end }),
+        }
+    }
+}
+
+/// Evaluates a program on the samples of a feed.
+fn evaluate<S: Shelf>(
+    alloc: Global,
+    front: &Front,
+    feed: &mut Feed,
+    shelf: &mut S,
+) -> Result<Results, AllocError>
+    requires scoped { IsScoped front.now.scoped.program front.now.scoped }
+    requires flat { HasEquations front.now.scoped.program front.now.flat }
+    requires widths { AreWidths (equations_of front.now.scoped.program).equations front.now.widths }
+    requires feed { IsShortFeed (inputs_of front.now.scoped.program) feed.old }
+    ensures results { IfOk result (λ r. r.end ≢ Got.ReadFault → HasEvaluated (S.told shelf.old) front.now.scoped.program feed.old feed.new r.text.items r.end) }
+    ensures there { IfOk result (λ r. r.end ≢ Got.ReadFault → IsMissing (S.told shelf.old) (name_of feed.old) → ⊥) }
+    ensures cause { IfOk result (λ r. r.end ≡ Got.ReadFault → HasReadCause (S.told shelf.old) (name_of feed.old) (S.faults shelf.old) (S.faults shelf.new)) }
+    ensures file { SameFile feed.old feed.new }
+    ensures later { S.faults shelf.old ≤ S.faults shelf.new }
+    ensures same { S.told shelf.new ≡ S.told shelf.old }
+    ensures others { (q : List ℕ) → q ≢ name_of feed.old → S.reach shelf.new q ≡ S.reach shelf.old q }
+{
+    let mut sample = vec![in alloc; 0; front.scoped.inputs.len()]?;
+    let mut row = vec![in alloc; 0; front.flat.outputs.len()]?;
+    results_in(alloc, front, feed, shelf, &mut sample, &mut row)
+}
+
+/// The lines of what a program means on the samples of a file. The file is read to its end, or past the limit of its bytes, and
+/// no more of it is kept than the feed's buffer and the rows that the program looks back on.
+pub fn results_of<S: Shelf>(
+    alloc: Global,
+    front: &Front,
+    samples: &str,
+    shelf: &mut S,
+) -> Result<Results, Answer>
+    requires scoped { IsScoped front.now.scoped.program front.now.scoped }
+    requires flat { HasEquations front.now.scoped.program front.now.flat }
+    requires widths { AreWidths (equations_of front.now.scoped.program).equations front.now.widths }
+    ensures results { IfOk result (λ r. HasLines (S.told shelf.old) samples.now front.now.scoped.program r.text.items r.end) }
+    ensures refused { IfErr result (IsUnread 16777216 Cap.SampleBytes (S.told shelf.old) samples.now (S.faults shelf.old) (S.faults shelf.new)) }
+    ensures later { S.faults shelf.old ≤ S.faults shelf.new }
+    ensures same { S.told shelf.new ≡ S.told shelf.old }
+    ensures others { (q : List ℕ) → q ≢ samples.now → S.reach shelf.new q ≡ S.reach shelf.old q }
+{
+    let inputs = &front.scoped.inputs;
+    let mut feed = match Feed::make_bounded(alloc, samples, inputs, MOST, LIMIT) {
+        Ok(feed) => feed,
+        Err(_) => return Err(Answer::Memory),
+    };
+    let results = match evaluate(alloc, front, &mut feed, shelf) {
+        Ok(results) => results,
+        Err(_) => return Err(Answer::Memory),
+    };
+    if is_read_fault(results.end) {
+        return Err(Answer::ReadFault);
+    }
+    match feed.is_too_long(shelf) {
+        Ok(false) => Ok(results),
+        Ok(true) => Err(Answer::Limit {
+            which: Cap::SampleBytes,
+        }),
+        Err(_) => Err(Answer::ReadFault),
+    }
+}
