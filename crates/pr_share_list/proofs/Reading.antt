@@ -65,6 +65,6 @@ read_all text [] entries number e some r = record { say = subst (λ lines. Say l
 read_all text (b ∷ rest) entries number e some r = absurd (omega (arith, e))
 
 -- the line of a refusal
-pub line_in : {A : Type 0} → Result A ListFault → ℕ
+abbrev pub line_in : {A : Type 0} → Result A ListFault → ℕ
 line_in (Err (ListFault.BadList line)) = line
 line_in _ = 0
