@@ -25,10 +25,9 @@ lines_split text end e h =
     let is = end_some text end e in
     lines_first text (omega (arith, is, h)) ∙ ap (λ n. take n text ∷ list_lines (drop (n + 1) text)) is
 
-pub lines_one : (text : List ℕ) → 0 < length text → position is_end text ≡ None → list_lines text ≡ take (length text) text ∷ list_lines (drop (length text) text)
+pub lines_one : (text : List ℕ) → 0 < length text → position is_end text ≡ None → list_lines text ≡ text ∷ list_lines (drop (length text) text)
 lines_one text some e =
-    lines_only text some (end_none text e)
-    ∙ ap₂ (λ xs ys. xs ∷ list_lines ys) (sym (take_all (length text) text (omega arith))) (sym (drop_all (length text) text (omega arith)))
+    lines_only text some (end_none text e) ∙ ap (λ xs. text ∷ list_lines xs) (sym (drop_all (length text) text (omega arith)))
 
 -- ---- lines that say something
 filter_one : (line : List ℕ) → counts line ≡ true → filter counts (line ∷ []) ≡ line ∷ []
@@ -117,8 +116,8 @@ not_wrong : (lines : List (List ℕ)) (m : ℕ) (bytes : List ℕ) (before all :
 not_wrong lines m bytes before all e c s wrong a =
     let rest = map entry_of (filter counts (drop (m + 1) lines)) in
     let split : map Some all ≡ map Some before ++ entry_of bytes ∷ rest =
-        sym a.entries_are ∙ (ap (map entry_of) (counted_here lines m bytes e c)
-        ∙ (map-append entry_of (filter counts (take m lines)) (bytes ∷ filter counts (drop (m + 1) lines)) ∙ ap (λ xs. xs ++ entry_of bytes ∷ rest) s.entries_are)) in
+    sym a.entries_are ∙ (ap (map entry_of) (counted_here lines m bytes e c)
+    ∙ (map-append entry_of (filter counts (take m lines)) (bytes ∷ filter counts (drop (m + 1) lines)) ∙ ap (λ xs. xs ++ entry_of bytes ∷ rest) s.entries_are)) in
     let h = somes_more all before (entry_of bytes) rest split in
     elim wrong [ inl none ↦ h.1 none | inr full ↦ absurd (let few = a.few in omega (arith, h.0, full)) ]
 

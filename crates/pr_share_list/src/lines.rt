@@ -58,7 +58,7 @@ pub(crate) fn split_line(text: &[u8]) -> (&[u8], &[u8])
     ensures shorter { length result.1.now < length text.now }
 {
     match first_end(text) {
-        None => text.split_at(text.len()),
+        None => (text, &text[text.len()..]),
         Some(end) => (&text[..end], &text[end + 1..]),
     }
 }
@@ -85,10 +85,8 @@ fn text_of(bytes: &[u8]) -> Option<&str>
 
 /// The words of a line that has three.
 fn three_words(line: &[u8]) -> Option<(&[u8], &[u8], &[u8])>
-    ensures {
-        MatchOption result (entry_by (words_of line.now) ≡ None)
-            (λ w. words_of line.now ≡ w.0.now ∷ w.1.now ∷ w.2.now ∷ [])
-    }
+    ensures { MatchOption result (entry_by (words_of line.now) ≡ None)
+        (λ w. words_of line.now ≡ w.0.now ∷ w.1.now ∷ w.2.now ∷ []) }
 {
     let (program, rest) = next_word(line)?;
     let (samples, rest) = next_word(rest)?;

@@ -1,4 +1,4 @@
-use Rattle.std.proofs.Common.{◌∷◌, ◌+◌, take, sym, ap, ap₂, ◌∙◌}
+use Rattle.std.proofs.Common.{◌∷◌, ◌+◌, take, length, sym, ap, ◌∙◌}
 use Rattle.std.proofs.lemmas.List.{take_rest}
 use Rattle.pr_share_list.specs.List.{list_lines}
 use Rattle.pr_share_list.proofs.ListLaws.{lines_one, lines_split}
@@ -6,8 +6,9 @@ use Rattle.pr_share_list.proofs.lines.split_line.Goals as goal
 
 pub returns-in-None-clause-lines : goal.returns-in-None-clause-lines
 returns-in-None-clause-lines c =
-    lines_one c.args.text.now c.requires (sym c.first_end.ensures.place ∙ c.in-None.is)
-    ∙ ap₂ (λ xs ys. xs ∷ list_lines ys) (sym c.split_at.ensures.front) (sym c.split_at.ensures.back)
+    let text = c.args.text.now in
+    lines_one text c.requires (sym c.first_end.ensures.place ∙ c.in-None.is)
+    ∙ ap (λ xs. text ∷ list_lines xs) (sym (take_rest text (length text)))
 
 pub returns-in-Some-clause-lines : goal.returns-in-Some-clause-lines
 returns-in-Some-clause-lines c =

@@ -30,7 +30,7 @@ pub loop-rest-preserved-in-Blank : goal.loop-rest-preserved-in-Blank
 loop-rest-preserved-in-Blank c =
     let line = c.split_line.result.0.now in
     read_blank c.args.text.now c.loop-rest.rest.now line c.split_line.result.1.now (map entry_in c.loop-rest.entries.items) c.loop-rest.number c.loop-rest.invariant c.split_line.ensures.lines c.split_line.ensures.shorter
-      (subst (λ (s : Line). IsLine line s) c.in-Blank.is c.in_ok-line_of.ensures)
+    (subst (λ (s : Line). IsLine line s) c.in-Blank.is c.in_ok-line_of.ensures)
 
 pub loop-rest-preserved : goal.loop-rest-preserved
 loop-rest-preserved c =
