@@ -1,12 +1,12 @@
 -- Lists of lines: what they say, and where they are wrong.
-use Rattle.std.proofs.Common.{◌≡◌, ◌⊎◌, ℕ, zero, suc, ◌+◌, ◌<◌, ◌≤◌, cond, not, Bool, true, false, List, [], ◌∷◌, ◌++◌, length, map, take, drop, filter, Option, Some, None, slice_get, refl, sym, ap, ap₂, ◌∙◌, subst, arith, inl, inr, append-nil, length-append}
-use Rattle.std.proofs.lemmas.Bool.{cases_lt, cases_eq}
-use Rattle.std.proofs.lemmas.List.{map-append, length-map, take_all, drop_all, take_at}
+use Rattle.std.proofs.Common.{◌≡◌, ◌⊎◌, ℕ, zero, suc, ◌+◌, ◌<◌, ◌≤◌, cond, true, false, List, [], ◌∷◌, ◌++◌, length, map, take, drop, filter, Option, Some, None, slice_get, refl, sym, ap, ap₂, ◌∙◌, subst, arith, inl, inr, append-nil, length-append}
+use Rattle.std.proofs.lemmas.Bool.{cases_lt}
+use Rattle.std.proofs.lemmas.List.{map-append, length-map, drop_all, take_at}
 use Rattle.std.proofs.lemmas.List.Elements.{filter-append}
 use Rattle.std.specs.List.{position}
-use Rattle.pr_samples.specs.Lines.{Lines, lines_of, is_empty}
+use Rattle.pr_samples.specs.Lines.{Lines, is_empty}
 use Rattle.pr_share_list.specs.List.{Entry, list_lines, counts, entry_of, Say, IsListed, IsWrong, IsBare, IsBadAt}
-use Rattle.pr_share_list.proofs.WordFacts.{is_end, line_end, end_none, end_some, line_and, first_line, no_line, lines_none}
+use Rattle.pr_share_list.proofs.WordFacts.{is_end, line_end, end_none, end_some, first_line, no_line, lines_none}
 
 -- ---- the lines of a text
 pub lines_end : list_lines [] ≡ []

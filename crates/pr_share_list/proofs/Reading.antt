@@ -1,5 +1,5 @@
 -- How far a list was read.
-use Rattle.std.proofs.Common.{◌≡◌, ◌⊎◌, ℕ, ◌+◌, ◌<◌, ◌≤◌, true, false, List, [], ◌∷◌, ◌++◌, length, Some, None, Result, Err, refl, sym, ap, ap₂, ◌∙◌, subst, arith, inl, inr, append-nil, length-append}
+use Rattle.std.proofs.Common.{◌≡◌, ◌⊎◌, ℕ, ◌+◌, ◌<◌, ◌≤◌, true, false, List, [], ◌∷◌, ◌++◌, length, Some, None, Result, Err, refl, sym, ap, ◌∙◌, subst, arith, inl, inr, append-nil, length-append}
 use Rattle.pr_share_list.specs.List.{Entry, list_lines, counts, entry_of, Say, IsListed, IsBadAt}
 use Rattle.pr_share_list.specs.declared.faults.ListFault.{ListFault}
 use Rattle.pr_share_list.proofs.ListLaws.{lines_end, say_none, say_blank, say_program, wrong_here, bare_here}

@@ -1,4 +1,4 @@
-use Rattle.std.proofs.Common.{◌≡◌, length, true, false, List, [], ℕ, sym, ◌∙◌, arith}
+use Rattle.std.proofs.Common.{sym, ◌∙◌}
 use Rattle.pr_share_list.proofs.WordFacts.{word_found, no_word, one_word, empty_test}
 use Rattle.pr_share_list.proofs.words.next_word.Goals as goal
 
