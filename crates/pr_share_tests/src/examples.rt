@@ -76,8 +76,8 @@ fn complement() -> Pe {
 }
 
 /// A program that can begin, with the samples of a file.
+#[tactic(auto, using(crate::proofs::Ready::is_ready))]
 fn item(
-    rt: &impl Abort,
     alloc: Global,
     conf: Configuration<16, 8>,
     name: &str,
@@ -87,7 +87,10 @@ fn item(
     ensures { IfOk result (λ x. IsReady x) }
 {
     let feed = Feed::make(alloc, name, &conf.inputs)?;
-    let parked = Parked::make(alloc, conf).ok().expect(rt, "memory");
+    let parked = match Parked::make(alloc, conf) {
+        Ok(parked) => parked,
+        Err(_) => return Err(AllocError),
+    };
     Ok(ShareItem {
         parked: Some(parked),
         feed,
@@ -125,14 +128,22 @@ fn outcome(
 
 /// How the samples of a program ended, and the state in which its first stage begins.
 fn state_of(parts: &[ShareItem<16, 8>], number: usize) -> Option<(Option<Got>, Option<u8>)> {
-    parts.get(number).map(|item| (item.ended, first_state(item)))
+    parts
+        .get(number)
+        .map(|item| (item.ended, first_state(item)))
 }
 
 /// The files of a program that sums its samples, and of one that complements them.
 fn shelf_of(alloc: Global, faults: Vec<u64>) -> Result<MemShelf, AllocError> {
     let files = vec![in alloc;
-        (String::from_str(alloc, "a")?, Vec::from_slice(alloc, b"1\n2\n3\n4\n5\n")?),
-        (String::from_str(alloc, "b")?, Vec::from_slice(alloc, b"1\n2\nx\n")?),
+        (
+            String::from_str(alloc, "a")?,
+            Vec::from_slice(alloc, b"1\n2\n3\n4\n5\n")?
+        ),
+        (
+            String::from_str(alloc, "b")?,
+            Vec::from_slice(alloc, b"1\n2\nx\n")?
+        ),
     ]?;
     MemShelf::make(alloc, files, faults)
 }
@@ -146,8 +157,8 @@ fn shared(
 ) -> Result<(ShareEnd, Vec<ShareItem<16, 8>>, MemSink), AllocError> {
     let mut shelf = shelf_of(alloc, reads)?;
     let mut out = MemSink::make(alloc, 100, writes)?;
-    let first = item(rt, alloc, configuration(rt, alloc, running_sum(), 4)?, "a", 2)?;
-    let second = item(rt, alloc, configuration(rt, alloc, complement(), 2)?, "b", 1)?;
+    let first = item(alloc, configuration(rt, alloc, running_sum(), 4)?, "a", 2)?;
+    let second = item(alloc, configuration(rt, alloc, complement(), 2)?, "b", 1)?;
     let (end, parts) = outcome(alloc, first, second, &mut shelf, &mut out)?;
     Ok((end, parts, out))
 }
@@ -162,7 +173,10 @@ fn each_program_goes_on_from_its_state(rt: HostRuntime) -> Result<(), Fail> {
     assert_eq!(rt; end, ShareEnd::Done);
     assert!(rt; out.bytes() == LINES);
     assert_eq!(rt; state_of(&parts, 0), Some((Some(Got::End), Some(15))));
-    assert_eq!(rt; state_of(&parts, 1), Some((Some(Got::BadSample { line: 3 }), Some(0))));
+    assert_eq!(rt;
+        state_of(&parts, 1),
+        Some((Some(Got::BadSample { line: 3 }), Some(0)))
+    );
     Ok(())
 }
 
@@ -174,7 +188,10 @@ fn a_read_fault_ends_one_program(rt: HostRuntime) -> Result<(), Fail> {
     assert_eq!(rt; end, ShareEnd::Done);
     assert!(rt; out.bytes() == b"1: 254\n1: 253\n".as_slice());
     assert_eq!(rt; state_of(&parts, 0), Some((Some(Got::ReadFault), Some(0))));
-    assert_eq!(rt; state_of(&parts, 1), Some((Some(Got::BadSample { line: 3 }), Some(0))));
+    assert_eq!(rt;
+        state_of(&parts, 1),
+        Some((Some(Got::BadSample { line: 3 }), Some(0)))
+    );
     Ok(())
 }
 
