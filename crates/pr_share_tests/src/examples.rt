@@ -109,6 +109,7 @@ fn first_state(item: &ShareItem<16, 8>) -> Option<u8> {
 }
 
 /// What two programs come to that take turns on two stripes.
+#[tactic(auto, using(crate::proofs::Ready::both_ready))]
 fn outcome(
     alloc: Global,
     first: ShareItem<16, 8>,

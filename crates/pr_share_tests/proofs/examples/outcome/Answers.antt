@@ -1,5 +1,0 @@
-use Rattle.pr_share_tests.proofs.Ready.{both_ready}
-use Rattle.pr_share_tests.proofs.examples.outcome.Goals as goal
-
-pub share-end-requires-clause-ready : goal.share-end-requires-clause-ready
-share-end-requires-clause-ready c = both_ready c.args.first c.args.second c.requires.first c.requires.second
