@@ -9,7 +9,8 @@ use Rattle.pr_conf.specs.After.{begun, all_begun, with_states}
 use Rattle.pr_conf.proofs.AfterLaws.{length-begun}
 use Rattle.pr_stripe_prepared.specs.declared.stages.Prepared.{Prepared}
 use Rattle.pr_stripe_prepared.specs.Prepared.{ReadsColumn, MakesColumn, IsPrepared}
-use Rattle.pr_stripe_prepared.specs.Elements.{is_chain, low_mask}
+use Rattle.pr_stripe_prepared.specs.Elements.{is_chain, low_mask, zero_mask}
+use Rattle.pr_stripe_prepared.specs.Rounds.{IsOrdered}
 use Rattle.pr_machine.specs.Ready.{IsReady, AreReady}
 
 one_more : (R : ℕ → Option Prepared → Type 0) (xs : List (Option Prepared)) (x : Option Prepared) → ((s : ℕ) → R s None) → ((s : ℕ) → R s (get_or xs s None)) → R (length xs) x → (s : ℕ) → R s (get_or (xs ++ x ∷ []) s None)
@@ -48,25 +49,27 @@ begun_at (pe ∷ pes) (b ∷ st) zero d = (b, refl)
 begun_at (pe ∷ pes) (b ∷ st) (suc k) d = begun_at pes st k d
 
 reads_begun : (q : Prepared) (k : ℕ) (pe : Pe) (b : ℕ) → ReadsColumn q k pe → ReadsColumn q k (record pe { init = b })
-reads_begun q k pe b r = record { a = r.a; hi = r.hi; lo = r.lo; no_a = r.no_a; no_hi = r.no_hi; no_lo = r.no_lo; shift = r.shift; few = r.few; unshifted = r.unshifted }
+reads_begun q k pe b r = record { a = r.a; hi = r.hi; lo = r.lo; c = r.c; shift = r.shift; few = r.few; unshifted = r.unshifted; read = r.read; bit = r.bit; unread = r.unread; carry = r.carry; uncarried = r.uncarried }
 
 makes_begun : (q : Prepared) (pes : List Pe) (st : List ℕ) (k : ℕ) (pe : Pe) (b : ℕ) → MakesColumn q pes k pe → MakesColumn q (begun pes st) k (record pe { init = b })
 makes_begun q pes st k pe b m = record {
-  c = m.c;
-  t1 = m.t1;
-  t2 = m.t2;
-  t4 = m.t4;
-  t8 = m.t8;
+  off = m.off;
+  on = m.on;
+  without = m.without;
   sums = m.sums;
-  two = m.two;
   none = m.none;
   low = λ d. m.low d ∙ ap (λ (p : Pe). low_mask pe.mode (if suc k == 16 then false else is_chain p.cin)) (sym (begun_at pes st (suc k) d).1);
+  tests = λ d. m.tests d ∙ ap (λ (p : Pe). zero_mask pe.mode (if suc k == 16 then false else is_chain p.cin)) (sym (begun_at pes st (suc k) d).1);
   cin = m.cin;
+  takes_c = m.takes_c;
   mask = m.mask;
   to_output = m.to_output;
   to_a = m.to_a;
   keeps = m.keeps;
 }
+
+ordered_begun : (levels : List ℕ) (rounds k : ℕ) (pe : Pe) (b : ℕ) → IsOrdered levels rounds k pe → IsOrdered levels rounds k (record pe { init = b })
+ordered_begun levels rounds k pe b o = record { before = o.before; a = o.a; hi = o.hi; lo = o.lo; c = o.c; chain = o.chain }
 
 -- rows do not know in which state their stage begins
 prepared_begun : (q : Prepared) (pes : List Pe) (st : List ℕ) (registers : ℕ) → IsPrepared q pes registers → IsPrepared q (begun pes st) registers
@@ -74,6 +77,7 @@ prepared_begun q pes st registers p = record {
   long = length-begun pes st ∙ p.long;
   reads = λ k d h. let e = begun_at pes st k d in subst (ReadsColumn q k) (sym e.1) (reads_begun q k (get_or pes k d) e.0 (p.reads k d h));
   makes = λ k d h. let e = begun_at pes st k d in subst (MakesColumn q (begun pes st) k) (sym e.1) (makes_begun q pes st k (get_or pes k d) e.0 (p.makes k d h));
+  ordered = λ k d h. let e = begun_at pes st k d in subst (IsOrdered q.levels q.rounds k) (sym e.1) (ordered_begun q.levels q.rounds k (get_or pes k d) e.0 (p.ordered k d h));
   marks = λ j d h. p.marks j d h ∙ ap (λ (x : Pe). if x.write == j / 16 + 1 then 255 else 0) (sym (begun_at pes st (j % 16) d).1);
   reach = p.reach;
   marks_row = p.marks_row;

@@ -1,3 +1,4 @@
 pub mod LineLaws
 pub mod RoundLaws
 pub mod TurnLaws
+pub mod StopLaws

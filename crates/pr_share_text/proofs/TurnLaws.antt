@@ -29,7 +29,7 @@ drop-append-le (suc n) [] ys h = absurd (omega arith)
 drop-append-le (suc n) (x ∷ xs) ys h = drop-append-le n xs ys (omega arith)
 
 -- rows that come later change no earlier round
-rows_before : (n r q : ℕ) (xs ys : List (List ℕ)) → n < r → length xs ≡ r * q → take q (drop (n * q) (xs ++ ys)) ≡ take q (drop (n * q) xs)
+pub rows_before : (n r q : ℕ) (xs ys : List (List ℕ)) → n < r → length xs ≡ r * q → take q (drop (n * q) (xs ++ ys)) ≡ take q (drop (n * q) xs)
 rows_before n r q xs ys h l =
     let up : (n + 1) * q ≤ r * q = mul-le-mul_right q (omega arith) in
     let e : (n + 1) * q ≡ n * q + q = omega arith in
@@ -48,7 +48,7 @@ module _ (part more : Part) (r : ℕ) (new : List (List ℕ)) (quota : more.quot
   same_now : length new ≤ part.quota → rows_in r more ≡ new
   same_now h = ap₂ (λ q xs. take q (drop (r * q) xs)) quota rows ∙ rows_now r part.quota part.rows new due h
 
-round-append : (r j : ℕ) (xs ys : List Part) → round_from r j (xs ++ ys) ≡ round_from r j xs ++ round_from r (j + length xs) ys
+pub round-append : (r j : ℕ) (xs ys : List Part) → round_from r j (xs ++ ys) ≡ round_from r j xs ++ round_from r (j + length xs) ys
 round-append r j [] ys = let e : j ≡ j + 0 = omega arith in ap (λ n. round_from r n ys) e
 round-append r j (x ∷ xs) ys =
     let e : j + 1 + length xs ≡ j + length (x ∷ xs) = omega arith in
@@ -78,19 +78,19 @@ take_set (suc k) (first ∷ parts) part more e =
     let z : suc (k + 1) ≡ suc k + 1 = omega arith in
     ap (λ n. take n (set (first ∷ parts) (suc k) more)) (sym z) ∙ ap (λ xs. first ∷ xs) (take_set k parts part more e)
 
-take_next : (k : ℕ) (parts : List Part) (part : Part) → slice_get parts k ≡ Some part → take (k + 1) parts ≡ take k parts ++ part ∷ []
+pub take_next : (k : ℕ) (parts : List Part) (part : Part) → slice_get parts k ≡ Some part → take (k + 1) parts ≡ take k parts ++ part ∷ []
 take_next k [] part e = absurd (let z = e in cc)
 take_next zero (first ∷ parts) part e = let is : first ≡ part = cc in ap (λ x. x ∷ []) is
 take_next (suc k) (first ∷ parts) part e =
     let z : suc (k + 1) ≡ suc k + 1 = omega arith in
     ap (λ n. take n (first ∷ parts)) (sym z) ∙ ap (λ xs. first ∷ xs) (take_next k parts part e)
 
-length_take : (k : ℕ) (parts : List Part) (part : Part) → slice_get parts k ≡ Some part → length (take k parts) ≡ k
+pub length_take : (k : ℕ) (parts : List Part) (part : Part) → slice_get parts k ≡ Some part → length (take k parts) ≡ k
 length_take k [] part e = absurd (let z = e in cc)
 length_take zero (first ∷ parts) part e = refl
 length_take (suc k) (first ∷ parts) part e = ap suc (length_take k parts part e)
 
-one_round : (r k : ℕ) (parts : List Part) (part : Part) → slice_get parts k ≡ Some part → (xs : List Part) → length xs ≡ k → (last : Part) → round_from r 0 (xs ++ last ∷ []) ≡ round_from r 0 xs ++ marked k (rows_in r last)
+pub one_round : (r k : ℕ) (parts : List Part) (part : Part) → slice_get parts k ≡ Some part → (xs : List Part) → length xs ≡ k → (last : Part) → round_from r 0 (xs ++ last ∷ []) ≡ round_from r 0 xs ++ marked k (rows_in r last)
 one_round r k parts part e xs l last =
     let z : 0 + length xs ≡ k = omega arith in
     round-append r 0 xs (last ∷ []) ∙ (ap (λ n. round_from r 0 xs ++ round_from r n (last ∷ [])) z ∙ ap (λ zs. round_from r 0 xs ++ zs) (append-nil (marked k (rows_in r last))))

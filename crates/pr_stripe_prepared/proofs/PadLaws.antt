@@ -10,7 +10,7 @@ use Rattle.pr_conf.specs.declared.pes.Source.{Source}
 use Rattle.pr_conf.specs.declared.pes.Bit.{Bit}
 use Rattle.pr_conf.specs.declared.pes.Pe.{Pe}
 use Rattle.pr_conf.specs.StageMap.{made_from, pe_made, last_carry, source_byte, source_bit, c_of, states_from, state_map}
-use Rattle.pr_stripe_prepared.proofs.StageLaws.{same_made}
+use Rattle.pr_stripe_prepared.proofs.RoundLaws.{same_made}
 
 module _ (n : ℕ) (row wide st : List ℕ) (same : (i : ℕ) → get_or row i 0 ≡ get_or wide i 0) where
   same_byte : (columns : List Made) (s : Source) → source_byte n (record { row = row; state = st; columns = columns }) s ≡ source_byte n (record { row = wide; state = st; columns = columns }) s

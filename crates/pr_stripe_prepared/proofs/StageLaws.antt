@@ -1,116 +1,17 @@
--- A step of a prepared stage makes what the columns of the stage make, one after the other.
-use Rattle.std.proofs.Common.{◌≡◌, ℕ, zero, suc, ◌+◌, ◌-◌, ◌/◌, ◌%◌, ◌^◌, ◌<◌, ◌≤◌, ◌==◌, nat_lt, Bool, true, false, List, [], length, get_or, take, bit_and, bit_or, if◌then◌else◌, refl, sym, ap, subst, ◌∙◌, arith}
-use Rattle.std.proofs.lemmas.Bool.{false≢true}
-use Rattle.std.proofs.lemmas.Bool.Decides.{nat_tests}
-use Rattle.std.proofs.lemmas.Nat.{and_mask}
-use Rattle.std.specs.Int.Bits.{and_zero_r, or_zero_r, or_zero_l}
-use Rattle.pr_base.specs.Pe.{Made, made, shifted, looked_up, carry_in, carry_out, result_of, next_state}
-use Rattle.pr_base.specs.declared.choices.Mode.{Mode}
-use Rattle.pr_base.specs.declared.choices.Carry.{Carry}
+-- What a prepared stage makes of its state, where all its columns are right.
+use Rattle.std.proofs.Common.{◌≡◌, ℕ, ◌<◌, false, List, [], length, get_or, sym, ap, ◌∙◌, arith}
+use Rattle.pr_base.specs.Pe.{next_state}
 use Rattle.pr_base.specs.declared.choices.Next.{Next}
-use Rattle.pr_conf.specs.declared.pes.Source.{Source}
-use Rattle.pr_conf.specs.declared.pes.Bit.{Bit}
 use Rattle.pr_conf.specs.declared.pes.Pe.{Pe}
-use Rattle.pr_conf.specs.StageMap.{Sight, made_from, pe_made, output_at, last_carry, source_byte, source_bit, state_map, c_of, cin_of}
-use Rattle.pr_lanes.specs.Rows.{chosen, picked, pick, half, ones_where, row_by}
-use Rattle.pr_lanes.proofs.Parts.{row_by_at}
-use Rattle.pr_lanes.proofs.Tables.{looked_up_by_choice}
-use Rattle.pr_stripe_columns.specs.Elements.{bare_sight, IsColumn, outputs_of}
-use Rattle.pr_conf.proofs.ColumnLaws.{made_at, output_is, last_carry_is}
-use Rattle.pr_stripe_columns.proofs.FreeLaws.{same_source, both}
-use Rattle.pr_stripe_columns.proofs.StepLaws.{all_made, any_pe, all_outputs, state_selected}
+use Rattle.pr_conf.specs.StageMap.{made_from, state_map}
+use Rattle.pr_lanes.specs.Rows.{chosen, picked, pick, row_by}
+use Rattle.pr_stripe_columns.specs.Elements.{IsColumn, outputs_of}
+use Rattle.pr_stripe_columns.proofs.StepLaws.{any_pe, all_outputs, state_selected}
 use Rattle.pr_stripe_prepared.specs.declared.stages.Prepared.{Prepared}
 use Rattle.pr_stripe_prepared.specs.Lanes.{HasLanes}
-use Rattle.pr_stripe_prepared.specs.Gather.{gathered_byte}
-use Rattle.pr_stripe_prepared.specs.Operands.{found, result_k}
 use Rattle.pr_stripe_prepared.specs.Prepared.{IsPrepared}
-use Rattle.pr_stripe_prepared.specs.Elements.{sum_mark, is_chain, goes_on, low_mask, known_c, has_known_c, is_const}
-use Rattle.pr_stripe_prepared.specs.Sums.{column_sum, carry_into}
 use Rattle.pr_stripe_prepared.proofs.LaneLaws.{as_row, same_lanes, own}
-use Rattle.pr_stripe_prepared.proofs.SumLaws.{carry_more}
-
--- ---- C that is known
-const_bit : (n : ℕ) (sight : Sight) (s : Source) (place cin : ℕ) → is_const s ≡ true → source_bit n sight (Bit.Of s place) ≡ known_c (Bit.Of s place)
-const_bit n sight (Source.Const k) place cin h = refl
-const_bit n sight (Source.Prev c reg) place cin h = absurd (false≢true h)
-const_bit n sight (Source.Here c) place cin h = absurd (false≢true h)
-const_bit n sight (Source.State c) place cin h = absurd (false≢true h)
-const_bit n sight (Source.Bus p) place cin h = absurd (false≢true h)
-
-known_bit : (n : ℕ) (sight : Sight) (c : Bit) → has_known_c c ≡ true → source_bit n sight c ≡ known_c c
-known_bit n sight Bit.None h = refl
-known_bit n sight (Bit.Of s place) h = const_bit n sight s place 0 (both (is_const s) (nat_lt place 8) h).0
-known_bit n sight Bit.CarryIn h = absurd (false≢true h)
-
-known_of : (n : ℕ) (sight : Sight) (c : Bit) (cin : ℕ) → has_known_c c ≡ true → c_of n sight c cin ≡ known_c c
-known_of n sight Bit.None cin h = refl
-known_of n sight (Bit.Of s place) cin h = const_bit n sight s place cin (both (is_const s) (nat_lt place 8) h).0
-known_of n sight Bit.CarryIn cin h = absurd (false≢true h)
-
-known_small : (c : Bit) → known_c c ≤ 1
-known_small Bit.None = omega arith
-known_small (Bit.Of s place) = omega arith
-known_small Bit.CarryIn = omega arith
-
--- ---- the carry-in, and the carry-out that the next column sees
-cin_is : (cin : Carry) (below c given k : ℕ) → given ≡ carry_in cin 0 c → k ≡ (if is_chain cin then below else 0) → carry_in cin below c ≡ given + k
-cin_is Carry.Zero below c given k e f = omega arith
-cin_is Carry.One below c given k e f = omega arith
-cin_is Carry.Chain below c given k e f = omega arith
-cin_is Carry.FromC below c given k e f = omega arith
-
-cin_small : (cin : Carry) (below c : ℕ) → below ≤ 1 → c ≤ 1 → carry_in cin below c ≤ 1
-cin_small Carry.Zero below c l s = omega arith
-cin_small Carry.One below c l s = omega arith
-cin_small Carry.Chain below c l s = omega arith
-cin_small Carry.FromC below c l s = omega arith
-
-carry_small : (mode : Mode) (a x cin : ℕ) → sum_mark mode % 255 ≡ 0 → a < 256 → x < 256 → cin ≤ 1 → carry_out mode a x cin ≤ 1
-carry_small Mode.Plain a x cin m la lx lc = omega arith
-carry_small Mode.Sum a x cin m la lx lc = omega arith
-carry_small Mode.Zero a x cin m la lx lc = absurd (omega arith)
-
-low_of : (x low m k : ℕ) → low ≡ 2 ^ k - 1 → m ≡ 2 ^ k → bit_and x low ≡ x % m
-low_of x low m k e f = ap (bit_and x) e ∙ and_mask x k ∙ ap (λ y. x % y) (sym f)
-
-next_carry : (mode : Mode) (on : Bool) (a x c k low : ℕ) → sum_mark mode % 255 ≡ 0 → low ≡ low_mask mode on → a < 256 → x < 256 → c + k ≤ 1
-    → (bit_and a low + bit_and x low + c + k) / 256 ≡ (if on then carry_out mode a x (c + k) else 0)
-next_carry Mode.Plain true a x c k low m e la lx s =
-    let p : bit_and a low ≡ 0 = ap (bit_and a) e ∙ and_zero_r a in
-    let r : bit_and x low ≡ 0 = ap (bit_and x) e ∙ and_zero_r x in
-    omega arith
-next_carry Mode.Plain false a x c k low m e la lx s =
-    let p : bit_and a low ≡ 0 = ap (bit_and a) e ∙ and_zero_r a in
-    let r : bit_and x low ≡ 0 = ap (bit_and x) e ∙ and_zero_r x in
-    omega arith
-next_carry Mode.Sum true a x c k low m e la lx s =
-    let p : bit_and a low ≡ a % 256 = low_of a low 256 8 e refl in
-    let r : bit_and x low ≡ x % 256 = low_of x low 256 8 e refl in
-    omega arith
-next_carry Mode.Sum false a x c k low m e la lx s =
-    let p : bit_and a low ≡ a % 128 = low_of a low 128 7 e refl in
-    let r : bit_and x low ≡ x % 128 = low_of x low 128 7 e refl in
-    omega arith
-next_carry Mode.Zero on a x c k low m e la lx s = absurd (omega arith)
-
--- ---- the result
-kept : (x s : ℕ) → x < 256 → chosen x s 0 ≡ x
-kept x s l =
-    let p : bit_and x 255 ≡ x = and_mask x 8 ∙ omega arith in
-    ap (λ y. bit_or y (bit_and s 0)) p ∙ ap (bit_or x) (and_zero_r s) ∙ or_zero_r x
-
-taken : (x s : ℕ) → s < 256 → chosen x s 255 ≡ s
-taken x s l =
-    let p : bit_and s 255 ≡ s = and_mask s 8 ∙ omega arith in
-    ap (λ y. bit_or y (bit_and s 255)) (and_zero_r x) ∙ or_zero_l (bit_and s 255) ∙ p
-
-summed_is : (mode : Mode) (has : Bool) (a x c k mark : ℕ) → sum_mark mode % 255 ≡ 0 → mark ≡ sum_mark mode → (has ≡ false → sum_mark mode ≡ 0) → x < 256
-    → (if has then chosen x ((a + x + c + k) % 256) mark else x) ≡ result_of mode a x (c + k)
-summed_is Mode.Plain true a x c k mark m e none l = ap (chosen x ((a + x + c + k) % 256)) e ∙ kept x ((a + x + c + k) % 256) l
-summed_is Mode.Plain false a x c k mark m e none l = refl
-summed_is Mode.Sum true a x c k mark m e none l = ap (chosen x ((a + x + c + k) % 256)) e ∙ taken x ((a + x + c + k) % 256) (omega arith) ∙ omega arith
-summed_is Mode.Sum false a x c k mark m e none l = absurd (let z = none refl in omega arith)
-summed_is Mode.Zero has a x c k mark m e none l = absurd (omega arith)
+use Rattle.pr_stripe_prepared.proofs.RoundLaws.{kept, taken}
 
 pub pick_output : (n : Next) (old new : ℕ) → old < 256 → new < 256 → chosen old new (next_state n 0 255 0) ≡ pick (next_state n 0 255 0) new old
 pick_output Next.Keep old new l m = kept old new l
@@ -122,161 +23,18 @@ pick_a Next.Keep old new l m = kept old new l
 pick_a Next.Output old new l m = kept old new l
 pick_a Next.A old new l m = taken old new m
 
-either_zero : (b : Bool) → ◌≡◌ {A = ℕ} 0 (if b then 0 else 0)
-either_zero true = refl
-either_zero false = refl
-
-none_made : Made
-none_made = record { output = 0; carry = 0 }
-
-pub same_made : (mode : Mode) (table mask a b c cin a' b' c' cin' : ℕ) → a ≡ a' → b ≡ b' → c ≡ c' → cin ≡ cin' → made mode table mask a b c cin ≡ made mode table mask a' b' c' cin'
-same_made mode table mask a b c cin a' b' c' cin' ea eb ec en =
-    ap (λ x. made mode table mask x b c cin) ea ∙ ap (λ x. made mode table mask a' x c cin) eb ∙ ap (λ x. made mode table mask a' b' x cin) ec ∙ ap (λ x. made mode table mask a' b' c' x) en
-
-module _ (q : Prepared) (pes : List Pe) (registers : ℕ) (p : IsPrepared q pes registers) (row st a b out : List ℕ) (ls : length st ≡ 16)
-    (ha : HasLanes 16 a (λ k. gathered_byte q.both q.both_state q.terms.items row st k))
-    (hb : (k s : ℕ) → k < 16 → get_or q.shifts k 0 ≡ 2 ^ s → s < 8 → (q.has_rest ≡ false → s ≡ 0)
-    → get_or b k 0 ≡ shifted (gathered_byte q.both q.both_state q.terms.items row st (16 + k)) (gathered_byte q.rest q.rest_state q.rest_terms.items row st k) s)
-    (ho : HasLanes 16 out (result_k q a b))
-    (bytes : (k : ℕ) → k < 16 → (get_or a k 0 < 256) × (get_or b k 0 < 256)) (looked : (k : ℕ) → k < 16 → found q a b k < 256) where
-  abbrev all : List Made
-  all = made_from (length st) row st [] pes
-
-  abbrev sight : ℕ → Sight
-  sight k = record { row = row; state = st; columns = take k all }
-
-  abbrev x_of : ℕ → ℕ
-  x_of k = found q a b k
-
-  abbrev xs : List ℕ
-  xs = row_by 16 (found q a b)
-
-  abbrev carried : ℕ → ℕ
-  carried k = carry_into a xs q.cin q.low k
-
-  xs_at : (k : ℕ) → k < 16 → get_or xs k 0 ≡ found q a b k
-  xs_at k l = row_by_at 16 (found q a b) k l
-
-  read : (k : ℕ) (s : Source) (g : ℕ) → Rattle.pr_stripe_columns.specs.Elements.is_here s ≡ false → g ≡ source_byte 16 (bare_sight row st) s → g ≡ source_byte (length st) (sight k) s
-  read k s g h e = e ∙ ap (λ m. source_byte m (bare_sight row st) s) (sym ls) ∙ sym (same_source (length st) row st (take k all) s h)
-
-  a_is : (k : ℕ) (d : Pe) → k < 16 → get_or a k 0 ≡ source_byte (length st) (sight k) (get_or pes k d).a
-  a_is k d l = let r = p.reads k d l in read k (get_or pes k d).a (get_or a k 0) r.no_a (ha.each k l ∙ r.a row st)
-
-  b_is : (k : ℕ) (d : Pe) → k < 16 → get_or b k 0 ≡ shifted (source_byte (length st) (sight k) (get_or pes k d).hi) (source_byte (length st) (sight k) (get_or pes k d).lo) (get_or pes k d).shift
-  b_is k d l =
-      let r = p.reads k d l in
-      let pe = get_or pes k d in
-      hb k pe.shift l r.shift r.few r.unshifted
-      ∙ ap (λ x. shifted x (gathered_byte q.rest q.rest_state q.rest_terms.items row st k) pe.shift) (read k pe.hi _ r.no_hi (r.hi row st))
-      ∙ ap (λ x. shifted (source_byte (length st) (sight k) pe.hi) x pe.shift) (read k pe.lo _ r.no_lo (r.lo row st))
-
-  -- X
-  x_is : (k : ℕ) (d : Pe) → k < 16 → found q a b k ≡ looked_up (get_or pes k d).table (get_or a k 0) (get_or b k 0) (known_c (get_or pes k d).c)
-  x_is k d l =
-      let m = p.makes k d l in
-      let pe = get_or pes k d in
-      let y = get_or a k 0 in
-      let z = get_or b k 0 in
-      let h = half pe.table (known_c pe.c) in
-      let low : known_c pe.c % 2 ≡ known_c pe.c = omega (arith, known_small pe.c) in
-      ap (λ t. chosen (chosen t (get_or q.t2 k 0) y) (chosen (get_or q.t4 k 0) (get_or q.t8 k 0) y) z) m.t1
-      ∙ ap (λ t. chosen (chosen (ones_where h 1) t y) (chosen (get_or q.t4 k 0) (get_or q.t8 k 0) y) z) m.t2
-      ∙ ap (λ t. chosen (chosen (ones_where h 1) (ones_where h 2) y) (chosen t (get_or q.t8 k 0) y) z) m.t4
-      ∙ ap (λ t. chosen (chosen (ones_where h 1) (ones_where h 2) y) (chosen (ones_where h 4) t y) z) m.t8
-      ∙ looked_up_by_choice pe.table y z (known_c pe.c) (bytes k l).0 (bytes k l).1
-      ∙ ap (looked_up pe.table y z) low
-
-  record At (k : ℕ) : Type 0 where
-    link : (d : Pe) → carried k ≡ (if is_chain (get_or pes k d).cin then last_carry (take k all) else 0)
-    low : last_carry (take k all) ≤ 1
-
-  -- what column k makes, said by the rows
-  made_is : (k : ℕ) (d : Pe) → k < 16 → At k → pe_made (length st) (sight k) (get_or pes k d) ≡ made (get_or pes k d).mode (get_or pes k d).table (get_or pes k d).mask (get_or a k 0) (get_or b k 0) (known_c (get_or pes k d).c) (get_or q.cin k 0 + carried k)
-  made_is k d l here =
-      let m = p.makes k d l in
-      let pe = get_or pes k d in
-      let below = last_carry (take k all) in
-      let into : cin_of (length st) (sight k) pe ≡ get_or q.cin k 0 + carried k =
-      ap (carry_in pe.cin below) (known_bit (length st) (sight k) pe.c m.c) ∙ cin_is pe.cin below (known_c pe.c) (get_or q.cin k 0) (carried k) m.cin (here.link d) in
-      same_made pe.mode pe.table pe.mask _ _ _ _ (get_or a k 0) (get_or b k 0) (known_c pe.c) (get_or q.cin k 0 + carried k)
-      (sym (a_is k d l)) (sym (b_is k d l)) (known_of (length st) (sight k) pe.c _ m.c) into
-
-  cin_low : (k : ℕ) (d : Pe) → k < 16 → At k → get_or q.cin k 0 + carried k ≤ 1
-  cin_low k d l here =
-      let m = p.makes k d l in
-      let pe = get_or pes k d in
-      let below = last_carry (take k all) in
-      subst (λ c. c ≤ 1) (cin_is pe.cin below (known_c pe.c) (get_or q.cin k 0) (carried k) m.cin (here.link d)) (cin_small pe.cin below (known_c pe.c) here.low (known_small pe.c))
-
-  at_of : (k : ℕ) → k < 16 → get_or all k none_made ≡ pe_made (length st) (sight k) (get_or pes k any_pe)
-  at_of k l = made_at (length st) row st pes k any_pe none_made (let e = p.long in omega arith)
-
-  out_carry : (k : ℕ) → k < 16 → At k → last_carry (take (k + 1) all) ≡ carry_out (get_or pes k any_pe).mode (get_or a k 0) (found q a b k) (get_or q.cin k 0 + carried k)
-  out_carry k l here =
-      let pe = get_or pes k any_pe in
-      last_carry_is all k none_made (let e = p.long in let f = all_made (length st) row st pes in omega arith)
-      ∙ ap (λ (m : Made). m.carry) (at_of k l ∙ made_is k any_pe l here)
-      ∙ ap (λ x. carry_out pe.mode (get_or a k 0) x (get_or q.cin k 0 + carried k)) (sym (x_is k any_pe l))
-
-  at : (k : ℕ) → k < 16 → At k
-  at zero l = record { link = λ d. either_zero (is_chain (get_or pes 0 d).cin); low = omega arith }
-  at (suc k) l =
-      let h : k < 16 = omega arith in
-      let here = at k h in
-      let m = p.makes k any_pe h in
-      let pe = get_or pes k any_pe in
-      let more : suc k ≡ k + 1 = omega arith in
-      let is = ap (λ i. last_carry (take i all)) more ∙ out_carry k h here in
-      record {
-        link = λ d.
-            let on = goes_on pes k d in
-            let up : (suc k == 16) ≡ false = grind (arith, nat_tests) in
-            carry_more 0 (column_sum a xs q.cin q.low) k
-            ∙ ap (λ x. (bit_and (get_or a k 0) (get_or q.low k 0) + bit_and x (get_or q.low k 0) + get_or q.cin k 0 + carried k) / 256) (xs_at k h)
-            ∙ next_carry pe.mode on (get_or a k 0) (found q a b k) (get_or q.cin k 0) (carried k) (get_or q.low k 0) m.two (m.low d) (bytes k h).0 (looked k h) (cin_low k any_pe h here)
-            ∙ ap (λ t. if t then carry_out pe.mode (get_or a k 0) (found q a b k) (get_or q.cin k 0 + carried k) else 0) (ap (λ t. if t then false else is_chain (get_or pes (suc k) d).cin) up)
-            ∙ ap (λ c. if is_chain (get_or pes (suc k) d).cin then c else 0) (sym is);
-        low = subst (λ c. c ≤ 1) (sym is) (carry_small pe.mode (get_or a k 0) (found q a b k) _ m.two (bytes k h).0 (looked k h) (cin_low k any_pe h here));
-      }
-
-  pub output : (k : ℕ) → k < 16 → get_or out k 0 ≡ output_at all k
-  output k l =
-      let m = p.makes k any_pe l in
-      let pe = get_or pes k any_pe in
-      let here = at k l in
-      let f = all_made (length st) row st pes in
-      let e = p.long in
-      let x = found q a b k in
-      ho.each k l
-      ∙ ap (λ y. bit_and (if q.has_sums then chosen y ((get_or a k 0 + y + get_or q.cin k 0 + carried k) % 256) (get_or q.sums k 0) else y) (get_or q.mask k 0)) (xs_at k l)
-      ∙ ap (λ y. bit_and y (get_or q.mask k 0)) (summed_is pe.mode q.has_sums (get_or a k 0) x (get_or q.cin k 0) (carried k) (get_or q.sums k 0) m.two m.sums m.none (looked k l))
-      ∙ ap (λ y. bit_and (result_of pe.mode (get_or a k 0) x (get_or q.cin k 0 + carried k)) y) m.mask
-      ∙ ap (λ y. bit_and (result_of pe.mode (get_or a k 0) y (get_or q.cin k 0 + carried k)) pe.mask) (x_is k any_pe l)
-      ∙ sym (output_is all k none_made (omega arith) ∙ ap (λ (m : Made). m.output) (at_of k l ∙ made_is k any_pe l here))
-
-  pub column : (k : ℕ) (d : Pe) → k < length pes → IsColumn row st pes k (get_or pes k d) (get_or out k 0) (get_or a k 0)
-  column k d h =
-      let e = p.long in
-      let l : k < 16 = omega arith in
-      let r = p.reads k d l in
-      let pe = get_or pes k d in
-      record {
-        output_is = output k l;
-        a_is = ha.each k l ∙ r.a row st ∙ ap (λ m. source_byte m (bare_sight row st) pe.a) (sym ls) ∙ sym (same_source (length st) row st all pe.a r.no_a);
-      }
-
+module _ (q : Prepared) (pes : List Pe) (registers : ℕ) (p : IsPrepared q pes registers) (row st a out : List ℕ) (ls : length st ≡ 16) (long : length out ≡ 16)
+    (column : (k : ℕ) (d : Pe) → k < 16 → IsColumn row st pes k (get_or pes k d) (get_or out k 0) (get_or a k 0)) where
   pub outputs_are : out ≡ outputs_of (made_from 16 row st [] pes)
   outputs_are =
       let e = p.long in
-      let o = ho.long in
-      all_outputs row st out pes (omega arith) (λ k h. output k (omega arith)) ∙ ap (λ n. outputs_of (made_from n row st [] pes)) ls
+      all_outputs row st out pes (omega arith) (λ k h. (column k any_pe (omega arith)).output_is) ∙ ap (λ n. outputs_of (made_from n row st [] pes)) ls
 
   -- the state, where two rows of marks choose it
   pub state_is : (first second : List ℕ) → first ≡ picked q.to_output out st → second ≡ picked q.to_a a first → length q.to_output ≡ 16 → length q.to_a ≡ 16 → second ≡ state_map 16 pes st row
   state_is first second ef es lo la =
       let e = p.long in
-      state_selected row st out a q.to_output q.to_a first second pes (omega arith) (omega arith) (omega arith) column
+      state_selected row st out a q.to_output q.to_a first second pes (omega arith) (omega arith) (omega arith) (λ k d h. column k d (omega arith))
       (λ i d h. (p.makes i d (omega arith)).to_output) (λ i d h. (p.makes i d (omega arith)).to_a) ef es
       ∙ ap (λ n. state_map n pes st row) ls
 

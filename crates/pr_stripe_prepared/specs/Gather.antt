@@ -1,6 +1,8 @@
 -- Bytes that are gathered from a row and a state.
-use Rattle.std.specs.Prelude.{ℕ, ◌+◌, List, [], ◌∷◌, slice_index, bit_or, nat_le, if◌then◌else◌}
+use Rattle.std.specs.Prelude.{ℕ, ◌+◌, ◌-◌, ◌*◌, List, [], ◌∷◌, slice_index, bit_or, nat_le, if◌then◌else◌}
 use Rattle.pr_stripe_prepared.specs.declared.stages.Term.{Term}
+use Rattle.pr_stripe_prepared.specs.declared.stages.Gather.{Gather}
+use Rattle.pr_conf.specs.declared.pes.Source.{Source}
 
 -- the byte at a place of a row from `from` on; a place from 128 on is none
 abbrev pub looked : ℕ → ℕ → List ℕ → ℕ
@@ -11,6 +13,19 @@ abbrev pub with_terms : ℕ → List ℕ → ℕ → List Term → ℕ
 with_terms k row x [] = x
 with_terms k row x (t ∷ ts) = with_terms k row (bit_or x (looked (slice_index t.picks k) t.from row)) ts
 
+-- lane k before the terms
+abbrev pub begun_byte : Gather → List ℕ → List ℕ → ℕ → ℕ
+begun_byte g state made k = let known = bit_or (slice_index g.known k) (looked (slice_index g.states k) 0 state) in
+    if g.has_here then bit_or known (looked (slice_index g.heres k) 0 made) else known
+
 -- lane k of all that is gathered
-abbrev pub gathered_byte : List ℕ → List ℕ → List Term → List ℕ → List ℕ → ℕ → ℕ
-gathered_byte known picks terms row state k = with_terms k row (bit_or (slice_index known k) (looked (slice_index picks k) 0 state)) terms
+abbrev pub gathered_byte : Gather → List ℕ → List ℕ → List ℕ → ℕ → ℕ
+gathered_byte g row state made k = with_terms k row (begun_byte g state made k) g.terms.items
+
+-- the byte of a source, where these are the outputs of the columns
+abbrev pub seen_byte : List ℕ → List ℕ → List ℕ → Source → ℕ
+seen_byte row state made (Source.Const k) = k
+seen_byte row state made (Source.Prev col reg) = slice_index row ((reg - 1) * 16 + col)
+seen_byte row state made (Source.Here col) = slice_index made col
+seen_byte row state made (Source.State col) = slice_index state col
+seen_byte row state made (Source.Bus place) = slice_index row place

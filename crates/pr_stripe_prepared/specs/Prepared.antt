@@ -2,37 +2,38 @@
 use Rattle.std.specs.Prelude.{◌≡◌, ℕ, ◌+◌, ◌*◌, ◌/◌, ◌%◌, ◌^◌, ◌<◌, ◌==◌, true, false, List, length, slice_index, slice_index_or, vec_len, if◌then◌else◌}
 use Rattle.pr_base.specs.Pe.{carry_in, next_state}
 use Rattle.pr_conf.specs.declared.pes.Pe.{Pe}
-use Rattle.pr_conf.specs.StageMap.{source_byte}
-use Rattle.pr_lanes.specs.Rows.{ones_where, half}
-use Rattle.pr_stripe_columns.specs.Elements.{is_here, bare_sight}
 use Rattle.pr_stripe_prepared.specs.declared.stages.Prepared.{Prepared}
-use Rattle.pr_stripe_prepared.specs.Elements.{sum_mark, goes_on, low_mask, known_c, has_known_c}
-use Rattle.pr_stripe_prepared.specs.Gather.{gathered_byte}
+use Rattle.pr_stripe_prepared.specs.Elements.{sum_mark, takes_carry, goes_on, low_mask, zero_mask, c_source, c_bit, c_carry, is_read_bit, from_c}
+use Rattle.pr_stripe_prepared.specs.Tables.{HasTable}
+use Rattle.pr_stripe_prepared.specs.Gather.{gathered_byte, seen_byte}
+use Rattle.pr_stripe_prepared.specs.Rounds.{IsOrdered}
 
 -- column k of the operands
 pub record ReadsColumn (q : Prepared) (k : ℕ) (pe : Pe) : Type 0 where
-  pub a : (row st : List ℕ) → gathered_byte q.both q.both_state q.terms.items row st k ≡ source_byte 16 (bare_sight row st) pe.a
-  pub hi : (row st : List ℕ) → gathered_byte q.both q.both_state q.terms.items row st (16 + k) ≡ source_byte 16 (bare_sight row st) pe.hi
-  pub lo : (row st : List ℕ) → gathered_byte q.rest q.rest_state q.rest_terms.items row st k ≡ source_byte 16 (bare_sight row st) pe.lo
-  pub no_a : is_here pe.a ≡ false
-  pub no_hi : is_here pe.hi ≡ false
-  pub no_lo : is_here pe.lo ≡ false
+  pub a : (row st made : List ℕ) → gathered_byte q.both row st made k ≡ seen_byte row st made pe.a
+  pub hi : (row st made : List ℕ) → gathered_byte q.both row st made (16 + k) ≡ seen_byte row st made pe.hi
+  pub lo : (row st made : List ℕ) → gathered_byte q.rest row st made k ≡ seen_byte row st made pe.lo
+  pub c : (row st made : List ℕ) → gathered_byte q.rest row st made (16 + k) ≡ seen_byte row st made (c_source pe.c)
   pub shift : slice_index q.shifts k ≡ 2 ^ pe.shift
   pub few : pe.shift < 8
   pub unshifted : q.has_rest ≡ false → pe.shift ≡ 0
+  pub read : is_read_bit pe.c ≡ true
+  pub bit : slice_index q.c_bits k ≡ c_bit pe.c
+  pub unread : q.has_rest ≡ false → c_bit pe.c ≡ 0
+  pub carry : slice_index q.c_carry k ≡ c_carry pe.c
+  pub uncarried : q.has_carry ≡ false → c_carry pe.c ≡ 0
 
 -- column k of the results
 pub record MakesColumn (q : Prepared) (pes : List Pe) (k : ℕ) (pe : Pe) : Type 0 where
-  pub c : has_known_c pe.c ≡ true
-  pub t1 : slice_index q.t1 k ≡ ones_where (half pe.table (known_c pe.c)) 1
-  pub t2 : slice_index q.t2 k ≡ ones_where (half pe.table (known_c pe.c)) 2
-  pub t4 : slice_index q.t4 k ≡ ones_where (half pe.table (known_c pe.c)) 4
-  pub t8 : slice_index q.t8 k ≡ ones_where (half pe.table (known_c pe.c)) 8
+  pub off : HasTable q.off k 0 pe.table
+  pub on : HasTable q.on k 1 pe.table
+  pub without : q.has_c ≡ false → (c_bit pe.c ≡ 0) × (c_carry pe.c ≡ 0)
   pub sums : slice_index q.sums k ≡ sum_mark pe.mode
-  pub two : sum_mark pe.mode % 255 ≡ 0
-  pub none : q.has_sums ≡ false → sum_mark pe.mode ≡ 0
+  pub none : q.has_sums ≡ false → takes_carry pe.mode pe.c ≡ false
   pub low : (d : Pe) → slice_index q.low k ≡ low_mask pe.mode (goes_on pes k d)
-  pub cin : slice_index q.cin k ≡ carry_in pe.cin 0 (known_c pe.c)
+  pub tests : (d : Pe) → slice_index q.zeros k ≡ zero_mask pe.mode (goes_on pes k d)
+  pub cin : slice_index q.cin k ≡ carry_in pe.cin 0 0
+  pub takes_c : slice_index q.from_c k ≡ from_c pe.cin
   pub mask : slice_index q.mask k ≡ pe.mask
   pub to_output : slice_index q.to_output k ≡ next_state pe.next 0 255 0
   pub to_a : slice_index q.to_a k ≡ next_state pe.next 0 0 255
@@ -42,6 +43,7 @@ pub record IsPrepared (q : Prepared) (pes : List Pe) (registers : ℕ) : Type 0 
   pub long : length pes ≡ 16
   pub reads : (k : ℕ) (d : Pe) → k < 16 → ReadsColumn q k (slice_index_or pes k d)
   pub makes : (k : ℕ) (d : Pe) → k < 16 → MakesColumn q pes k (slice_index_or pes k d)
+  pub ordered : (k : ℕ) (d : Pe) → k < 16 → IsOrdered q.levels q.rounds k (slice_index_or pes k d)
   pub marks : (j : ℕ) (d : Pe) → j < registers * 16 → slice_index q.marks.items j ≡ (if (slice_index_or pes (j % 16) d).write == j / 16 + 1 then 255 else 0)
   pub reach : q.reach ≡ registers * 16
   pub marks_row : vec_len q.marks ≡ registers * 16

@@ -5,33 +5,59 @@ ghost use Rattle.pr_base.specs.Pe.{carry_in, next_state};
 ghost use Rattle.pr_conf.specs.declared.pes.Pe.{Pe};
 ghost use Rattle.pr_conf.specs.declared.pes.Source.{Source};
 ghost use Rattle.pr_lanes.specs.Rows.{ones_where, half};
-ghost use Rattle.pr_stripe_prepared.specs.Elements.{sum_mark, known_c, has_known_c, low_mask, is_chain, goes_on, table_of, carry_of, shift_of, output_of, a_of, IsSuited};
+ghost use Rattle.pr_stripe_prepared.specs.Elements.{sum_mark, c_source, c_bit, c_carry, is_read_bit, from_c, low_mask, zero_mask, takes_carry, is_chain, goes_on, table_of, bit_of, carry_bit_of, from_c_of, carry_of, shift_of, output_of, a_of, IsSuited};
+ghost use Rattle.pr_stripe_prepared.specs.Tables.{HasTable};
 
 use crate::places::suits;
+use crate::stages::Table;
 use pr_conf::{Bit, Carry, Mode, Next, Pe, Source};
 
-/// C, where it is a byte that is known.
-fn known_bit(c: Bit) -> u8
-    requires { has_known_c c ≡ true }
-    ensures is { result ≡ known_c c }
-    ensures small { result ≤ 1 }
+/// The source of the byte that C is a bit of.
+fn source_of(c: Bit) -> Source
+    ensures { result ≡ c_source c }
 {
     match c {
-        Bit::Of(Source::Const(byte), place) => byte >> place & 1,
-        _ => 0,
+        Bit::Of(source, _) => source,
+        Bit::None | Bit::CarryIn => Source::Const(0),
     }
 }
 
-/// All ones where the table has a one for these bits of A and B.
-fn table_byte(pe: &Pe, bit: u8) -> u8
-    requires { has_known_c pe.now.c ≡ true }
-    ensures { result ≡ ones_where (half pe.now.table (known_c pe.now.c)) bit }
+/// The bit that C is, by its weight; 0 where it is none.
+fn bit_byte(c: Bit) -> u8
+    requires { is_read_bit c ≡ true }
+    ensures { result ≡ c_bit c }
 {
-    let chosen = if known_bit(pe.c) & 1 == 0 {
-        pe.table
-    } else {
-        pe.table >> 4
-    };
+    match c {
+        Bit::Of(_, place) => 1 << place,
+        Bit::None | Bit::CarryIn => 0,
+    }
+}
+
+/// 1 where C is the carry-in.
+fn carry_bit(c: Bit) -> u8
+    ensures { result ≡ c_carry c }
+{
+    match c {
+        Bit::CarryIn => 1,
+        Bit::None | Bit::Of(_, _) => 0,
+    }
+}
+
+/// Whether a column takes a carry.
+fn needs_carry(mode: Mode, c: Bit) -> bool
+    ensures { result ≡ takes_carry mode c }
+{
+    match mode {
+        Mode::Plain => carry_bit(c) == 1,
+        Mode::Sum | Mode::Zero => true,
+    }
+}
+
+/// All ones where the table has a one for these bits of A and B, and for C.
+fn table_byte(table: u8, c: u8, bit: u8) -> u8
+    ensures { result ≡ ones_where (half table c) bit }
+{
+    let chosen = if c & 1 == 0 { table } else { table >> 4 };
     if chosen & bit == 0 { 0 } else { 255 }
 }
 
@@ -40,21 +66,28 @@ fn sum_byte(mode: Mode) -> u8
     ensures { result ≡ sum_mark mode }
 {
     match mode {
-        Mode::Plain => 0,
         Mode::Sum => 255,
-        Mode::Zero => 1,
+        Mode::Plain | Mode::Zero => 0,
     }
 }
 
-/// The carry-in of a column, but for that of the column below.
-fn carry_byte(pe: &Pe) -> u8
-    requires { has_known_c pe.now.c ≡ true }
-    ensures { result ≡ carry_in pe.now.cin 0 (known_c pe.now.c) }
+/// The carry-in of a column, but for that of the column below and for C.
+fn carry_byte(carry: Carry) -> u8
+    ensures { result ≡ carry_in carry 0 0 }
 {
-    match pe.cin {
-        Carry::Zero | Carry::Chain => 0,
+    match carry {
         Carry::One => 1,
-        Carry::FromC => known_bit(pe.c),
+        Carry::Zero | Carry::Chain | Carry::FromC => 0,
+    }
+}
+
+/// 1 where the carry-in is C.
+fn from_c_byte(carry: Carry) -> u8
+    ensures { result ≡ from_c carry }
+{
+    match carry {
+        Carry::FromC => 1,
+        Carry::Zero | Carry::One | Carry::Chain => 0,
     }
 }
 
@@ -85,6 +118,16 @@ fn low_byte(mode: Mode, on: bool) -> u8
     }
 }
 
+/// All ones in a column that tests for 0, where the next column sees the carry.
+fn zero_byte(mode: Mode, on: bool) -> u8
+    ensures { result ≡ zero_mask mode on }
+{
+    match mode {
+        Mode::Zero => if on { 255 } else { 0 },
+        Mode::Plain | Mode::Sum => 0,
+    }
+}
+
 fn shift_word(shift: u8) -> u16
     requires { shift < 8 }
     ensures { result ≡ 2 ^ shift }
@@ -92,7 +135,7 @@ fn shift_word(shift: u8) -> u16
     1 << shift
 }
 
-fn chains(carry: Carry) -> bool
+pub(crate) fn chains(carry: Carry) -> bool
     ensures { result ≡ is_chain carry }
 {
     matches!(carry, Carry::Chain)
@@ -110,23 +153,13 @@ fn goes_up(pes: &[Pe], k: usize) -> bool
     chains(pes[k + 1].cin)
 }
 
-/// Whether a byte of C is known.
-fn knows(c: Bit) -> bool
-    ensures { result ≡ has_known_c c }
+/// Whether C is a bit of a byte, the carry-in, or none.
+fn is_read(c: Bit) -> bool
+    ensures { result ≡ is_read_bit c }
 {
     match c {
-        Bit::None => true,
-        Bit::Of(Source::Const(_), place) => place < 8,
-        _ => false,
-    }
-}
-
-fn sums_or_not(mode: Mode) -> bool
-    ensures { result ≡ true → sum_mark mode % 255 ≡ 0 }
-{
-    match mode {
-        Mode::Plain | Mode::Sum => true,
-        Mode::Zero => false,
+        Bit::None | Bit::CarryIn => true,
+        Bit::Of(_, place) => place < 8,
     }
 }
 
@@ -138,8 +171,8 @@ fn is_given(pe: &Pe, registers: usize) -> bool
     suits(registers, pe.a)
         && suits(registers, pe.hi)
         && suits(registers, pe.lo)
-        && knows(pe.c)
-        && sums_or_not(pe.mode)
+        && suits(registers, source_of(pe.c))
+        && is_read(pe.c)
         && pe.shift < 8
 }
 
@@ -157,15 +190,64 @@ pub(crate) fn are_given(pes: &[Pe], registers: usize) -> bool
     true
 }
 
-pub(crate) fn table_row(pes: &[Pe], bit: u8) -> [u8; 16]
+fn table_row(pes: &[Pe], c: u8, bit: u8) -> [u8; 16]
     requires pes { length pes.now ≡ 16 }
-    requires known { (k : ℕ) (d : Pe) → k < 16 → has_known_c (slice_index_or pes.now k d).c ≡ true }
     ensures long { length result ≡ 16 }
-    ensures each { (k : ℕ) (d : Pe) → k < 16 → slice_index result k ≡ table_of bit (slice_index_or pes.now k d) }
+    ensures each { (k : ℕ) (d : Pe) → k < 16 → slice_index result k ≡ table_of c bit (slice_index_or pes.now k d) }
 {
     let mut row = [0; 16];
     for k in 0..16 {
-        row[k] = table_byte(&pes[k], bit);
+        row[k] = table_byte(pes[k].table, c, bit);
+    }
+    row
+}
+
+/// The tables of all columns, for one value of C.
+pub(crate) fn tables(pes: &[Pe], c: u8) -> Table
+    requires pes { length pes.now ≡ 16 }
+    ensures { (k : ℕ) (d : Pe) → k < 16 → HasTable result k c (slice_index_or pes.now k d).table }
+{
+    Table {
+        t1: table_row(pes, c, 1),
+        t2: table_row(pes, c, 2),
+        t4: table_row(pes, c, 4),
+        t8: table_row(pes, c, 8),
+    }
+}
+
+pub(crate) fn c_row(pes: &[Pe]) -> [u8; 16]
+    requires pes { length pes.now ≡ 16 }
+    requires read { (k : ℕ) (d : Pe) → k < 16 → is_read_bit (slice_index_or pes.now k d).c ≡ true }
+    ensures long { length result ≡ 16 }
+    ensures each { (k : ℕ) (d : Pe) → k < 16 → slice_index result k ≡ bit_of (slice_index_or pes.now k d) }
+{
+    let mut row = [0; 16];
+    for k in 0..16 {
+        row[k] = bit_byte(pes[k].c);
+    }
+    row
+}
+
+pub(crate) fn c_carry_row(pes: &[Pe]) -> [u8; 16]
+    requires pes { length pes.now ≡ 16 }
+    ensures long { length result ≡ 16 }
+    ensures each { (k : ℕ) (d : Pe) → k < 16 → slice_index result k ≡ carry_bit_of (slice_index_or pes.now k d) }
+{
+    let mut row = [0; 16];
+    for k in 0..16 {
+        row[k] = carry_bit(pes[k].c);
+    }
+    row
+}
+
+pub(crate) fn from_c_row(pes: &[Pe]) -> [u8; 16]
+    requires pes { length pes.now ≡ 16 }
+    ensures long { length result ≡ 16 }
+    ensures each { (k : ℕ) (d : Pe) → k < 16 → slice_index result k ≡ from_c_of (slice_index_or pes.now k d) }
+{
+    let mut row = [0; 16];
+    for k in 0..16 {
+        row[k] = from_c_byte(pes[k].cin);
     }
     row
 }
@@ -184,13 +266,12 @@ pub(crate) fn sum_row(pes: &[Pe]) -> [u8; 16]
 
 pub(crate) fn carry_row(pes: &[Pe]) -> [u8; 16]
     requires pes { length pes.now ≡ 16 }
-    requires known { (k : ℕ) (d : Pe) → k < 16 → has_known_c (slice_index_or pes.now k d).c ≡ true }
     ensures long { length result ≡ 16 }
     ensures each { (k : ℕ) (d : Pe) → k < 16 → slice_index result k ≡ carry_of (slice_index_or pes.now k d) }
 {
     let mut row = [0; 16];
     for k in 0..16 {
-        row[k] = carry_byte(&pes[k]);
+        row[k] = carry_byte(pes[k].cin);
     }
     row
 }
@@ -256,26 +337,66 @@ pub(crate) fn low_row(pes: &[Pe]) -> [u8; 16]
     row
 }
 
-/// Whether a column moves B.
-pub(crate) fn any_shift(pes: &[Pe]) -> bool
+pub(crate) fn zero_row(pes: &[Pe]) -> [u8; 16]
     requires pes { length pes.now ≡ 16 }
-    ensures { result ≡ false → (k : ℕ) (d : Pe) → k < 16 → (slice_index_or pes.now k d).shift ≡ 0 }
+    ensures long { length result ≡ 16 }
+    ensures each { (k : ℕ) (d e : Pe) → k < 16 → slice_index result k ≡ zero_mask (slice_index_or pes.now k d).mode (goes_on pes.now k e) }
+{
+    let mut row = [0; 16];
+    for k in 0..16 {
+        row[k] = zero_byte(pes[k].mode, goes_up(pes, k));
+    }
+    row
+}
+
+/// Whether a column moves B, or has C that is a bit of a byte.
+pub(crate) fn any_rest(pes: &[Pe]) -> bool
+    requires pes { length pes.now ≡ 16 }
+    requires read { (k : ℕ) (d : Pe) → k < 16 → is_read_bit (slice_index_or pes.now k d).c ≡ true }
+    ensures { result ≡ false → (k : ℕ) (d : Pe) → k < 16 → ((slice_index_or pes.now k d).shift ≡ 0) × (c_bit (slice_index_or pes.now k d).c ≡ 0) }
 {
     for k in 0..16 {
-        if pes[k].shift != 0 {
+        if pes[k].shift != 0 || bit_byte(pes[k].c) != 0 {
             return true;
         }
     }
     false
 }
 
-/// Whether a column sums.
-pub(crate) fn any_sum(pes: &[Pe]) -> bool
+/// Whether a column has C.
+pub(crate) fn any_c(pes: &[Pe]) -> bool
     requires pes { length pes.now ≡ 16 }
-    ensures { result ≡ false → (k : ℕ) (d : Pe) → k < 16 → sum_mark (slice_index_or pes.now k d).mode ≡ 0 }
+    requires read { (k : ℕ) (d : Pe) → k < 16 → is_read_bit (slice_index_or pes.now k d).c ≡ true }
+    ensures { result ≡ false → (k : ℕ) (d : Pe) → k < 16 → (c_bit (slice_index_or pes.now k d).c ≡ 0) × (c_carry (slice_index_or pes.now k d).c ≡ 0) }
 {
     for k in 0..16 {
-        if sum_byte(pes[k].mode) != 0 {
+        if bit_byte(pes[k].c) != 0 || carry_bit(pes[k].c) != 0 {
+            return true;
+        }
+    }
+    false
+}
+
+/// Whether C is the carry-in in a column.
+pub(crate) fn any_carry(pes: &[Pe]) -> bool
+    requires pes { length pes.now ≡ 16 }
+    ensures { result ≡ false → (k : ℕ) (d : Pe) → k < 16 → c_carry (slice_index_or pes.now k d).c ≡ 0 }
+{
+    for k in 0..16 {
+        if carry_bit(pes[k].c) != 0 {
+            return true;
+        }
+    }
+    false
+}
+
+/// Whether a column takes a carry.
+pub(crate) fn any_sum(pes: &[Pe]) -> bool
+    requires pes { length pes.now ≡ 16 }
+    ensures { result ≡ false → (k : ℕ) (d : Pe) → k < 16 → takes_carry (slice_index_or pes.now k d).mode (slice_index_or pes.now k d).c ≡ false }
+{
+    for k in 0..16 {
+        if needs_carry(pes[k].mode, pes[k].c) {
             return true;
         }
     }
@@ -307,14 +428,18 @@ pub(crate) fn both_sources(pes: &[Pe]) -> [Source; 32]
     sources
 }
 
-/// The sources of the bytes that B ends with.
+/// The sources of the bytes that B ends with, and then those of C.
 pub(crate) fn rest_sources(pes: &[Pe]) -> [Source; 32]
     requires pes { length pes.now ≡ 16 }
-    ensures { (k : ℕ) (d : Source) (e : Pe) → k < 32 → slice_index_or result k d ≡ (if nat_lt k 16 then (slice_index_or pes.now k e).lo else Source.Const 0) }
+    ensures { (k : ℕ) (d : Source) (e : Pe) → k < 32 → slice_index_or result k d ≡ (if nat_lt k 16 then (slice_index_or pes.now k e).lo else c_source (slice_index_or pes.now (k - 16) e).c) }
 {
     let mut sources = [Source::Const(0); 32];
     for k in 0..32 {
-        sources[k] = if k < 16 { pes[k].lo } else { Source::Const(0) };
+        sources[k] = if k < 16 {
+            pes[k].lo
+        } else {
+            source_of(pes[k - 16].c)
+        };
     }
     sources
 }

@@ -1,11 +1,11 @@
 //! Bytes that are gathered from a row and a state.
 
-ghost use Rattle.std.specs.Prelude.{true, ◌≡◌, ◌+◌, ◌<◌, ◌≤◌, ℕ, All, length, slice_index};
-ghost use Rattle.pr_stripe_prepared.specs.Lanes.{HasLanes, is_place};
-ghost use Rattle.pr_stripe_prepared.specs.Gather.{gathered_byte, looked};
+ghost use Rattle.std.specs.Prelude.{◌≡◌, ◌+◌, ◌≤◌, ℕ, All, length, slice_index};
+ghost use Rattle.pr_stripe_prepared.specs.Lanes.{HasLanes};
+ghost use Rattle.pr_stripe_prepared.specs.Gather.{begun_byte, gathered_byte, looked};
 
 use crate::lanes::{either, look_up};
-use crate::stages::Term;
+use crate::stages::{Gather, Term};
 use std::simd::prelude::*;
 
 /// The bytes of a block of a row.
@@ -20,27 +20,34 @@ fn block_of(row: &[u8], term: &Term) -> u8x32
     )
 }
 
-/// Both rows of columns, as these terms gather them.
+/// What is gathered of bytes that are known, of a state, and of the outputs of the columns.
 #[inline(always)]
-pub(crate) fn gathered(
-    known: &[u8; 32],
-    picks: &[u8; 32],
-    terms: &[Term],
-    row: &[u8],
-    state: u8x16,
-    reach: usize,
-) -> u8x32
-    requires terms { All (λ t. t.from + 16 ≤ reach) terms.now }
+fn begun(g: &Gather, state: u8x16, made: u8x16) -> u8x32
+    requires state { length state ≡ 16 }
+    requires made { length made ≡ 16 }
+    ensures { HasLanes 32 result (begun_byte g.now state made) }
+{
+    let known = either(
+        u8x32::from_array(g.known),
+        look_up(state, u8x32::from_array(g.states)),
+    );
+    if !g.has_here {
+        return known;
+    }
+    either(known, look_up(made, u8x32::from_array(g.heres)))
+}
+
+/// Both rows of columns, gathered from a row, a state, and the outputs of the columns.
+#[inline(always)]
+pub(crate) fn gathered(g: &Gather, row: &[u8], state: u8x16, made: u8x16, reach: usize) -> u8x32
+    requires terms { All (λ t. t.from + 16 ≤ reach) g.now.terms.items }
     requires row { reach ≤ length row.now }
     requires state { length state ≡ 16 }
-    requires picks { (k : ℕ) → k < 32 → is_place (slice_index picks.now k) ≡ true }
-    ensures { HasLanes 32 result (λ k. gathered_byte known.now picks.now terms.now row.now state k) }
+    requires made { length made ≡ 16 }
+    ensures { HasLanes 32 result (gathered_byte g.now row.now state made) }
 {
-    let mut all = either(
-        u8x32::from_array(*known),
-        look_up(state, u8x32::from_array(*picks)),
-    );
-    for term in terms {
+    let mut all = begun(g, state, made);
+    for term in &g.terms {
         all = either(all, block_of(row, term));
     }
     all

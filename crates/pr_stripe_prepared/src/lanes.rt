@@ -1,10 +1,10 @@
 //! Rows of 16 bytes, one or two at a time, lane by lane.
 
-ghost use Rattle.std.specs.Prelude.{true, ◌≡◌, ℕ, ◌+◌, ◌*◌, ◌/◌, ◌%◌, ◌^◌, ◌<◌, ◌≤◌, length, slice_index, if◌then◌else◌, nat_le, bit_or, bit_and};
+ghost use Rattle.std.specs.Prelude.{true, ◌≡◌, ℕ, ◌+◌, ◌*◌, ◌/◌, ◌%◌, ◌^◌, ◌<◌, ◌≤◌, length, slice_index, ◌==◌, if◌then◌else◌, nat_le, bit_or, bit_and};
 ghost use Rattle.std.specs.Simd.Lanes.{number_l, digits_l};
 ghost use Rattle.pr_base.specs.Pe.{shifted};
-ghost use Rattle.pr_lanes.specs.Rows.{chosen};
-ghost use Rattle.pr_stripe_prepared.specs.Sums.{carry_into};
+ghost use Rattle.pr_lanes.specs.Rows.{chosen, ones_where};
+ghost use Rattle.pr_stripe_prepared.specs.Sums.{carry_from};
 ghost use Rattle.pr_stripe_prepared.specs.Lanes.{HasLanes, is_place};
 
 use std::simd::prelude::*;
@@ -65,6 +65,26 @@ pub(crate) fn high_half(both: u8x32) -> u8x16
     both.extract::<16, 16>()
 }
 
+/// All ones where a byte is 0, and 0 elsewhere.
+#[inline(always)]
+pub(crate) fn none_in(row: u8x16) -> u8x16
+    requires { length row ≡ 16 }
+    ensures { HasLanes 16 result (λ k. if slice_index row k == 0 then 255 else 0) }
+{
+    row.simd_eq(u8x16::splat(0))
+        .select(u8x16::splat(255), u8x16::splat(0))
+}
+
+/// The bits that one row or the other has.
+#[inline(always)]
+pub(crate) fn joined(a: u8x16, b: u8x16) -> u8x16
+    requires a { length a ≡ 16 }
+    requires b { length b ≡ 16 }
+    ensures { HasLanes 16 result (λ k. bit_or (slice_index a k) (slice_index b k)) }
+{
+    a | b
+}
+
 /// The bits that the mask keeps.
 #[inline(always)]
 pub(crate) fn masked(row: u8x16, mask: u8x16) -> u8x16
@@ -73,6 +93,27 @@ pub(crate) fn masked(row: u8x16, mask: u8x16) -> u8x16
     ensures { HasLanes 16 result (λ k. bit_and (slice_index row k) (slice_index mask k)) }
 {
     row & mask
+}
+
+/// All ones where a byte has one of these bits, and 0 elsewhere.
+#[inline(always)]
+pub(crate) fn ones_in(row: u8x16, bits: u8x16) -> u8x16
+    requires row { length row ≡ 16 }
+    requires bits { length bits ≡ 16 }
+    ensures { HasLanes 16 result (λ k. ones_where (slice_index row k) (slice_index bits k)) }
+{
+    let none = (row & bits).simd_eq(u8x16::splat(0));
+    none.select(u8x16::splat(0), u8x16::splat(255))
+}
+
+/// The sums of two rows, which wrap.
+#[inline(always)]
+pub(crate) fn added(a: u8x16, b: u8x16) -> u8x16
+    requires a { length a ≡ 16 }
+    requires b { length b ≡ 16 }
+    ensures { HasLanes 16 result (λ k. (slice_index a k + slice_index b k) % 256) }
+{
+    a + b
 }
 
 /// A row, twice.
@@ -141,21 +182,18 @@ fn row_with(n: u128) -> u8x16
     u64x2::from_array([low, (n >> 64) as u64]).to_le_bytes()
 }
 
-/// The sums of A, X and the carries, of which those below the mask's bits go on to the next column.
+/// The carries of the sums of two rows and of what is given: what goes on into each column, and what is given there.
 #[inline(always)]
-pub(crate) fn summed_row(a: u8x16, x: u8x16, cin: u8x16, low: u8x16) -> u8x16
-    requires a { length a ≡ 16 }
-    requires x { length x ≡ 16 }
-    requires cin { length cin ≡ 16 }
-    requires low { length low ≡ 16 }
-    ensures { HasLanes 16 result (λ k. (slice_index a k + slice_index x k + slice_index cin k + carry_into a x cin low k) % 256) }
+pub(crate) fn carries_of(first: u8x16, second: u8x16, given: u8x16) -> u8x16
+    requires first { length first ≡ 16 }
+    requires second { length second ≡ 16 }
+    requires given { length given ≡ 16 }
+    ensures { HasLanes 16 result (λ k. (slice_index given k + carry_from 0 (λ j. slice_index first j + slice_index second j + slice_index given j) k) % 256) }
 {
-    let a_low = a & low;
-    let x_low = x & low;
-    let sum = number_of(a_low)
-        .wrapping_add(number_of(x_low))
-        .wrapping_add(number_of(cin));
-    row_with(sum) + (a - a_low) + (x - x_low)
+    let sum = number_of(first)
+        .wrapping_add(number_of(second))
+        .wrapping_add(number_of(given));
+    row_with(sum) - first - second
 }
 
 /// The bytes of a row at these places, in each half. From 128 on a place is none, and gives 0.

@@ -1,32 +1,58 @@
 //! The operands of all columns.
 
-ghost use Rattle.std.specs.Prelude.{ℕ, false, ◌≡◌, ◌+◌, ◌<◌, ◌^◌, ◌≤◌, length, slice_index};
+ghost use Rattle.std.specs.Prelude.{ℕ, false, ◌≡◌, ◌+◌, ◌<◌, ◌^◌, ◌≤◌, length, slice_index, bit_or, if◌then◌else◌};
 ghost use Rattle.pr_stripe_prepared.specs.Lanes.{HasLanes};
 ghost use Rattle.pr_stripe_prepared.specs.Gather.{gathered_byte};
+ghost use Rattle.pr_stripe_prepared.specs.Operands.{mark_of};
 ghost use Rattle.pr_base.specs.Pe.{shifted};
+ghost use Rattle.pr_lanes.specs.Rows.{ones_where};
 
 use crate::gathers::gathered;
-use crate::lanes::{high_half, low_half, shifted_row, words_of};
+use crate::lanes::{high_half, joined, low_half, ones_in, row_of, shifted_row, words_of};
 use crate::stages::Prepared;
 use std::simd::prelude::*;
 
-/// A and B of all columns.
+/// C of all columns, all ones or 0: a bit of a byte, or the carry-in that the round before made.
 #[inline(always)]
-pub(crate) fn operands(q: &Prepared, row: &[u8], state: u8x16) -> (u8x16, u8x16)
+fn mark(q: &Prepared, bits: u8x16, carries: u8x16) -> u8x16
+    requires bits { length bits ≡ 16 }
+    requires carries { length carries ≡ 16 }
+    ensures { HasLanes 16 result (λ k. if q.now.has_carry then bit_or (slice_index bits k) (ones_where (slice_index carries k) (slice_index q.now.c_carry k)) else slice_index bits k) }
+{
+    if !q.has_carry {
+        return bits;
+    }
+    joined(bits, ones_in(carries, row_of(&q.c_carry)))
+}
+
+/// A, B and C of all columns: C is all ones, or 0.
+#[inline(always)]
+pub(crate) fn operands(
+    q: &Prepared,
+    row: &[u8],
+    state: u8x16,
+    made: u8x16,
+    carries: u8x16,
+) -> (u8x16, u8x16, u8x16)
     requires row { q.now.reach ≤ length row.now }
     requires state { length state ≡ 16 }
-    ensures a { HasLanes 16 result.0 (λ k. gathered_byte q.now.both q.now.both_state q.now.terms.items row.now state k) }
+    requires made { length made ≡ 16 }
+    requires carries { length carries ≡ 16 }
+    ensures a { HasLanes 16 result.0 (gathered_byte q.now.both row.now state made) }
     ensures long { length result.1 ≡ 16 }
     ensures b { (k s : ℕ) → k < 16 → slice_index q.now.shifts k ≡ 2 ^ s → s < 8 → (q.now.has_rest ≡ false → s ≡ 0)
-        → slice_index result.1 k ≡ shifted (gathered_byte q.now.both q.now.both_state q.now.terms.items row.now state (16 + k)) (gathered_byte q.now.rest q.now.rest_state q.now.rest_terms.items row.now state k) s }
+        → slice_index result.1 k ≡ shifted (gathered_byte q.now.both row.now state made (16 + k)) (gathered_byte q.now.rest row.now state made k) s }
+    ensures c { HasLanes 16 result.2 (mark_of q.now row.now state made carries) }
 {
-    let both = gathered(&q.both, &q.both_state, &q.terms, row, state, q.reach);
+    let both = gathered(&q.both, row, state, made, q.reach);
     let a = low_half(both);
     let hi = high_half(both);
     if q.has_rest {
-        let rest = gathered(&q.rest, &q.rest_state, &q.rest_terms, row, state, q.reach);
-        (a, shifted_row(hi, low_half(rest), words_of(&q.shifts)))
+        let rest = gathered(&q.rest, row, state, made, q.reach);
+        let b = shifted_row(hi, low_half(rest), words_of(&q.shifts));
+        let bits = ones_in(high_half(rest), row_of(&q.c_bits));
+        (a, b, mark(q, bits, carries))
     } else {
-        (a, hi)
+        (a, hi, mark(q, u8x16::splat(0), carries))
     }
 }

@@ -1,8 +1,8 @@
 //! Where the sources of a stage lie.
 
-ghost use Rattle.std.specs.Prelude.{true, ◌≡◌, ◌+◌, ◌<◌, ◌≤◌, ℕ, length, slice_index, slice_index_or};
+ghost use Rattle.std.specs.Prelude.{true, false, ◌≡◌, ◌+◌, ◌<◌, ◌≤◌, ℕ, length, slice_index, slice_index_or};
 ghost use Rattle.pr_conf.specs.declared.pes.Source.{Source};
-ghost use Rattle.pr_stripe_prepared.specs.Places.{known_in, state_in, row_in, is_suited};
+ghost use Rattle.pr_stripe_prepared.specs.Places.{known_in, state_in, here_in, row_in, is_suited};
 ghost use Rattle.pr_stripe_prepared.specs.Lanes.{is_place};
 
 use pr_conf::Source;
@@ -25,6 +25,15 @@ fn state_of(source: Source) -> u8
     }
 }
 
+fn here_of(source: Source) -> u8
+    ensures { result ≡ here_in source }
+{
+    match source {
+        Source::Here(col) => col,
+        Source::Const(_) | Source::Prev { .. } | Source::State(_) | Source::Bus(_) => 128,
+    }
+}
+
 fn row_of(source: Source) -> u16
     ensures { result ≡ row_in source }
 {
@@ -44,8 +53,7 @@ pub(crate) fn suits(registers: usize, source: Source) -> bool
         Source::Const(_) => true,
         Source::Prev { col, reg } => 0 < reg
             && usize::from(row_of(Source::Prev { col, reg })) < registers * 16,
-        Source::Here(_) => false,
-        Source::State(col) => col < 16,
+        Source::Here(col) | Source::State(col) => col < 16,
         Source::Bus(place) => usize::from(place) < registers * 16,
     }
 }
@@ -70,6 +78,29 @@ pub(crate) fn state_row(sources: &[Source; 32]) -> [u8; 32]
         row[k] = state_of(sources[k]);
     }
     row
+}
+
+/// The columns of the outputs.
+pub(crate) fn here_row(sources: &[Source; 32]) -> [u8; 32]
+    ensures { (k : ℕ) (d : Source) → k < 32 → slice_index result k ≡ here_in (slice_index_or sources.now k d) }
+{
+    let mut row = [128; 32];
+    for k in 0..32 {
+        row[k] = here_of(sources[k]);
+    }
+    row
+}
+
+/// Whether one of these is an output.
+pub(crate) fn any_here(sources: &[Source; 32]) -> bool
+    ensures { result ≡ false → (k : ℕ) (d : Source) → k < 32 → here_in (slice_index_or sources.now k d) ≡ 128 }
+{
+    for k in 0..32 {
+        if here_of(sources[k]) != 128 {
+            return true;
+        }
+    }
+    false
 }
 
 /// The places of the row.

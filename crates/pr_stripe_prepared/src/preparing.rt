@@ -1,18 +1,22 @@
 //! Stages, prepared.
 
-ghost use Rattle.std.specs.Prelude.{true, ◌≡◌, ◌+◌, ◌*◌, ◌<◌, ◌≤◌, ℕ, IfOk, IfSome, length, vec_len, slice_index, slice_index_or, ◌/◌, ◌%◌, ◌==◌, if◌then◌else◌};
+ghost use Rattle.std.specs.Prelude.{true, ◌≡◌, ◌+◌, ◌*◌, ◌<◌, ◌≤◌, ℕ, List, All, IfOk, IfSome, length, vec_len, slice_index, slice_index_or, ◌/◌, ◌%◌, ◌==◌, if◌then◌else◌};
 ghost use Rattle.pr_conf.specs.declared.pes.Pe.{Pe};
-ghost use Rattle.pr_stripe_prepared.specs.Lanes.{is_place};
+ghost use Rattle.pr_conf.specs.declared.pes.Source.{Source};
+ghost use Rattle.pr_stripe_prepared.specs.Gather.{gathered_byte, seen_byte};
+ghost use Rattle.pr_stripe_prepared.specs.Places.{is_suited};
 ghost use Rattle.pr_stripe_prepared.specs.Prepared.{IsPrepared};
 
 use crate::elements::{
-    a_row, any_shift, any_state, any_sum, are_given, both_sources, carry_row, low_row, mask_row,
-    output_row, rest_sources, shift_row, sum_row, table_row,
+    a_row, any_c, any_carry, any_rest, any_state, any_sum, are_given, both_sources, c_carry_row,
+    c_row, carry_row, from_c_row, low_row, mask_row, output_row, rest_sources, shift_row, sum_row,
+    tables, zero_row,
 };
-use crate::places::{known_row, row_row, state_row};
-use crate::stages::Prepared;
+use crate::levels::{are_ordered, levels_of, rounds_of};
+use crate::places::{any_here, here_row, known_row, row_row, state_row};
+use crate::stages::{Gather, Prepared};
 use crate::terms::terms_of;
-use pr_conf::Pe;
+use pr_conf::{Pe, Source};
 use std::alloc::{AllocError, Global};
 
 fn ones(holds: bool) -> u8
@@ -36,6 +40,23 @@ fn marks_of(alloc: Global, pes: &[Pe], registers: usize) -> Result<Vec<u8>, Allo
     Ok(marks)
 }
 
+/// What gathers these sources, from rows of so many registers.
+fn gather_of(alloc: Global, sources: &[Source; 32], registers: usize) -> Result<Gather, AllocError>
+    requires few { registers ≤ 16 }
+    requires suited { (k : ℕ) (d : Source) → k < 32 → is_suited registers (slice_index_or sources.now k d) ≡ true }
+    ensures gives { IfOk result (λ g. (k : ℕ) (d : Source) (row st made : List ℕ) → k < 32 → gathered_byte g row st made k ≡ seen_byte row st made (slice_index_or sources.now k d)) }
+    ensures inside { IfOk result (λ g. All (λ t. t.from + 16 ≤ registers * 16) g.terms.items) }
+{
+    let terms = terms_of(alloc, &row_row(sources), registers)?;
+    Ok(Gather {
+        known: known_row(sources),
+        states: state_row(sources),
+        heres: here_row(sources),
+        terms,
+        has_here: any_here(sources),
+    })
+}
+
 /// A stage of 16 columns and so many registers but the state; none where a column needs more than whole rows give.
 pub fn prepare(alloc: Global, pes: &[Pe], registers: usize) -> Result<Option<Prepared>, AllocError>
     requires few { registers ≤ 16 }
@@ -45,31 +66,36 @@ pub fn prepare(alloc: Global, pes: &[Pe], registers: usize) -> Result<Option<Pre
     if !are_given(pes, registers) {
         return Ok(None);
     }
-    let both = both_sources(pes);
-    let rest = rest_sources(pes);
+    let levels = levels_of(pes);
+    let rounds = rounds_of(&levels);
+    if !are_ordered(&levels, rounds, pes) {
+        return Ok(None);
+    }
     let marks = marks_of(alloc, pes, registers)?;
-    let terms = terms_of(alloc, &row_row(&both), registers)?;
-    let rest_terms = terms_of(alloc, &row_row(&rest), registers)?;
+    let both = gather_of(alloc, &both_sources(pes), registers)?;
+    let rest = gather_of(alloc, &rest_sources(pes), registers)?;
     Ok(Some(Prepared {
-        both: known_row(&both),
-        both_state: state_row(&both),
-        rest: known_row(&rest),
-        rest_state: state_row(&rest),
-        t1: table_row(pes, 1),
-        t2: table_row(pes, 2),
-        t4: table_row(pes, 4),
-        t8: table_row(pes, 8),
+        both,
+        rest,
+        off: tables(pes, 0),
+        on: tables(pes, 1),
+        c_bits: c_row(pes),
+        c_carry: c_carry_row(pes),
+        from_c: from_c_row(pes),
         shifts: shift_row(pes),
         low: low_row(pes),
+        zeros: zero_row(pes),
         cin: carry_row(pes),
         sums: sum_row(pes),
         mask: mask_row(pes),
         to_output: output_row(pes),
         to_a: a_row(pes),
+        levels,
         marks,
-        terms,
-        rest_terms,
-        has_rest: any_shift(pes),
+        rounds,
+        has_rest: any_rest(pes),
+        has_c: any_c(pes),
+        has_carry: any_carry(pes),
         has_sums: any_sum(pes),
         has_state: any_state(pes),
         reach: registers * 16,

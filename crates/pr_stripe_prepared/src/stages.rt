@@ -11,33 +11,55 @@ pub struct Term {
     pub ghost places: { (k : ℕ) → k < 32 → is_place (slice_index picks k) ≡ true },
 }
 
-/// A stage of 16 columns, as whole rows.
-#[derive(Drop)]
-pub struct Prepared {
-    pub both: [u8; 32],
-    pub both_state: [u8; 32],
-    pub rest: [u8; 32],
-    pub rest_state: [u8; 32],
+/// For each column, all ones where the half of its table that one value of C chooses has that bit.
+#[derive(Clone, Copy)]
+pub struct Table {
     pub t1: [u8; 16],
     pub t2: [u8; 16],
     pub t4: [u8; 16],
     pub t8: [u8; 16],
+}
+
+/// What the lanes of two rows of columns gather: bytes that are known, columns of the state, outputs of the stage's own
+/// columns, and places of a row; from 128 on none.
+#[derive(Drop)]
+pub struct Gather {
+    pub known: [u8; 32],
+    pub states: [u8; 32],
+    pub heres: [u8; 32],
+    pub terms: Vec<Term>,
+    pub has_here: bool,
+    pub ghost states_in: { (k : ℕ) → k < 32 → is_place (slice_index states k) ≡ true },
+    pub ghost heres_in: { (k : ℕ) → k < 32 → is_place (slice_index heres k) ≡ true },
+}
+
+/// A stage of 16 columns, as whole rows.
+#[derive(Drop)]
+pub struct Prepared {
+    pub both: Gather,
+    pub rest: Gather,
+    pub off: Table,
+    pub on: Table,
+    pub c_bits: [u8; 16],
+    pub c_carry: [u8; 16],
+    pub from_c: [u8; 16],
     pub shifts: [u16; 16],
     pub low: [u8; 16],
+    pub zeros: [u8; 16],
     pub cin: [u8; 16],
     pub sums: [u8; 16],
     pub mask: [u8; 16],
     pub to_output: [u8; 16],
     pub to_a: [u8; 16],
+    pub levels: [u8; 16],
     pub marks: Vec<u8>,
-    pub terms: Vec<Term>,
-    pub rest_terms: Vec<Term>,
+    pub rounds: usize,
     pub has_rest: bool,
+    pub has_c: bool,
+    pub has_carry: bool,
     pub has_sums: bool,
     pub has_state: bool,
     pub reach: usize,
-    pub ghost both_places: { (k : ℕ) → k < 32 → is_place (slice_index both_state k) ≡ true },
-    pub ghost rest_places: { (k : ℕ) → k < 32 → is_place (slice_index rest_state k) ≡ true },
-    pub ghost terms_in: { All (λ t. t.from + 16 ≤ reach) terms.items },
-    pub ghost rest_in: { All (λ t. t.from + 16 ≤ reach) rest_terms.items },
+    pub ghost terms_in: { All (λ t. t.from + 16 ≤ reach) both.terms.items },
+    pub ghost rest_in: { All (λ t. t.from + 16 ≤ reach) rest.terms.items },
 }

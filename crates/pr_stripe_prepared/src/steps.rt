@@ -8,8 +8,7 @@ ghost use Rattle.pr_stripe_columns.specs.Elements.{outputs_of};
 ghost use Rattle.pr_stripe_prepared.specs.Prepared.{IsPrepared};
 
 use crate::lanes::{choose, loaded, row_of, store};
-use crate::operands::operands;
-use crate::results::outputs;
+use crate::rounds::columns;
 use crate::stages::Prepared;
 use pr_lanes::pass_row;
 use std::simd::prelude::*;
@@ -72,12 +71,11 @@ pub fn step(
     ensures state { (pes : List Pe) → IsPrepared q.now pes count → state.new ≡ state_map 16 pes state.old row.now }
 {
     let was = loaded(state);
-    let (a, b) = operands(q, row, was);
-    let output = outputs(q, a, b);
-    pass(registers, before, &q.marks, &output.to_array(), count);
+    let made = columns(q, row, was);
+    pass(registers, before, &q.marks, &made.output.to_array(), count);
     if q.has_state {
-        let first = choose(was, output, row_of(&q.to_output));
-        store(state, choose(first, a, row_of(&q.to_a)));
+        let first = choose(was, made.output, row_of(&q.to_output));
+        store(state, choose(first, made.a, row_of(&q.to_a)));
     }
 }
 

@@ -7,5 +7,5 @@ use Rattle.pr_stripe_prepared.proofs.elements.table_row.Goals as goal
 pub loop-k-preserved : goal.loop-k-preserved
 loop-k-preserved c = record {
   long = length-set c.loop-k.row c.loop-k.k _ ∙ c.loop-k.invariant.long;
-  each = row_more (table_of c.args.bit) c.loop-k.row c.args.pes.now c.loop-k.k _ _ (omega arith) (omega arith) c.table_byte.ensures c.loop-k.invariant.each;
+  each = row_more (table_of c.args.c c.args.bit) c.loop-k.row c.args.pes.now c.loop-k.k _ _ (omega arith) (omega arith) c.table_byte.ensures c.loop-k.invariant.each;
 }

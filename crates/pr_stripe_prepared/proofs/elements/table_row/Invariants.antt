@@ -6,5 +6,5 @@ use Rattle.pr_stripe_prepared.proofs.elements.table_row.Given as goal
 abbrev pub invariant-loop-k : goal.invariant-loop-k
 invariant-loop-k l = record {
   long : length l.row ≡ 16;
-  each : (j : ℕ) (d : Pe) → j < l.k → get_or l.row j 0 ≡ (table_of l.bit) (get_or l.pes j d);
+  each : (j : ℕ) (d : Pe) → j < l.k → get_or l.row j 0 ≡ table_of l.c l.bit (get_or l.pes j d);
 }

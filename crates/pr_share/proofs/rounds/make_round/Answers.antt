@@ -1,0 +1,31 @@
+use Rattle.std.proofs.Common.{refl, arith, ◌∙◌}
+use Rattle.pr_share.proofs.RoundSteps.{sharing_round}
+use Rattle.pr_share.proofs.rounds.make_round.Goals as goal
+
+pub loop-number-init : goal.loop-number-init
+loop-number-init g c = record { sharing = λ firsts start r st. st; count = refl; told = refl; shelf_later = omega arith; out_later = omega arith }
+
+pub loop-number-preserved : goal.loop-number-preserved
+loop-number-preserved g c =
+    let inv = c.loop-number.invariant in
+    record {
+      sharing = λ firsts start r st. c.in-Ok.ensures.next firsts start r (inv.sharing firsts start r st);
+      count = c.take_place.ensures.count ∙ inv.count;
+      told = c.take_place.ensures.told ∙ inv.told;
+      shelf_later = omega (arith, inv.shelf_later, c.take_place.ensures.shelf_later);
+      out_later = omega (arith, inv.out_later, c.take_place.ensures.out_later);
+    }
+
+pub take_place-requires : goal.take_place-requires
+take_place-requires g c =
+    let q = c.requires.sharing in
+    (omega arith, (omega arith, (omega arith, (omega (arith, c.loop-number.invariant.count), (omega (arith, c.loop-number.invariant.count), (q.0, q.1, q.2, c.loop-number.invariant.sharing q.0 q.1 q.2 q.3))))))
+
+pub returns-in-Err-clause-stopped : goal.returns-in-Err-clause-stopped
+returns-in-Err-clause-stopped g c = λ firsts start r st. c.in-Err.ensures.stopped firsts start r (c.loop-number.invariant.sharing firsts start r st)
+
+pub returns-clause-round : goal.returns-clause-round
+returns-clause-round g c = λ firsts start r st.
+    let inv = c.loop-number.invariant in
+    sharing_round (g.S.Shelf.told c.loop-number.shelf) firsts c.loop-number.items start (g.S.Shelf.faults c.loop-number.shelf) (g.K.Sink.told c.loop-number.out) r c.loop-number.number (inv.sharing firsts start r st)
+    (omega (arith, inv.count, c.loop-number-test.false, c.loop-number.auto.number-end))

@@ -1,0 +1,44 @@
+use Rattle.std.proofs.Common.{◌∙◌, refl, arith}
+use Rattle.pr_share.specs.Items.{world}
+use Rattle.pr_share.proofs.RoundSteps.{sharing_start, sharing_end, few_rounds}
+use Rattle.pr_share.proofs.rounds.share.Goals as goal
+
+pub loop-init : goal.loop-init
+loop-init g c = record {
+  sharing = sharing_start (g.S.Shelf.told c.args.shelf.now) c.args.parts.now (g.S.Shelf.faults c.args.shelf.now) (g.K.Sink.told c.args.out.now) c.requires.ready;
+  count = refl;
+  few = omega arith;
+  told = refl;
+  shelf_later = omega arith;
+  out_later = omega arith;
+}
+
+pub returns-then-not-is_going-clause-shared : goal.returns-then-not-is_going-clause-shared
+returns-then-not-is_going-clause-shared g c = λ done.
+    let start = world (g.S.Shelf.told c.args.shelf.now) (g.S.Shelf.faults c.args.shelf.now) (g.K.Sink.told c.args.out.now) in
+    sharing_end (g.S.Shelf.told c.loop.shelf) c.args.parts.now c.loop.parts start (g.S.Shelf.faults c.loop.shelf) (g.K.Sink.told c.loop.out) c.loop.counter c.loop.invariant.sharing (c.is_going.ensures.over cc)
+
+pub returns-in-Err-clause-stopped : goal.returns-in-Err-clause-stopped
+returns-in-Err-clause-stopped g c = λ fault.
+    let start = world (g.S.Shelf.told c.args.shelf.now) (g.S.Shelf.faults c.args.shelf.now) (g.K.Sink.told c.args.out.now) in
+    c.in-Err.ensures.stopped c.args.parts.now start c.loop.counter c.loop.invariant.sharing
+
+pub loop-preserved : goal.loop-preserved
+loop-preserved g c =
+    let inv = c.loop.invariant in
+    let start = world (g.S.Shelf.told c.args.shelf.now) (g.S.Shelf.faults c.args.shelf.now) (g.K.Sink.told c.args.out.now) in
+    let going = c.is_going.ensures.going cc in
+    let few = few_rounds (g.S.Shelf.told c.loop.shelf) c.args.parts.now c.loop.parts start (g.S.Shelf.faults c.loop.shelf) (g.K.Sink.told c.loop.out) c.loop.counter going.place going.item inv.sharing going.here going.going in
+    record {
+      sharing = c.in-Ok.ensures.round c.args.parts.now start c.loop.counter inv.sharing;
+      count = c.make_round.ensures.count ∙ inv.count;
+      few = omega (arith, few);
+      told = c.make_round.ensures.told ∙ inv.told;
+      shelf_later = omega (arith, inv.shelf_later, c.make_round.ensures.shelf_later);
+      out_later = omega (arith, inv.out_later, c.make_round.ensures.out_later);
+    }
+
+pub make_round-requires : goal.make_round-requires
+make_round-requires g c =
+    let start = world (g.S.Shelf.told c.args.shelf.now) (g.S.Shelf.faults c.args.shelf.now) (g.K.Sink.told c.args.out.now) in
+    (omega arith, (omega arith, (omega arith, (omega (arith, c.loop.invariant.count), (c.args.parts.now, start, c.loop.counter, c.loop.invariant.sharing)))))

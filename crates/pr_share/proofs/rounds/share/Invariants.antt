@@ -1,0 +1,13 @@
+use Rattle.std.proofs.Common.{◌≡◌, ◌+◌, ◌^◌, ◌≤◌, length}
+use Rattle.pr_share.specs.Items.{world, IsSharing}
+use Rattle.pr_share.proofs.rounds.share.Given as goal
+
+abbrev pub invariant-loop : goal.invariant-loop
+invariant-loop g l = record {
+  count : length l.parts ≡ length l.initial.parts;
+  sharing : IsSharing l.initial.parts l.parts (world (g.S.Shelf.told l.initial.shelf) (g.S.Shelf.faults l.initial.shelf) (g.K.Sink.told l.initial.out)) (world (g.S.Shelf.told l.shelf) (g.S.Shelf.faults l.shelf) (g.K.Sink.told l.out)) l.counter 0;
+  few : l.counter ≤ 2 ^ 40 + 1;
+  told : g.S.Shelf.told l.shelf ≡ g.S.Shelf.told l.initial.shelf;
+  shelf_later : g.S.Shelf.faults l.initial.shelf ≤ g.S.Shelf.faults l.shelf;
+  out_later : g.K.Sink.faults l.initial.out ≤ g.K.Sink.faults l.out;
+}

@@ -1,0 +1,3 @@
+pub mod Fed
+pub mod Turns
+pub mod Items
