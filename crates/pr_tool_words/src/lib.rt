@@ -14,3 +14,4 @@ pub use calling::{Words, WordsFault, read_words};
 pub use modes::{GenSize, Mode};
 pub use options::Options;
 pub use pr_code::Fabric;
+pub use quantities::number_in;
