@@ -1,0 +1,11 @@
+//! The mode of the tool that runs the programs of a list in turns on the same stripes.
+#![tactic(auto)]
+
+mod ends;
+mod items;
+mod lists;
+mod laws;
+mod shares;
+
+pub use laws::share_law;
+pub use shares::share_list;
