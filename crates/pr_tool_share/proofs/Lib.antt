@@ -4,3 +4,4 @@ pub mod EndLemmas
 pub mod LineLemmas
 pub mod ShareVerdicts
 pub mod SharedLines
+pub mod ShareAnswers

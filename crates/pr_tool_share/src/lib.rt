@@ -8,4 +8,4 @@ mod laws;
 mod shares;
 
 pub use laws::share_law;
-pub use shares::share_list;
+pub use shares::{Sharing, share_list};

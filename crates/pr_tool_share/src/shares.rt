@@ -17,6 +17,17 @@ use pr_share::{ShareEnd, ShareItem, share};
 use pr_tool_answers::Answer;
 use std::alloc::{AllocError, Global};
 
+/// A list of programs that are to take turns.
+#[derive(Clone, Copy, PartialEq, Eq, Debug)]
+pub struct Sharing<'a> {
+    /// The name of the list's file.
+    pub list: &'a str,
+    /// The number of stripes.
+    pub stripes: usize,
+    ghost least: { 2 ≤ stripes },
+    ghost greatest: { stripes ≤ 256 },
+}
+
 /// What programs take turns on.
 #[derive(Drop)]
 struct Place {
@@ -65,15 +76,12 @@ fn take_turns<S: Shelf, K: Sink>(
 /// the samples of a program end otherwise than with the end of their file, its results before are written, and the others go on.
 pub fn share_list<S: Shelf, K: Sink>(
     alloc: Global,
-    list: &str,
-    stripes: usize,
+    sharing: &Sharing<'_>,
     shelf: &mut S,
     out: &mut K,
 ) -> Answer
-    requires two { 2 ≤ stripes }
-    requires most { stripes ≤ 256 }
     // What it came to: a refusal before the turns, or the turns.
-    ensures shared { IsSharedBy list.now (call
+    ensures shared { IsSharedBy sharing.now.list.now (call
         (view (S.told shelf.old) (S.reach shelf.old) (S.faults shelf.old)) (view (S.told shelf.new) (S.reach shelf.new) (S.faults shelf.new))
         (K.told out.old) (K.told out.new) (K.faults out.old) (K.faults out.new)) result }
 
@@ -81,7 +89,7 @@ pub fn share_list<S: Shelf, K: Sink>(
     ensures shelf_later { S.faults shelf.old ≤ S.faults shelf.new }
     ensures out_later { K.faults out.old ≤ K.faults out.new }
 {
-    let entries = match load_list(alloc, shelf, list) {
+    let entries = match load_list(alloc, shelf, sharing.list) {
         Ok(entries) => entries,
         Err(answer) => return answer,
     };
@@ -89,7 +97,7 @@ pub fn share_list<S: Shelf, K: Sink>(
         Ok(items) => items,
         Err(answer) => return answer,
     };
-    match make_place(alloc, stripes) {
+    match make_place(alloc, sharing.stripes) {
         Ok(place) => take_turns(place, &mut items, shelf, out),
         Err(_) => Answer::Memory,
     }
