@@ -101,7 +101,7 @@ pub fn piperench<S: Shelf, K: Sink, E: Sink>(
 }
 
 /// The slices of all inputs at most: the columns of the fabric. The programs of a list are for the base fabric.
-fn input_bytes(words: &Words<'_>) -> u32
+fn input_bytes(words: &Words<'_>) -> u64
     ensures { result ≡ input_bytes (order_of words.now) (order_of words.now).task }
 {
     if let Mode::Share { .. } = words.mode {

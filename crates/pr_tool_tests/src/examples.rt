@@ -263,7 +263,6 @@ const LINES: [Line<'_>; 42] = [
         "end cycles 0 stalls 0 records 0\n",
         "",
     ),
-    (&["share", "p"], Answer::NotYet, 13, "", "not yet\n"),
     (&["run", "p"], Answer::Usage, 2, "", USAGE),
     (&["fly", "p", "s"], Answer::Usage, 2, "", USAGE),
     (
