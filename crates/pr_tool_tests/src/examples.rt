@@ -170,7 +170,7 @@ type Line<'a> = (&'a [&'a str], Answer, u8, &'a str, &'a str);
 const USAGE: &str =
     "usage: piperench MODE FIRST [SECOND] [--stripes P] [--stall FILE] [--fabric F] [--narrow]\n";
 
-const LINES: [Line<'_>; 42] = [
+const LINES: [Line<'_>; 41] = [
     (
         &["--stripes=16", "run", "--fabric", "base", "p", "s"],
         Answer::Ok,
