@@ -84,14 +84,14 @@ item_end files entry first item given is shared =
     ]
 
 -- ---- all programs
-pub list_any-cons : (p : Answer → Bool) (a : Answer) (as : List Answer) → list_any p (a ∷ as) ≡ p a || list_any p as
-list_any-cons p a as = refl
+pub list_any-cons : (p : Answer → Bool) (a : Answer) (rest : List Answer) → list_any p (a ∷ rest) ≡ p a || list_any p rest
+list_any-cons p a rest = refl
 
 or_right : (a b : Bool) → b ≡ true → a || b ≡ true
 or_right true b e = refl
 or_right false b e = e
 
-count-cons : (b : Bool) (bs : List Bool) → count_by (λ x. x) (b ∷ bs) ≡ cond b 1 0 + count_by (λ x. x) bs
+pub count-cons : (b : Bool) (bs : List Bool) → count_by (λ x. x) (b ∷ bs) ≡ cond b 1 0 + count_by (λ x. x) bs
 count-cons b bs = sum_by-cons (λ x. cond x 1 0) b bs
 
 -- all ended as their samples do, or reads failed
@@ -117,14 +117,14 @@ ends_are files (entry ∷ entries) (first ∷ firsts) (item ∷ items) (given �
     let later = ends_are files entries firsts items givens are.1 (omega (arith, m)) (omega (arith, n)) (λ i. all (suc i)) in
     elim (item_end files entry first item given are.0 (all 0 first item given refl refl refl)) [
       | inl is ↦ elim later [
-          | inl rest ↦ inl (ap₂ (λ (a : Answer) (as : List Answer). a ∷ as) is rest)
-          | inr fault ↦ inr (record {
-              some = or_right (is_read_fault (end_of item)) _ fault.some;
-              counted = (let k = fault.counted in omega (arith, counts, k));
-            })
-        ]
-      | inr fault ↦ inr (record {
-          some = ap (λ (a : Answer). is_read_fault a || list_any is_read_fault (map end_of items)) fault.0;
-          counted = (let one : cond {A = ℕ} (has_failed (Some files) first.feed given.last) 1 0 ≡ 1 = ap (λ (b : Bool). cond {A = ℕ} b 1 0) fault.1 in omega (arith, counts, one));
+        | inl rest ↦ inl (ap₂ (λ (a : Answer) (rest : List Answer). a ∷ rest) is rest)
+        | inr fault ↦ inr (record {
+          some = or_right (is_read_fault (end_of item)) _ fault.some;
+          counted = (let k = fault.counted in omega (arith, counts, k));
         })
+      ]
+      | inr fault ↦ inr (record {
+        some = ap (λ (a : Answer). is_read_fault a || list_any is_read_fault (map end_of items)) fault.0;
+        counted = (let one : cond {A = ℕ} (has_failed (Some files) first.feed given.last) 1 0 ≡ 1 = ap (λ (b : Bool). cond {A = ℕ} b 1 0) fault.1 in omega (arith, counts, one));
+      })
     ]

@@ -1,7 +1,8 @@
 -- The programs of a list as they are made ready.
-use Rattle.std.proofs.Common.{◌≡◌, ◌≢◌, ◌⊎◌, ◌≤◌, ◌+◌, ◌∙◌, ◌&&◌, ◌^◌, ℕ, zero, suc, Bool, true, false, cond, List, [], ◌∷◌, ◌++◌, length, map, take, filter, Option, Some, None, slice_get, option_map, is_some, refl, sym, ap, ap₂, subst, arith, inl, inr, true≢false}
-use Rattle.std.specs.Prelude.{nat_le}
-use Rattle.std.proofs.lemmas.Bool.Decides.{nat_tests}
+use Rattle.std.proofs.Common.{◌≡◌, ◌≢◌, ◌⊎◌, ◌≤◌, ◌+◌, ◌∙◌, ◌&&◌, ◌^◌, ℕ, zero, suc, Bool, true, false, cond, List, [], ◌∷◌, ◌++◌, length, map, take, filter, Option, Some, None, slice_get, option_map, is_some, decimal, refl, sym, ap, ap₂, subst, arith, inl, inr, true≢false}
+use Rattle.std.specs.Prelude.{nat_le, bytes_eq, ⊤}
+use Rattle.std.specs.Str.Parse.{digits_value}
+use Rattle.std.proofs.lemmas.Bool.{and_parts, leb-true}
 use Rattle.std.specs.Str.{is_utf8}
 use Rattle.pr_base.specs.declared.caps.Cap.{Cap}
 use Rattle.pr_edge.specs.Files.{Told}
@@ -21,13 +22,18 @@ use Rattle.pr_tool_share.specs.Items.{Item, IsItemOf, AreItemsOf}
 -- a number is no less than the least
 number_least : (least greatest n : ℕ) (text : List ℕ) → number_in least greatest text ≡ Some n → least ≤ n
 unfolding number_in
-number_least least greatest n text is = by_tests _ _ _ _ refl refl is
+number_least least greatest n text is = go _ refl is
   where
-    by_tests : (a b c : Bool) (m : ℕ) → nat_le least m ≡ b → m ≡ m → cond (a && (b && c)) (Some m) None ≡ Some n → least ≤ n
-    by_tests true true true m le e some = let same : m ≡ n = cc in let test : least ≤ m = grind (arith, nat_tests, le) in omega (arith, same, test)
-    by_tests false b c m le e some = absurd (cc)
-    by_tests true false c m le e some = absurd (cc)
-    by_tests true true false m le e some = absurd (cc)
+    m : ℕ
+    m = digits_value 10 text
+
+    go : (b : Bool) → (bytes_eq (decimal m) text && (nat_le least m && nat_le m greatest)) ≡ b → cond b (Some m) None ≡ Some n → least ≤ n
+    go false e some = absurd (let no : None ≡ Some n = some in cc)
+    go true e some =
+        let parts = and_parts (bytes_eq (decimal m) text) _ e in
+        let range = and_parts (nat_le least m) _ parts.1 in
+        let same : m ≡ n = cc in
+        subst (λ (x : ℕ). least ≤ x) same (leb-true _ _ range.0)
 
 abbrev pub HaveLeast : List Entry → Type 0
 HaveLeast [] = ⊤
@@ -90,8 +96,10 @@ refused_at told before mid now (e ∷ entries) items k zero entry cause are here
 refused_at told before mid now (e ∷ entries) [] k (suc i) entry cause are here le is = absurd are
 refused_at told before mid now (e ∷ entries) (x ∷ items) k (suc i) entry cause are here le is =
     let n : k + 1 + i ≡ k + suc i = omega arith in
-    inr (record { N = 16; P = 8; conf = are.0.conf; gives = are.0.compiled },
-    subst (λ (m : ℕ). IsProgramRefusal told before now (k + 1) entries (part_answer m cause)) n (refused_at told before mid now entries items (k + 1) i entry cause are.1 here le is))
+    inr (
+      record { N = 16; P = 8; conf = are.0.conf; gives = are.0.compiled },
+      subst (λ (m : ℕ). IsProgramRefusal told before now (k + 1) entries (part_answer m cause)) n (refused_at told before mid now entries items (k + 1) i entry cause are.1 here le is),
+    )
 
 -- ---- all programs
 pub length-items : (told : Told) (entries : List Entry) (items : List Item) → AreItemsOf told entries items → length items ≡ length entries
@@ -128,13 +136,3 @@ are_compiled told [] [] are = tt
 are_compiled told [] (item ∷ items) are = absurd are
 are_compiled told (entry ∷ entries) [] are = absurd are
 are_compiled told (entry ∷ entries) (item ∷ items) are = (subst (λ (c : Shape). Gives told (source_in entry) 16 8 c) (sym are.0.parked.conf_is) are.0.compiled, are_compiled told entries items are.1)
-
--- at a place
-pub item_at : (told : Told) (entries : List Entry) (items : List Item) (i : ℕ) (entry : Entry) (item : Item) → AreItemsOf told entries items → slice_get entries i ≡ Some entry → slice_get items i ≡ Some item → IsItemOf told entry item
-item_at told [] items i entry item are a b = absurd (let no = a in cc)
-item_at told (e ∷ entries) [] i entry item are a b = absurd are
-item_at told (e ∷ entries) (x ∷ items) zero entry item are a b =
-    let f : e ≡ entry = cc in
-    let g : x ≡ item = cc in
-    subst (λ (y : Entry). IsItemOf told y item) f (subst (λ (y : Item). IsItemOf told e y) g are.0)
-item_at told (e ∷ entries) (x ∷ items) (suc i) entry item are a b = item_at told entries items i entry item are.1 a b

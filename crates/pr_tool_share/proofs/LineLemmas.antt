@@ -8,7 +8,7 @@ use Rattle.std.proofs.lemmas.List.{take-append-drop, take_all, append-nil}
 use Rattle.std.proofs.lemmas.List.Elements.{All-take}
 use Rattle.pr_base.specs.declared.caps.Cap.{Cap}
 use Rattle.pr_base.specs.Rows.{IsRow, written}
-use Rattle.pr_edge.specs.Count.{RoseBy}
+use Rattle.pr_edge.specs.Count.{RoseBy, IsSteady}
 use Rattle.pr_edge.specs.Files.{Told, IsMissing, HasReadCause}
 use Rattle.pr_edge.specs.Tape.{Tape, Appends, AppendsFront}
 use Rattle.pr_conf.specs.Shape.{Shape}
@@ -42,7 +42,7 @@ use Rattle.pr_tool_share.specs.Lists.{HasList, base, source_in}
 use Rattle.pr_tool_share.specs.Items.{Item, IsItemOf, AreItemsOf}
 use Rattle.pr_tool_share.specs.Lines.{samples_of, IsPartOf, ArePartsOf, HaveLines}
 use Rattle.pr_tool_share.proofs.ItemLemmas.{HaveLeast, listed_quotas}
-use Rattle.pr_tool_share.proofs.EndLemmas.{feed_fed, first_fed, missing, tells, not_sample, last_given}
+use Rattle.pr_tool_share.proofs.EndLemmas.{feed_fed, first_fed, count-cons}
 
 -- ---- the program of an entry
 -- what it means
@@ -68,14 +68,21 @@ pub no_samples : (widths : List ℕ) → (fed_in widths []).samples ≡ []
 unfolding fed_at_most fed_text fed_lines lines_of
 no_samples widths = refl
 
+-- what a program with this quota and these results is in the text
+abbrev part_with : ℕ → List (List ℕ) → Part
+part_with quota rows = record { quota = quota; rows = rows }
+
 -- ---- the samples of one program
 -- all its samples
 abbrev pub all_of : (List ℕ → Option (List ℕ)) → Item → List (List ℕ)
 all_of files first = (fed_in (conf_in first.parked).inputs (unwrap_or (files (name_of first.feed)) [])).samples
 
 -- those that it was given and may come to be given
+abbrev pub whole_by : (List ℕ → Option (List ℕ)) → Item → Given → Bool → Given
+whole_by files first given more = record { rows = cond more (all_of files first) given.rows; last = given.last }
+
 abbrev pub whole_of : (List ℕ → Option (List ℕ)) → Item → Given → Given
-whole_of files first given = record { rows = if is_sample given.last then all_of files first else given.rows; last = given.last }
+whole_of files first given = whole_by files first given (is_sample given.last)
 
 -- its feed gave these
 pub record WasFed (files : List ℕ → Option (List ℕ)) (first : Item) (given : Given) : Type 0 where
@@ -96,17 +103,17 @@ module _ (files : List ℕ → Option (List ℕ)) (entry : Entry) (first : Item)
       ∙ ap₂ (λ (n : ℕ) (k : Fed). take n k.samples) was.fed.count (first_fed widths entry.samples first.feed file opened)
 
   -- and all of it where no read failed and no more may follow
-  over_all : (n : ℕ) (file : List ℕ) → files (name_of first.feed) ≡ Some file → given_of was.feed ≡ length (fed was.feed file).samples → given.rows ≡ (fed_in widths file).samples
-  over_all n file e count =
+  over_all : (file : List ℕ) → files (name_of first.feed) ≡ Some file → given_of was.feed ≡ length (fed was.feed file).samples → given.rows ≡ (fed_in widths file).samples
+  over_all file e count =
       let same = feed_fed widths entry.samples first.feed was.feed file opened was.fed.file in
       let all : length given.rows ≡ length (fed_in widths file).samples = sym was.fed.count ∙ (count ∙ ap (λ (k : Fed). length k.samples) same) in
       file_front file e ∙ take_all (length given.rows) (fed_in widths file).samples (omega (arith, all))
 
   ended_all : (file : List ℕ) → files (name_of first.feed) ≡ Some file → (last : Got) → EndsBy last was.feed file → is_sample last ≡ false → has_failed (Some files) first.feed last ≡ false → given.rows ≡ (fed_in widths file).samples
   ended_all file e Got.Sample ends over good = absurd (true≢false over)
-  ended_all file e Got.End ends over good = over_all 0 file e ends.all
-  ended_all file e (Got.BadSample line) ends over good = over_all 0 file e ends.all
-  ended_all file e (Got.Limit cap) ends over good = over_all 0 file e ends.all
+  ended_all file e Got.End ends over good = over_all file e ends.all
+  ended_all file e (Got.BadSample line) ends over good = over_all file e ends.all
+  ended_all file e (Got.Limit cap) ends over good = over_all file e ends.all
   ended_all file e Got.ReadFault ends over good = absurd (true≢false (sym (ap (λ (o : Option (List ℕ)). not (not (is_some o))) e) ∙ good))
 
   pub given_front : given.rows ≡ take (length given.rows) (all_of files first)
@@ -153,7 +160,7 @@ module _ (files : List ℕ → Option (List ℕ)) (entry : Entry) (first : Item)
   pub may_become : MayBecome given (whole_of files first given)
   may_become = by_test (is_sample given.last) refl
     where
-      by_test : (b : Bool) → is_sample given.last ≡ b → MayBecome given (record { rows = cond b (all_of files first) given.rows; last = given.last })
+      by_test : (b : Bool) → is_sample given.last ≡ b → MayBecome given (whole_by files first given b)
       by_test true e = record {
         more = drop (length given.rows) (all_of files first);
         rows = sym (ap (λ (xs : List (List ℕ)). xs ++ drop (length given.rows) (all_of files first)) given_front ∙ take-append-drop (length given.rows) (all_of files first));
@@ -178,7 +185,7 @@ module _ (files : List ℕ → Option (List ℕ)) (entry : Entry) (first : Item)
         rows = rows;
         first = first_rows;
         all = λ good. whole_all good ∙ all;
-        is = ap₂ (λ (q : ℕ) (xs : List (List ℕ)). record { quota = q; rows = xs }) is.parked.quota
+        is = ap₂ part_with is.parked.quota
             (ap (λ (c : Shape). result_numbers 16 8 c (pieces c rows)) is.parked.conf_is ∙ p.means.numbers rows lawful);
       }
 
@@ -217,7 +224,7 @@ same_wholes files [] [] n over = refl
 same_wholes files [] (given ∷ givens) n over = absurd (omega (arith, n))
 same_wholes files (first ∷ firsts) [] n over = absurd (omega (arith, n))
 same_wholes files (first ∷ firsts) (given ∷ givens) n over =
-    ap₂ (λ (b : Bool) (gs : List Given). record { rows = cond b (all_of files first) given.rows; last = given.last } ∷ gs) (over 0 given refl) (same_wholes files firsts givens (omega (arith, n)) (λ i. over (suc i)))
+    ap₂ (λ (b : Bool) (gs : List Given). whole_by files first given b ∷ gs) (over 0 given refl) (same_wholes files firsts givens (omega (arith, n)) (λ i. over (suc i)))
 
 pub have_quotas : (told : Told) (entries : List Entry) (firsts : List Item) (givens : List Given) → AreItemsOf told entries firsts → HaveLeast entries → HaveQuotas (parts_of firsts givens)
 have_quotas told [] [] givens are least = tt
@@ -226,19 +233,27 @@ have_quotas told (entry ∷ entries) [] givens are least = absurd are
 have_quotas told (entry ∷ entries) (first ∷ firsts) [] are least = tt
 have_quotas told (entry ∷ entries) (first ∷ firsts) (given ∷ givens) are least = (subst (λ (n : ℕ). 1 ≤ n) (sym are.0.parked.quota) least.0, have_quotas told entries firsts givens are.1 least.1)
 
+-- none of these is true
+none_counted : (bs : List Bool) → count_by (λ (f : Bool). f) bs ≡ 0 → All (λ (f : Bool). f ≡ false) bs
+none_counted [] none = tt
+none_counted (true ∷ bs) none = absurd (let n = count-cons true bs in omega (arith, n, none))
+none_counted (false ∷ bs) none = (refl, none_counted bs (let n = count-cons false bs in omega (arith, n, none)))
+
 -- the text, whole or its first bytes
 module _ (files : List ℕ → Option (List ℕ)) (list : List ℕ) (entries : List Entry) (firsts : List Item) (givens : List Given) (put : List ℕ → Type 0) (has : HasList (Some files) list entries) (are : AreItemsOf (Some files) entries firsts)
     (n : length givens ≡ length firsts) (fed : WereFed files firsts givens) where
   pub have_lines : (before start now : ℕ) → before ≤ start → RoseBy start now (read_faults (Some files) firsts givens) → put (share_text (parts_of firsts (wholes_in files firsts givens))) → HaveLines files list before now put
   have_lines before start now le rose text =
       let parts = parts_of firsts (wholes_in files firsts givens) in
+      let few : RoseBy before now (count_by (λ (f : Bool). f) (failed_in files firsts givens)) = omega (arith, le, rose) in
       record {
         entries = entries;
         has = has;
         failed = failed_in files firsts givens;
         parts = parts;
         parts_are = are_parts files entries firsts givens are n fed;
-        few = omega (arith, le, rose);
+        few = few;
+        none = λ steady. none_counted (failed_in files firsts givens) (omega (arith, few, steady));
         text = text;
         alone = λ k part e. own_lines parts k part (have_quotas (Some files) entries firsts (wholes_in files firsts givens) are (listed_quotas has.text entries has.listed)) e;
       }

@@ -73,16 +73,16 @@ part_never k (Answer.BadSample line) other h = refl
 part_never k (Answer.Limit which) other h = refl
 part_never k a other h = h
 
-first_never : (k : ℕ) (as : List Answer) → is_never (first_part k as) ≡ false
+first_never : (k : ℕ) (rest : List Answer) → is_never (first_part k rest) ≡ false
 first_never k [] = refl
-first_never k (a ∷ as) = part_never k a (first_part (k + 1) as) (first_never (k + 1) as)
+first_never k (a ∷ rest) = part_never k a (first_part (k + 1) rest) (first_never (k + 1) rest)
 
-all_never : (as : List Answer) → is_never (answer_of_all as) ≡ false
-all_never as = by_test (list_any is_read_fault as)
+all_never : (rest : List Answer) → is_never (answer_of_all rest) ≡ false
+all_never rest = by_test (list_any is_read_fault rest)
   where
-    by_test : (b : Bool) → is_never (cond b Answer.ReadFault (first_part 0 as)) ≡ false
+    by_test : (b : Bool) → is_never (cond b Answer.ReadFault (first_part 0 rest)) ≡ false
     by_test true = refl
-    by_test false = first_never 0 as
+    by_test false = first_never 0 rest
 
 -- ---- a read fault has its cause
 part_good : (k : ℕ) (a other : Answer) → is_read_fault other ≡ false → is_read_fault (part_or k a other) ≡ false
@@ -90,16 +90,16 @@ part_good k (Answer.BadSample line) other h = refl
 part_good k (Answer.Limit which) other h = refl
 part_good k a other h = h
 
-first_good : (k : ℕ) (as : List Answer) → is_read_fault (first_part k as) ≡ false
+first_good : (k : ℕ) (rest : List Answer) → is_read_fault (first_part k rest) ≡ false
 first_good k [] = refl
-first_good k (a ∷ as) = part_good k a (first_part (k + 1) as) (first_good (k + 1) as)
+first_good k (a ∷ rest) = part_good k a (first_part (k + 1) rest) (first_good (k + 1) rest)
 
-some_fault : (as : List Answer) → answer_of_all as ≡ Answer.ReadFault → list_any is_read_fault as ≡ true
-some_fault as is = by_test (list_any is_read_fault as) refl is
+some_fault : (rest : List Answer) → answer_of_all rest ≡ Answer.ReadFault → list_any is_read_fault rest ≡ true
+some_fault rest is = by_test (list_any is_read_fault rest) refl is
   where
-    by_test : (b : Bool) → list_any is_read_fault as ≡ b → cond b Answer.ReadFault (first_part 0 as) ≡ Answer.ReadFault → b ≡ true
+    by_test : (b : Bool) → list_any is_read_fault rest ≡ b → cond b Answer.ReadFault (first_part 0 rest) ≡ Answer.ReadFault → b ≡ true
     by_test true e is = refl
-    by_test false e is = absurd (true≢false (sym (ap is_read_fault is) ∙ first_good 0 as))
+    by_test false e is = absurd (true≢false (sym (ap is_read_fault is) ∙ first_good 0 rest))
 
 -- a shelf that tells nothing misses no file
 untold_failed : (f : Feed) (last : Got) → is_read_fault (answer_by last) ≡ true → has_failed None f last ≡ true

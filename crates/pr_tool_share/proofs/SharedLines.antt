@@ -1,5 +1,6 @@
 -- From what the mode came to, to what it has written.
 use Rattle.std.proofs.Common.{◌≡◌, ◌⊎◌, ◌≤◌, ◌+◌, ◌∙◌, ◌^◌, not, ℕ, zero, suc, Bool, true, false, cond, List, All, [], ◌∷◌, length, map, Option, Some, None, slice_get, refl, sym, ap, subst, arith, inl, inr, true≢false}
+use Rattle.std.specs.Prelude.{⊤}
 use Rattle.std.specs.List.{list_any}
 use Rattle.std.specs.Bool.{MatchBool}
 use Rattle.std.proofs.lemmas.Bool.{cases_eq}
@@ -98,7 +99,7 @@ verdict_limit widths (Some file) = ended_limit (fed_at_most (2 ^ 40) widths file
 
 abbrev AreOfSamples : List Answer → Type 0
 AreOfSamples [] = ⊤
-AreOfSamples (a ∷ as) = IsOfSamples a × AreOfSamples as
+AreOfSamples (a ∷ rest) = IsOfSamples a × AreOfSamples rest
 
 items_limits : (files : List ℕ → Option (List ℕ)) (entries : List Entry) (firsts items : List Item) (givens : List Given) → AreItemsOf (Some files) entries firsts → length items ≡ length firsts → length givens ≡ length firsts
     → AreAll (Some files) firsts items givens → AreOfSamples (map end_of items)
@@ -107,11 +108,13 @@ items_limits files [] [] (item ∷ items) givens are m n all = absurd (omega (ar
 items_limits files [] (first ∷ firsts) (item ∷ items) givens are m n all = absurd are
 items_limits files (entry ∷ entries) [] (item ∷ items) givens are m n all = absurd are
 items_limits files (entry ∷ entries) (first ∷ firsts) (item ∷ items) [] are m n all = absurd (omega (arith, n))
-items_limits files (entry ∷ entries) (first ∷ firsts) (item ∷ items) (given ∷ givens) are m n all =
-    (elim (item_end files entry first item given are.0 (all 0 first item given refl refl refl)) [
-      | inl is ↦ subst IsOfSamples (sym is) (verdict_limit (conf_in first.parked).inputs (files entry.samples))
-      | inr fault ↦ subst IsOfSamples (sym fault.0) tt
-    ], items_limits files entries firsts items givens are.1 (omega (arith, m)) (omega (arith, n)) (λ i. all (suc i)))
+items_limits files (entry ∷ entries) (first ∷ firsts) (item ∷ items) (given ∷ givens) are m n all = (
+  elim (item_end files entry first item given are.0 (all 0 first item given refl refl refl)) [
+    | inl is ↦ subst IsOfSamples (sym is) (verdict_limit (conf_in first.parked).inputs (files entry.samples))
+    | inr fault ↦ subst IsOfSamples (sym fault.0) tt
+  ],
+  items_limits files entries firsts items givens are.1 (omega (arith, m)) (omega (arith, n)) (λ i. all (suc i)),
+)
 
 samples_limit : (whole none : Type 0) (which : Cap) → is_of_samples which ≡ true → whole → ByLimit whole none which
 samples_limit whole none Cap.SampleBytes is h = h
@@ -132,16 +135,16 @@ part_lines whole cut none k (Answer.BadSample line) other is w h = w
 part_lines whole cut none k (Answer.Limit which) other is w h = samples_limit whole none which is w
 part_lines whole cut none k a other is w h = h
 
-first_lines : (whole cut none : Type 0) (k : ℕ) (as : List Answer) → AreOfSamples as → whole → ByEnd whole cut none (first_part k as)
+first_lines : (whole cut none : Type 0) (k : ℕ) (rest : List Answer) → AreOfSamples rest → whole → ByEnd whole cut none (first_part k rest)
 first_lines whole cut none k [] are w = w
-first_lines whole cut none k (a ∷ as) are w = part_lines whole cut none k a (first_part (k + 1) as) are.0 w (first_lines whole cut none (k + 1) as are.1 w)
+first_lines whole cut none k (a ∷ rest) are w = part_lines whole cut none k a (first_part (k + 1) rest) are.0 w (first_lines whole cut none (k + 1) rest are.1 w)
 
-done_lines : (whole cut none : Type 0) (as : List Answer) → AreOfSamples as → whole → ByEnd whole cut none (answer_of_all as)
-done_lines whole cut none as are w = by_test (list_any is_read_fault as)
+done_lines : (whole cut none : Type 0) (rest : List Answer) → AreOfSamples rest → whole → ByEnd whole cut none (answer_of_all rest)
+done_lines whole cut none rest are w = by_test (list_any is_read_fault rest)
   where
-    by_test : (b : Bool) → ByEnd whole cut none (cond b Answer.ReadFault (first_part 0 as))
+    by_test : (b : Bool) → ByEnd whole cut none (cond b Answer.ReadFault (first_part 0 rest))
     by_test true = inr w
-    by_test false = first_lines whole cut none 0 as are w
+    by_test false = first_lines whole cut none 0 rest are w
 
 no_sample : (last : Got) → (last ≡ Got.Sample → ⊥) → is_sample last ≡ false
 no_sample Got.Sample no = absurd (no refl)

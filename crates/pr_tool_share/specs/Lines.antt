@@ -1,9 +1,9 @@
 -- What the programs of a list have written.
-use Rattle.std.specs.Prelude.{◌≡◌, ◌⊎◌, ℕ, Bool, true, false, List, [], ◌∷◌, length, take, Option, Some, unwrap_or, slice_get}
+use Rattle.std.specs.Prelude.{◌≡◌, ◌⊎◌, ℕ, Bool, true, false, List, All, [], ◌∷◌, length, take, Option, Some, unwrap_or, slice_get, ⊤}
 use Rattle.std.specs.List.{count_by}
 use Rattle.pr_base.specs.declared.caps.Cap.{Cap}
 use Rattle.pr_base.specs.Rows.{written}
-use Rattle.pr_edge.specs.Count.{RoseBy}
+use Rattle.pr_edge.specs.Count.{RoseBy, IsSteady}
 use Rattle.pr_edge.specs.Tape.{Appends, AppendsFront}
 use Rattle.pr_lang.specs.declared.trees.Program.{Program}
 use Rattle.pr_lang_meaning.specs.Programs.{out}
@@ -37,8 +37,8 @@ ArePartsOf files [] [] [] = ⊤
 ArePartsOf files (entry ∷ entries) (failed ∷ faults) (part ∷ parts) = IsPartOf files entry failed part × ArePartsOf files entries faults parts
 ArePartsOf files entries faults parts = ⊥
 
--- the text of their turns is put; at most as many reads of samples failed as the count of the shelf's faults rose by. The lines of
--- each program in the text are those that it writes alone
+-- the text of their turns is put; at most as many reads of samples failed as the count of the shelf's faults rose by, and none where
+-- it did not rise. The lines of each program in the text are those that it writes alone
 pub record HaveLines (files : List ℕ → Option (List ℕ)) (list : List ℕ) (before now : ℕ) (put : List ℕ → Type 0) : Type 0 where
   pub entries : List Entry
   pub has : HasList (Some files) list entries
@@ -46,6 +46,7 @@ pub record HaveLines (files : List ℕ → Option (List ℕ)) (list : List ℕ) 
   pub parts : List Part
   pub parts_are : ArePartsOf files entries failed parts
   pub few : RoseBy before now (count_by (λ f. f) failed)
+  pub none : IsSteady before now → All (λ f. f ≡ false) failed
   pub text : put (share_text parts)
   pub alone : (k : ℕ) (part : Part) → slice_get parts k ≡ Some part → lines_of_program k (share_text parts) ≡ written part.rows
 

@@ -3,8 +3,8 @@
 
 mod ends;
 mod items;
-mod lists;
 mod laws;
+mod lists;
 mod shares;
 
 pub use laws::share_law;

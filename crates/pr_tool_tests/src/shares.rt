@@ -34,9 +34,27 @@ type Case<'a> = (&'a str, Answer, u8, &'a str, &'a str);
 
 const CASES: [Case<'_>; 14] = [
     ("r q 1\np s 2\n", Answer::Ok, 0, LINES, ""),
-    ("\n r q 1\n", Answer::BadList { line: 2 }, 14, "", "bad list: line 2\n"),
-    ("", Answer::BadList { line: 1 }, 14, "", "bad list: line 1\n"),
-    ("r q 0\n", Answer::BadList { line: 1 }, 14, "", "bad list: line 1\n"),
+    (
+        "\n r q 1\n",
+        Answer::BadList { line: 2 },
+        14,
+        "",
+        "bad list: line 2\n",
+    ),
+    (
+        "",
+        Answer::BadList { line: 1 },
+        14,
+        "",
+        "bad list: line 1\n",
+    ),
+    (
+        "r q 0\n",
+        Answer::BadList { line: 1 },
+        14,
+        "",
+        "bad list: line 1\n",
+    ),
     (
         "r q 1\np b 2",
         Answer::Part {
@@ -57,8 +75,20 @@ const CASES: [Case<'_>; 14] = [
         "0: 6\n1: 6\n0: 254\n1: 254\n",
         "program 0: bad sample: line 3\n",
     ),
-    ("r n 1\np s 1000000\n", Answer::ReadFault, 10, "1: 6\n1: 254\n", "read fault\n"),
-    ("p b 9\nr n 1\n", Answer::ReadFault, 10, "0: 6\n0: 254\n", "read fault\n"),
+    (
+        "r n 1\np s 1000000\n",
+        Answer::ReadFault,
+        10,
+        "1: 6\n1: 254\n",
+        "read fault\n",
+    ),
+    (
+        "p b 9\nr n 1\n",
+        Answer::ReadFault,
+        10,
+        "0: 6\n0: 254\n",
+        "read fault\n",
+    ),
     ("r q 1\nn s 2\n", Answer::ReadFault, 10, "", "read fault\n"),
     (
         "r q 1\ng s 2\nn s 1\n",
@@ -116,7 +146,15 @@ fn lists(rt: HostRuntime) -> Result<(), Fail> {
             note,
         };
         for stripes in ["2", "16"] {
-            let words = ["share", "l", "--stripes", stripes, "--fabric", "wide", "--narrow"];
+            let words = [
+                "share",
+                "l",
+                "--stripes",
+                stripes,
+                "--fabric",
+                "wide",
+                "--narrow",
+            ];
             check_call(&rt, alloc, &words, files(alloc, list)?, wanted)?;
         }
     }
