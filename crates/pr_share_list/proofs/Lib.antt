@@ -1,2 +1,4 @@
 pub mod WordFacts
 pub mod ListLaws
+pub mod QuotaFacts
+pub mod Reading

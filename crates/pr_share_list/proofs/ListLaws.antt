@@ -1,11 +1,12 @@
 -- Lists of lines: what they say, and where they are wrong.
-use Rattle.std.proofs.Common.{◌≡◌, ◌⊎◌, ℕ, zero, suc, ◌+◌, ◌<◌, ◌≤◌, cond, not, Bool, true, false, List, [], ◌∷◌, ◌++◌, length, map, take, drop, filter, Option, Some, None, slice_get, refl, sym, ap, ap₂, ◌∙◌, subst, arith, inl, inr, append-nil, length-append}
-use Rattle.std.proofs.lemmas.Bool.{cases_lt, cases_eq}
-use Rattle.std.proofs.lemmas.List.{map-append, length-map, take_all, take_at}
+use Rattle.std.proofs.Common.{◌≡◌, ◌⊎◌, ℕ, zero, suc, ◌+◌, ◌<◌, ◌≤◌, cond, true, false, List, [], ◌∷◌, ◌++◌, length, map, take, drop, filter, Option, Some, None, slice_get, refl, sym, ap, ap₂, ◌∙◌, subst, arith, inl, inr, append-nil, length-append}
+use Rattle.std.proofs.lemmas.Bool.{cases_lt}
+use Rattle.std.proofs.lemmas.List.{map-append, length-map, drop_all, take_at}
 use Rattle.std.proofs.lemmas.List.Elements.{filter-append}
-use Rattle.pr_samples.specs.Lines.{Lines, lines_of, is_empty}
+use Rattle.std.specs.List.{position}
+use Rattle.pr_samples.specs.Lines.{Lines, is_empty}
 use Rattle.pr_share_list.specs.List.{Entry, list_lines, counts, entry_of, Say, IsListed, IsWrong, IsBare, IsBadAt}
-use Rattle.pr_share_list.proofs.WordFacts.{line_end, line_and, first_line, no_line, lines_none}
+use Rattle.pr_share_list.proofs.WordFacts.{is_end, line_end, end_none, end_some, first_line, no_line, lines_none}
 
 -- ---- the lines of a text
 pub lines_end : list_lines [] ≡ []
@@ -17,6 +18,16 @@ lines_first text h = ap (λ (l : Lines). l.whole ++ cond (is_empty l.last) [] (l
 pub lines_only : (text : List ℕ) → 0 < length text → length text ≤ line_end text → list_lines text ≡ text ∷ list_lines []
 lines_only [] some h = absurd (omega arith)
 lines_only (b ∷ text) some h = ap (λ (l : Lines). l.whole ++ cond (is_empty l.last) [] (l.last ∷ [])) (no_line (b ∷ text) h) ∙ ap (λ xs. (b ∷ text) ∷ xs) (sym lines_end)
+
+-- the first line of a text, by the place of its first LF
+pub lines_split : (text : List ℕ) (end : ℕ) → position is_end text ≡ Some end → end < length text → list_lines text ≡ take end text ∷ list_lines (drop (end + 1) text)
+lines_split text end e h =
+    let is = end_some text end e in
+    lines_first text (omega (arith, is, h)) ∙ ap (λ n. take n text ∷ list_lines (drop (n + 1) text)) is
+
+pub lines_one : (text : List ℕ) → 0 < length text → position is_end text ≡ None → list_lines text ≡ text ∷ list_lines (drop (length text) text)
+lines_one text some e =
+    lines_only text some (end_none text e) ∙ ap (λ xs. text ∷ list_lines xs) (sym (drop_all (length text) text (omega arith)))
 
 -- ---- lines that say something
 filter_one : (line : List ℕ) → counts line ≡ true → filter counts (line ∷ []) ≡ line ∷ []
@@ -105,8 +116,8 @@ not_wrong : (lines : List (List ℕ)) (m : ℕ) (bytes : List ℕ) (before all :
 not_wrong lines m bytes before all e c s wrong a =
     let rest = map entry_of (filter counts (drop (m + 1) lines)) in
     let split : map Some all ≡ map Some before ++ entry_of bytes ∷ rest =
-        sym a.entries_are ∙ (ap (map entry_of) (counted_here lines m bytes e c)
-        ∙ (map-append entry_of (filter counts (take m lines)) (bytes ∷ filter counts (drop (m + 1) lines)) ∙ ap (λ xs. xs ++ entry_of bytes ∷ rest) s.entries_are)) in
+    sym a.entries_are ∙ (ap (map entry_of) (counted_here lines m bytes e c)
+    ∙ (map-append entry_of (filter counts (take m lines)) (bytes ∷ filter counts (drop (m + 1) lines)) ∙ ap (λ xs. xs ++ entry_of bytes ∷ rest) s.entries_are)) in
     let h = somes_more all before (entry_of bytes) rest split in
     elim wrong [ inl none ↦ h.1 none | inr full ↦ absurd (let few = a.few in omega (arith, h.0, full)) ]
 

@@ -1,7 +1,7 @@
 -- The words of a line, and the lines of a text, by the places of their ends.
-use Rattle.std.proofs.Common.{◌≡◌, ℕ, zero, suc, ◌+◌, ◌<◌, ◌≤◌, ◌==◌, ltb, cond, not, Bool, true, false, List, [], ◌∷◌, ◌++◌, ◌&&◌, length, take, drop, Option, Some, None, unwrap_or, refl, sym, ap, ap₂, ◌∙◌, arith, true≢false}
+use Rattle.std.proofs.Common.{◌≡◌, ℕ, suc, ◌+◌, ◌<◌, ◌≤◌, ◌==◌, ltb, cond, not, Bool, true, false, List, [], ◌∷◌, ◌++◌, ◌&&◌, length, take, drop, Option, Some, None, unwrap_or, IsSome, refl, sym, ap, ap₂, ◌∙◌, subst, arith, true≢false}
 use Rattle.std.specs.List.{position, position_or_len}
-use Rattle.std.proofs.lemmas.Bool.{ltb-true}
+use Rattle.std.proofs.lemmas.Bool.{eqb-true, eq-eqb}
 use Rattle.pr_samples.specs.Lines.{Lines, lines_of, is_blank, with_letter, begins_apart, words_of, without_return, is_empty}
 
 -- ---- places
@@ -136,6 +136,23 @@ pub without_return-nil : without_return [] ≡ []
 unfolding without_return
 without_return-nil = refl
 
+-- a CR at the end is cut off, and nothing else is
+pub return_cut : (line before : List ℕ) (last : ℕ) → line ≡ before ++ last ∷ [] → last ≡ 13 → before ≡ without_return line
+return_cut line before last e t =
+    sym (ap without_return e ∙ (without_return-last before last ∙ ap (λ b. cond b before (before ++ last ∷ [])) (eq-eqb last 13 t)))
+
+pub return_kept : (line before : List ℕ) (last : ℕ) → line ≡ before ++ last ∷ [] → (last ≡ 13 → ⊥) → line ≡ without_return line
+return_kept line before last e other =
+    e ∙ sym (ap without_return e ∙ (without_return-last before last ∙ by_test (last == 13) refl))
+  where
+    by_test : (t : Bool) → (last == 13) ≡ t → cond t before (before ++ last ∷ []) ≡ before ++ last ∷ []
+    by_test true is = absurd (other (eqb-true last 13 is))
+    by_test false is = refl
+
+pub return_none : {A : Type 0} (o : Option A) (line : List ℕ) → o ≡ None → (0 < length line → IsSome o) → line ≡ without_return line
+return_none o [] e some = sym without_return-nil
+return_none {A} o (b ∷ line) e some = absurd (true≢false (sym (subst (λ (r : Option A). IsSome r) e (some (omega arith)))))
+
 -- ---- lines
 abbrev pub is_end : ℕ → Bool
 is_end b = b == 10
@@ -197,3 +214,15 @@ word_found line rest n k e f g =
     let at : rest ≡ after_blanks line = f ∙ ap (λ m. drop m line) (e ∙ place_or_len (λ b. not (is_blank b)) line) in
     let end : k ≡ letters (after_blanks line) = g ∙ (place_or_len is_blank rest ∙ ap letters at) in
     (ap₂ (λ m xs. take m xs) end at, ap₂ (λ m xs. drop m xs) end at)
+
+pub empty_test : (word : List ℕ) → is_empty word ≡ (length word == 0)
+empty_test [] = refl
+empty_test (x ∷ word) = grind arith
+
+pub end_none : (text : List ℕ) → position is_end text ≡ None → length text ≤ line_end text
+end_none text e =
+    let n : line_end text ≡ length text = sym (place_or_len is_end text) ∙ ap (λ o. unwrap_or o (length text)) e in
+    omega (arith, n)
+
+pub end_some : (text : List ℕ) (end : ℕ) → position is_end text ≡ Some end → line_end text ≡ end
+end_some text end e = sym (place_or_len is_end text) ∙ ap (λ o. unwrap_or o (length text)) e

@@ -1,5 +1,5 @@
 -- A line of a list, as the code sees it.
-use Rattle.std.specs.Prelude.{◌≡◌, ℕ, true, false, List, Option, Some, None, option_map}
+use Rattle.std.specs.Prelude.{◌≡◌, ℕ, true, false, List, Some, None}
 use Rattle.pr_share_list.specs.declared.lines.Line.{Line}
 use Rattle.pr_share_list.specs.declared.lines.Said.{Said}
 use Rattle.pr_share_list.specs.List.{Entry, entry_in, entry_of, counts}

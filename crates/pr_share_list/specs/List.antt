@@ -1,5 +1,5 @@
 -- Lists of programs: a line for each program.
-use Rattle.std.specs.Prelude.{◌≡◌, ◌≤◌, ◌<◌, ◌+◌, ◌⊎◌, ◌++◌, ◌&&◌, ℕ, Bool, true, false, not, List, [], ◌∷◌, length, map, take, filter, Option, Some, None, option_map, slice_get, string_bytes, if◌then◌else◌}
+use Rattle.std.specs.Prelude.{◌≡◌, ◌≤◌, ◌+◌, ◌⊎◌, ◌++◌, ◌&&◌, ℕ, Bool, true, not, List, [], ◌∷◌, length, map, take, filter, Option, Some, None, option_map, slice_get, string_bytes, if◌then◌else◌}
 use Rattle.std.specs.Str.{is_utf8}
 use Rattle.pr_samples.specs.Lines.{lines_of, words_of, without_return, begins_apart, is_empty}
 use Rattle.pr_tool_words.specs.Lawful.{number_in}

@@ -1,5 +1,6 @@
 //! The lines of a list.
-ghost use Rattle.std.specs.Prelude.{◌≡◌, ◌<◌, ◌∷◌, IfOk, length, option_map};
+ghost use Rattle.std.specs.Prelude.{◌≡◌, ◌<◌, ◌==◌, [], ◌∷◌, true, false, None, IfOk, IfSome, MatchOption, length, position, option_map};
+ghost use Rattle.std.specs.Str.{is_utf8};
 ghost use Rattle.pr_samples.specs.Lines.{words_of, without_return};
 ghost use Rattle.pr_share_list.specs.List.{entry_by, list_lines};
 ghost use Rattle.pr_share_list.specs.Line.{IsLine, entry_said};
@@ -42,14 +43,22 @@ pub enum Line {
 /// The greatest quota.
 const GREATEST_QUOTA: u32 = 1_000_000;
 
+/// The place of the first LF.
+fn first_end(text: &[u8]) -> Option<usize>
+    ensures place { result ≡ position (λ b. b == 10) text.now }
+    ensures within { IfSome result (λ n. n < length text.now) }
+{
+    text.iter().position(|b| *b == b'\n')
+}
+
 /// The first line of a text, without its LF, and the text after it.
 pub(crate) fn split_line(text: &[u8]) -> (&[u8], &[u8])
     requires { 0 < length text.now }
     ensures lines { list_lines text.now ≡ result.0.now ∷ list_lines result.1.now }
     ensures shorter { length result.1.now < length text.now }
 {
-    match text.iter().position(|b| *b == b'\n') {
-        None => text.split_at(text.len()),
+    match first_end(text) {
+        None => (text, &text[text.len()..]),
         Some(end) => (&text[..end], &text[end + 1..]),
     }
 }
@@ -59,8 +68,32 @@ fn without_return(line: &[u8]) -> &[u8]
     ensures { result.now ≡ without_return line.now }
 {
     match line.split_last() {
-        Some((b'\r', before)) => before,
+        Some((last, before)) if *last == b'\r' => before,
         _ => line,
+    }
+}
+
+/// The text that these bytes are, if they are UTF-8.
+fn text_of(bytes: &[u8]) -> Option<&str>
+    ensures { MatchOption result (is_utf8 bytes.now ≡ false) (λ s. (s.now ≡ bytes.now) × (is_utf8 bytes.now ≡ true)) }
+{
+    match from_utf8(bytes) {
+        Ok(text) => Some(text),
+        Err(_) => None,
+    }
+}
+
+/// The words of a line that has three.
+fn three_words(line: &[u8]) -> Option<(&[u8], &[u8], &[u8])>
+    ensures { MatchOption result (entry_by (words_of line.now) ≡ None)
+        (λ w. words_of line.now ≡ w.0.now ∷ w.1.now ∷ w.2.now ∷ []) }
+{
+    let (program, rest) = next_word(line)?;
+    let (samples, rest) = next_word(rest)?;
+    let (quota, rest) = next_word(rest)?;
+    match next_word(rest) {
+        None => Some((program, samples, quota)),
+        Some(_) => None,
     }
 }
 
@@ -68,15 +101,10 @@ fn without_return(line: &[u8]) -> &[u8]
 fn program_of(line: &[u8]) -> Option<Said>
     ensures { option_map entry_said result ≡ entry_by (words_of line.now) }
 {
-    let (program, rest) = next_word(line)?;
-    let (samples, rest) = next_word(rest)?;
-    let (quota, rest) = next_word(rest)?;
-    if next_word(rest).is_some() {
-        return None;
-    }
-    let program = from_utf8(program).ok()?;
-    let samples = from_utf8(samples).ok()?;
-    let quota = number_in(from_utf8(quota).ok()?, 1, GREATEST_QUOTA)?;
+    let (program, samples, quota) = three_words(line)?;
+    let program = text_of(program)?;
+    let samples = text_of(samples)?;
+    let quota = number_in(text_of(quota)?, 1, GREATEST_QUOTA)?;
     Some(Said {
         program,
         samples,

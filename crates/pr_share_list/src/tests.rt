@@ -21,7 +21,9 @@ fn is_entry(entry: &Entry, program: &str, samples: &str, quota: u32) -> bool {
 #[test]
 fn names_and_quotas(rt: HostRuntime) -> Result<(), Fail> {
     let text = b"a.pipe a.txt 1\n\n \t\r\nb\rc \t d 1000000 \r\n\xc3\xa9 x 10";
-    let entries = read_list(rt.alloc(), text).ok().expect(&rt, "a lawful list");
+    let entries = read_list(rt.alloc(), text)
+        .ok()
+        .expect(&rt, "a lawful list");
     assert_eq!(rt; entries.len(), 3);
     assert!(rt; is_entry(&entries[0], "a.pipe", "a.txt", 1));
     assert!(rt; is_entry(&entries[1], "b\rc", "d", 1_000_000));
@@ -43,7 +45,10 @@ fn bad_lines(rt: HostRuntime) -> Result<(), Fail> {
         (b"a b 1000001", 1),
         (b"a b 1\n\na b 01", 3),
         (b"\xff b 1\n", 1),
-        (b"a b 1\na b 1\na b 1\na b 1\n\na b 1\na b 1\na b 1\na b 1\na b 1\n", 10),
+        (
+            b"a b 1\na b 1\na b 1\na b 1\n\na b 1\na b 1\na b 1\na b 1\na b 1\n",
+            10,
+        ),
     ];
     for (text, line) in rows {
         assert_eq!(rt; bad_line(rt.alloc(), text), Some(line));

@@ -1,5 +1,5 @@
 //! The words of a line.
-ghost use Rattle.std.specs.Prelude.{◌≡◌, ◌≤◌, not, [], ◌∷◌, length, position, unwrap_or, MatchOption};
+ghost use Rattle.std.specs.Prelude.{◌≡◌, ◌≤◌, ◌<◌, not, [], ◌∷◌, length, position, unwrap_or, IfSome, MatchOption};
 ghost use Rattle.pr_samples.specs.Lines.{is_blank, words_of, begins_apart};
 
 /// Whether a byte is a blank.
@@ -19,14 +19,28 @@ pub(crate) fn begins_apart(line: &[u8]) -> bool
     }
 }
 
+/// The place of the first byte that is no blank.
+fn first_letter(line: &[u8]) -> Option<usize>
+    ensures place { result ≡ position (λ b. not (is_blank b)) line.now }
+    ensures within { IfSome result (λ n. n < length line.now) }
+{
+    line.iter().position(|b| !is_blank(*b))
+}
+
+/// The place of the first blank.
+fn first_blank(line: &[u8]) -> Option<usize>
+    ensures place { result ≡ position is_blank line.now }
+    ensures within { IfSome result (λ n. n < length line.now) }
+{
+    line.iter().position(|b| is_blank(*b))
+}
+
 /// The number of blanks at the front of a line.
 fn blanks(line: &[u8]) -> usize
     ensures count { result ≡ unwrap_or (position (λ b. not (is_blank b)) line.now) (length line.now) }
     ensures within { result ≤ length line.now }
 {
-    line.iter()
-        .position(|b| !is_blank(*b))
-        .unwrap_or(line.len())
+    first_letter(line).unwrap_or(line.len())
 }
 
 /// The number of bytes before the first blank of a line.
@@ -34,9 +48,7 @@ fn letters(line: &[u8]) -> usize
     ensures count { result ≡ unwrap_or (position is_blank line.now) (length line.now) }
     ensures within { result ≤ length line.now }
 {
-    line.iter()
-        .position(|b| is_blank(*b))
-        .unwrap_or(line.len())
+    first_blank(line).unwrap_or(line.len())
 }
 
 /// The first word of a line, and what follows it.
