@@ -84,8 +84,9 @@ item_end files entry first item given is shared =
     ]
 
 -- ---- all programs
-pub list_any-cons : (p : Answer → Bool) (a : Answer) (rest : List Answer) → list_any p (a ∷ rest) ≡ p a || list_any p rest
-list_any-cons p a rest = refl
+pub ends_any : (items : List Item) → list_any is_read_fault (map end_of items) ≡ list_any (λ (i : Item). is_read_fault (end_of i)) items
+ends_any [] = refl
+ends_any (item ∷ items) = ap (λ (b : Bool). is_read_fault (end_of item) || b) (ends_any items)
 
 or_right : (a b : Bool) → b ≡ true → a || b ≡ true
 or_right true b e = refl

@@ -101,6 +101,12 @@ refused_at told before mid now (e ∷ entries) (x ∷ items) k (suc i) entry cau
       subst (λ (m : ℕ). IsProgramRefusal told before now (k + 1) entries (part_answer m cause)) n (refused_at told before mid now entries items (k + 1) i entry cause are.1 here le is),
     )
 
+-- one was refused after other files were read
+pub program_earlier : (told : Told) (before mid now k : ℕ) (entries : List Entry) (a : Answer) → before ≤ mid → IsProgramRefusal told mid now k entries a → IsProgramRefusal told before now k entries a
+program_earlier told before mid now k [] a le is = absurd is
+program_earlier told before mid now k (entry ∷ entries) a le (inl part) = inl (record { cause = part.cause; refused = source_earlier told entry before mid now part.cause le part.refused; answers = part.answers })
+program_earlier told before mid now k (entry ∷ entries) a le (inr later) = inr (later.0, program_earlier told before mid now (k + 1) entries a le later.1)
+
 -- ---- all programs
 pub length-items : (told : Told) (entries : List Entry) (items : List Item) → AreItemsOf told entries items → length items ≡ length entries
 length-items told [] [] are = refl

@@ -5,7 +5,7 @@ use Rattle.std.specs.Simd.Lanes.{zip2}
 use Rattle.std.specs.Bool.{MatchBool}
 use Rattle.std.proofs.Math.Seq.{take-length}
 use Rattle.std.proofs.lemmas.List.{take-append-drop, take_all, append-nil}
-use Rattle.std.proofs.lemmas.List.Elements.{All-take}
+use Rattle.std.proofs.lemmas.List.Elements.{All-take, All-nil, All-cons}
 use Rattle.pr_base.specs.declared.caps.Cap.{Cap}
 use Rattle.pr_base.specs.Rows.{IsRow, written}
 use Rattle.pr_edge.specs.Count.{RoseBy, IsSteady}
@@ -19,7 +19,7 @@ use Rattle.pr_lang_meaning.specs.Programs.{out}
 use Rattle.pr_samples.specs.declared.feed.Feed.{Feed}
 use Rattle.pr_samples.specs.declared.feed.Got.{Got}
 use Rattle.pr_samples.specs.Fed.{Fed, fed_text, fed_lines}
-use Rattle.pr_samples.specs.Lines.{lines_of}
+use Rattle.pr_samples.specs.Lines.{lines_of, words_of, without_return}
 use Rattle.pr_samples.specs.Feed.{name_of, given_of, fed}
 use Rattle.pr_samples.specs.Got.{is_sample}
 use Rattle.pr_run.specs.Turns.{EndsBy, MayFollow}
@@ -65,7 +65,7 @@ program_in files entry conf gives =
 
 -- a file without bytes has no samples
 pub no_samples : (widths : List ℕ) → (fed_in widths []).samples ≡ []
-unfolding fed_at_most fed_text fed_lines lines_of
+unfolding fed_at_most fed_text fed_lines lines_of words_of without_return
 no_samples widths = refl
 
 -- what a program with this quota and these results is in the text
@@ -235,9 +235,9 @@ have_quotas told (entry ∷ entries) (first ∷ firsts) (given ∷ givens) are l
 
 -- none of these is true
 none_counted : (bs : List Bool) → count_by (λ (f : Bool). f) bs ≡ 0 → All (λ (f : Bool). f ≡ false) bs
-none_counted [] none = tt
+none_counted [] none = All-nil (λ (f : Bool). f ≡ false)
 none_counted (true ∷ bs) none = absurd (let n = count-cons true bs in omega (arith, n, none))
-none_counted (false ∷ bs) none = (refl, none_counted bs (let n = count-cons false bs in omega (arith, n, none)))
+none_counted (false ∷ bs) none = All-cons (λ (f : Bool). f ≡ false) false bs refl (none_counted bs (let n = count-cons false bs in omega (arith, n, none)))
 
 -- the text, whole or its first bytes
 module _ (files : List ℕ → Option (List ℕ)) (list : List ℕ) (entries : List Entry) (firsts : List Item) (givens : List Given) (put : List ℕ → Type 0) (has : HasList (Some files) list entries) (are : AreItemsOf (Some files) entries firsts)

@@ -147,11 +147,11 @@ done_lines whole cut none rest are w = by_test (list_any is_read_fault rest)
     by_test false = first_lines whole cut none 0 rest are w
 
 no_sample : (last : Got) → (last ≡ Got.Sample → ⊥) → is_sample last ≡ false
-no_sample Got.Sample no = absurd (no refl)
-no_sample Got.End no = refl
-no_sample (Got.BadSample line) no = refl
-no_sample Got.ReadFault no = refl
-no_sample (Got.Limit cap) no = refl
+no_sample Got.Sample never = absurd (never refl)
+no_sample Got.End never = refl
+no_sample (Got.BadSample line) never = refl
+no_sample Got.ReadFault never = refl
+no_sample (Got.Limit which) never = refl
 
 -- ---- what was written
 module _ (files : List ℕ → Option (List ℕ)) (list : List ℕ) (entries : List Entry) (firsts items : List Item) (start now : World) (before : ℕ) (has : HasList (Some files) list entries) (are : AreItemsOf (Some files) entries firsts)

@@ -64,18 +64,18 @@ fn compile<S: Shelf>(
 /// A configuration that is parked, with the samples and the quota of an entry.
 fn park(
     alloc: Global,
-    entry: &Entry,
+    said: &Entry,
     conf: Configuration<16, 8>,
 ) -> Result<ShareItem<16, 8>, AllocError>
-    ensures { IfOk result (λ i. IsParkedFor (entry_in entry.now) (shape_of conf.entry) i) }
+    ensures { IfOk result (λ i. IsParkedFor (entry_in said.now) (shape_of conf.entry) i) }
 {
-    let feed = Feed::make(alloc, &entry.samples, &conf.inputs)?;
+    let feed = Feed::make(alloc, &said.samples, &conf.inputs)?;
     match Parked::make(alloc, conf) {
         Err(_) => Err(AllocError),
         Ok(parked) => Ok(ShareItem {
             parked: Some(parked),
             feed,
-            quota: entry.quota,
+            quota: said.quota,
             ended: None,
         }),
     }
