@@ -71,7 +71,7 @@ pub listed_quotas : (text : List ℕ) (entries : List Entry) → IsListed text e
 listed_quotas text entries listed = lines_quota (filter counts (list_lines text)) entries listed.say.entries_are
 
 -- ---- one program after another
-pub items_more : (told : Told) (entries : List Entry) (items : List Item) (i : ℕ) (entry : Entry) (item : Item) → AreItemsOf told (take i entries) items → slice_get entries i ≡ Some entry → IsItemOf told entry item → AreItemsOf told (take (i + 1) entries) (items ++ item ∷ [])
+pub items_more : (told : Told) (entries : List Entry) (items : List Item) (i : ℕ) (entry : Entry) (item : Item) → AreItemsOf told (take i entries) items → slice_get entries i ≡ Some entry → IsItemOf told entry item → AreItemsOf told (take (suc i) entries) (items ++ item ∷ [])
 items_more told [] items i entry item are here is = absurd (let no = here in cc)
 items_more told (e ∷ entries) [] zero entry item are here is = let same : e ≡ entry = cc in (subst (λ (x : Entry). IsItemOf told x item) (sym same) is, tt)
 items_more told (e ∷ entries) (x ∷ items) zero entry item are here is = absurd are
@@ -123,15 +123,16 @@ ready_item told entry item is least = record {
   ended = is.parked.ended;
 }
 
+-- what holds of the first and of each of the others
+each_of : {X : Type 0} (P : X → Type 0) (x : X) (xs : List X) → P x → ((i : ℕ) (y : X) → slice_get xs i ≡ Some y → P y) → (i : ℕ) (y : X) → slice_get (x ∷ xs) i ≡ Some y → P y
+each_of P x xs first others zero y e = let same : x ≡ y = cc in subst P same first
+each_of P x xs first others (suc i) y e = others i y e
+
 pub are_ready : (told : Told) (entries : List Entry) (items : List Item) → AreItemsOf told entries items → HaveLeast entries → AreReady items
 are_ready told [] [] are least = λ i item e. absurd (let no = e in cc)
 are_ready told [] (item ∷ items) are least = absurd are
 are_ready told (entry ∷ entries) [] are least = absurd are
-are_ready told (entry ∷ entries) (item ∷ items) are least = at
-  where
-    at : (i : ℕ) (x : Item) → slice_get (item ∷ items) i ≡ Some x → IsReady x
-    at zero x e = let same : item ≡ x = cc in subst (λ (y : Item). IsReady y) same (ready_item told entry item are.0 least.0)
-    at (suc i) x e = are_ready told entries items are.1 least.1 i x e
+are_ready told (entry ∷ entries) (item ∷ items) are least = each_of (λ (x : Item). IsReady x) item items (ready_item told entry item are.0 least.0) (are_ready told entries items are.1 least.1)
 
 -- their configurations
 abbrev pub confs_of : List Item → List Shape

@@ -67,7 +67,7 @@ fn park(
     said: &Entry,
     conf: Configuration<16, 8>,
 ) -> Result<ShareItem<16, 8>, AllocError>
-    ensures { IfOk result (λ i. IsParkedFor (entry_in said.now) (shape_of conf.entry) i) }
+    ensures { IfOk result (λ i. IsParkedFor (entry_in said.now) (shape_of conf) i) }
 {
     let feed = Feed::make(alloc, &said.samples, &conf.inputs)?;
     match Parked::make(alloc, conf) {

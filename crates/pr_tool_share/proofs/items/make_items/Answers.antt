@@ -1,4 +1,4 @@
-use Rattle.std.proofs.Common.{◌≡◌, ◌++◌, ◌+◌, ◌∷◌, [], ℕ, map, slice_get, Some, option_map, refl, sym, ap, ◌∙◌, subst, arith, rules, inl}
+use Rattle.std.proofs.Common.{◌≡◌, ◌++◌, ◌+◌, ◌∷◌, [], ℕ, suc, List, take, map, slice_get, Some, option_map, refl, sym, ap, ◌∙◌, subst, arith, rules, inl}
 use Rattle.std.proofs.lemmas.Option.{slice_get-map}
 use Rattle.pr_edge.specs.Files.{Told}
 use Rattle.pr_share.proofs.ListFacts.{got_from}
@@ -38,8 +38,9 @@ loop-number-preserved g c =
     slice_get-map entry_in c.args.entries.now number ∙ ap (option_map entry_in) (got_from c.args.entries.now number entry c.loop-number-test.true c.index-entries-number.is) in
     let ready = subst (λ (t : Told). IsItemOf t (entry_in entry) c.in-Ok.item) inv.same c.in-Ok.ensures.ready in
     let pushed : c.push.new.self.items ≡ c.loop-number.items.items ++ c.in-Ok.item ∷ [] = first_of (cc, search rules, grind arith) in
+    let one : suc number ≡ number + 1 = omega arith in
     record {
-      ready = subst (λ xs. AreItemsOf told _ xs) (sym pushed) (items_more told entries c.loop-number.items.items number (entry_in entry) c.in-Ok.item inv.ready here ready);
+      ready = subst (λ (xs : List Item). AreItemsOf told (take (number + 1) entries) xs) (sym pushed) (subst (λ (n : ℕ). AreItemsOf told (take n entries) (c.loop-number.items.items ++ c.in-Ok.item ∷ [])) one (items_more told entries c.loop-number.items.items number (entry_in entry) c.in-Ok.item inv.ready here ready));
       later = omega (arith, inv.later, c.make_item.ensures.later);
       same = c.make_item.ensures.same ∙ inv.same;
     }

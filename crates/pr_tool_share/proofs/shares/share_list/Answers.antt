@@ -22,13 +22,13 @@ returns-in-Err-make_items-clause-shared g c =
     let refused = subst (λ (xs : List Named). IsProgramRefusal (g.S.Shelf.told c.load_list.new.shelf) mid now 0 (map entry_in xs) a ⊎ (a ≡ Answer.Memory)) c.deref.ensures.value c.in-Err-make_items.ensures.refused in
     elim refused [
       | inl is ↦ inl (record {
-          cause = inr (inl (record {
-            entries = entries;
-            has = c.in-Ok.ensures.list;
-            refused = program_earlier told before mid now 0 entries a c.load_list.ensures.later (subst (λ (t : Told). IsProgramRefusal t mid now 0 entries a) c.load_list.ensures.same is);
-          }));
-          unwritten = refl;
-        })
+        cause = inr (inl (record {
+          entries = entries;
+          has = c.in-Ok.ensures.list;
+          refused = program_earlier told before mid now 0 entries a c.load_list.ensures.later (subst (λ (t : Told). IsProgramRefusal t mid now 0 entries a) c.load_list.ensures.same is);
+        }));
+        unwritten = refl;
+      })
       | inr memory ↦ inl (record { cause = inr (inr memory); unwritten = refl })
     ]
 
