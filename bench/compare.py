@@ -5,7 +5,7 @@
 
 For each workload: the processor time of each (user and system, the best of three runs), and their ratio, program to
 simulator: below 1 the program is the faster one. Their texts have to be the same, byte by byte. It wants the built program
-(crates/piperench/out/piperench, which the launcher at the top builds) and a C compiler, cc or that in CC."""
+(crates/piperench/out/piperench, which the launcher at the top builds, or the one in PIPERENCH) and a C compiler, cc or that in CC."""
 
 import os
 import pathlib
@@ -16,7 +16,7 @@ import tempfile
 
 HERE = pathlib.Path(__file__).resolve().parent
 ROOT = HERE.parent
-TOOL = ROOT / "crates" / "piperench" / "out" / "piperench"
+TOOL = pathlib.Path(os.environ.get("PIPERENCH", ROOT / "crates" / "piperench" / "out" / "piperench"))
 TAPS = "input x:8; const c = [8, 9, 10, 11, 12, 13, 14, 15, 15, 14, 13, 12, 11, 10, 9, 8]; let s[0]:24 = x * c[0]; for i in 1..16 { let s[i]:24 = s[i-1] + x@i * c[i]; } output y = s[15];"
 CHAIN = "input x:16; const c = [" + ", ".join(str((37 * i + 48) % 251) for i in range(100)) + "]; let t[0] = x; for i in 1..101 { let t[i]:16 = (t[i-1] + c[i-1]) ^ t[i-1]@1; } output y = t[100];"
 XOR = "input a:8; input b:8; output y = a ^ b;"
@@ -90,4 +90,5 @@ def main():
     sys.exit(1 if failed else 0)
 
 
-main()
+if __name__ == "__main__":
+    main()

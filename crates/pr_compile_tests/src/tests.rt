@@ -21,7 +21,7 @@ enum Ending {
 }
 
 /// What a text comes to on a fabric, narrowed or not.
-fn ending<const N: usize, const P: usize>(
+fn end_on<const N: usize, const P: usize>(
     alloc: Global,
     text: &[u8],
     narrowed: bool,
@@ -208,8 +208,8 @@ fn found_otherwise(
             return Ok(Some(*text));
         }
         let found = match fabric {
-            Fabric::Base => ending::<16, 8>(alloc, bytes, narrowed)?,
-            Fabric::Wide => ending::<32, 16>(alloc, bytes, narrowed)?,
+            Fabric::Base => end_on::<16, 8>(alloc, bytes, narrowed)?,
+            Fabric::Wide => end_on::<32, 16>(alloc, bytes, narrowed)?,
         };
         if found != *expected {
             return Ok(Some(*text));
