@@ -1,5 +1,5 @@
 -- How the samples of programs ended, and the verdict on them.
-use Rattle.std.proofs.Common.{◌≡◌, ◌⊎◌, ◌≤◌, ◌+◌, ◌∙◌, ◌^◌, ◌||◌, ◌&&◌, not, ℕ, zero, suc, Bool, true, false, cond, List, [], ◌∷◌, length, map, take, Option, Some, None, slice_get, is_some, unwrap_or, refl, sym, ap, ap₂, subst, arith, inl, inr, true≢false}
+use Rattle.std.proofs.Common.{◌≡◌, ◌⊎◌, ◌≤◌, ◌+◌, ◌∙◌, ◌^◌, ◌||◌, not, ℕ, suc, Bool, true, false, cond, List, [], ◌∷◌, length, map, Option, Some, None, slice_get, is_some, refl, sym, ap, ap₂, subst, arith, inl, inr, true≢false}
 use Rattle.std.specs.List.{list_any, count_by}
 use Rattle.std.specs.Simd.Lanes.{zip2}
 use Rattle.std.proofs.lemmas.List.Sums.{sum_by-cons}
@@ -12,12 +12,12 @@ use Rattle.pr_samples.specs.Fed.{Fed, Ending, End, BadSample, Limit}
 use Rattle.pr_samples.specs.Feed.{name_of, fed, Tells, SameFile}
 use Rattle.pr_run.specs.Turns.{EndsBy}
 use Rattle.pr_share.specs.Fed.{HasFed}
-use Rattle.pr_share.specs.Items.{conf_in, last_of, Given, has_failed, is_lost, read_faults, IsShared}
+use Rattle.pr_share.specs.Items.{conf_in, last_of, Given, has_failed, read_faults, IsShared}
 use Rattle.pr_share_list.specs.List.{Entry}
 use Rattle.pr_tool_answers.specs.declared.answers.Answer.{Answer}
 use Rattle.pr_tool_modes.specs.Evaluations.{answer_by}
 use Rattle.pr_tool_modes.specs.Ready.{IsFeedOf}
-use Rattle.pr_tool_modes.specs.Samples.{fed_at_most, fed_in, ended_by, samples_verdict}
+use Rattle.pr_tool_modes.specs.Samples.{fed_in, ended_by, samples_verdict}
 use Rattle.pr_tool_modes.proofs.RunLemmas.{fed_is}
 use Rattle.pr_tool_share.specs.Ends.{is_read_fault, samples_ends}
 use Rattle.pr_tool_share.specs.Items.{Item, IsItemOf, AreItemsOf, end_of}

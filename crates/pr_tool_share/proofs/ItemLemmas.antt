@@ -1,5 +1,5 @@
 -- The programs of a list as they are made ready.
-use Rattle.std.proofs.Common.{◌≡◌, ◌≢◌, ◌⊎◌, ◌≤◌, ◌+◌, ◌∙◌, ◌&&◌, ◌^◌, ℕ, zero, suc, Bool, true, false, cond, List, [], ◌∷◌, ◌++◌, length, map, take, filter, Option, Some, None, slice_get, option_map, is_some, decimal, refl, sym, ap, ap₂, subst, arith, inl, inr, true≢false}
+use Rattle.std.proofs.Common.{◌≡◌, ◌≤◌, ◌+◌, ◌∙◌, ◌&&◌, ℕ, zero, suc, Bool, true, false, cond, List, [], ◌∷◌, ◌++◌, length, map, take, filter, Option, Some, None, slice_get, option_map, decimal, refl, sym, ap, subst, arith, inl, inr}
 use Rattle.std.specs.Prelude.{nat_le, bytes_eq, ⊤}
 use Rattle.std.specs.Str.Parse.{digits_value}
 use Rattle.std.proofs.lemmas.Bool.{and_parts, leb-true}
@@ -7,15 +7,14 @@ use Rattle.std.specs.Str.{is_utf8}
 use Rattle.pr_base.specs.declared.caps.Cap.{Cap}
 use Rattle.pr_edge.specs.Files.{Told}
 use Rattle.pr_conf.specs.Shape.{Shape}
-use Rattle.pr_samples.specs.Feed.{widths_of}
 use Rattle.pr_samples.specs.Lines.{words_of, without_return, begins_apart}
 use Rattle.pr_share.specs.Items.{conf_in, IsReady, AreReady}
-use Rattle.pr_share_list.specs.List.{Entry, entry_of, entry_by, entry_with, counts, list_lines, IsListed}
+use Rattle.pr_share_list.specs.List.{Entry, entry_of, entry_by, counts, list_lines, IsListed}
 use Rattle.pr_tool_words.specs.Lawful.{number_in}
 use Rattle.pr_tool_answers.specs.declared.answers.Answer.{Answer}
-use Rattle.pr_tool_modes.specs.Sources.{Gives, IsGood, IsSourceRefusal}
+use Rattle.pr_tool_modes.specs.Sources.{Gives, IsSourceRefusal}
 use Rattle.pr_tool_modes.proofs.FileLemmas.{unread_earlier}
-use Rattle.pr_tool_share.specs.Lists.{HasList, source_in, part_answer, IsProgramRefusal, AreCompiled}
+use Rattle.pr_tool_share.specs.Lists.{source_in, part_answer, IsProgramRefusal, AreCompiled}
 use Rattle.pr_tool_share.specs.Items.{Item, IsItemOf, AreItemsOf}
 
 -- ---- quotas

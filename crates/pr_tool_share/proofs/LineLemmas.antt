@@ -1,21 +1,17 @@
 -- What the programs of a list have written.
-use Rattle.std.proofs.Common.{◌≡◌, ◌⊎◌, ◌≤◌, ◌+◌, ◌∙◌, ◌^◌, not, ℕ, zero, suc, Bool, true, false, cond, List, All, [], ◌∷◌, ◌++◌, length, map, take, drop, Option, Some, None, slice_get, is_some, unwrap_or, refl, sym, ap, ap₂, subst, arith, inl, inr, true≢false}
-use Rattle.std.specs.List.{count_by, list_any}
+use Rattle.std.proofs.Common.{◌≡◌, ◌≤◌, ◌∙◌, ◌^◌, not, ℕ, suc, Bool, true, false, cond, List, All, [], ◌∷◌, ◌++◌, length, take, drop, Option, Some, None, slice_get, is_some, unwrap_or, refl, sym, ap, ap₂, subst, arith, true≢false}
+use Rattle.std.specs.List.{count_by}
 use Rattle.std.specs.Simd.Lanes.{zip2}
-use Rattle.std.specs.Bool.{MatchBool}
 use Rattle.std.proofs.Math.Seq.{take-length}
 use Rattle.std.proofs.lemmas.List.{take-append-drop, take_all, append-nil}
 use Rattle.std.proofs.lemmas.List.Elements.{All-take, All-nil, All-cons}
-use Rattle.pr_base.specs.declared.caps.Cap.{Cap}
-use Rattle.pr_base.specs.Rows.{IsRow, written}
-use Rattle.pr_edge.specs.Count.{RoseBy, IsSteady}
-use Rattle.pr_edge.specs.Files.{Told, IsMissing, HasReadCause}
-use Rattle.pr_edge.specs.Tape.{Tape, Appends, AppendsFront}
+use Rattle.pr_base.specs.Rows.{IsRow}
+use Rattle.pr_edge.specs.Count.{RoseBy}
+use Rattle.pr_edge.specs.Files.{Told}
 use Rattle.pr_conf.specs.Shape.{Shape}
 use Rattle.pr_conf.specs.Through.{result_numbers}
 use Rattle.pr_compile.specs.Meant.{IsMeant}
 use Rattle.pr_lang.specs.declared.trees.Program.{Program}
-use Rattle.pr_lang_meaning.specs.Programs.{out}
 use Rattle.pr_samples.specs.declared.feed.Feed.{Feed}
 use Rattle.pr_samples.specs.declared.feed.Got.{Got}
 use Rattle.pr_samples.specs.Fed.{Fed, fed_text, fed_lines}
@@ -23,14 +19,12 @@ use Rattle.pr_samples.specs.Lines.{lines_of, words_of, without_return}
 use Rattle.pr_samples.specs.Feed.{name_of, given_of, fed}
 use Rattle.pr_samples.specs.Got.{is_sample}
 use Rattle.pr_run.specs.Turns.{EndsBy, MayFollow}
-use Rattle.pr_share.specs.Fed.{HasFed, IsFedBy}
+use Rattle.pr_share.specs.Fed.{HasFed}
 use Rattle.pr_share.specs.Turns.{pieces}
-use Rattle.pr_share.specs.Items.{conf_in, last_of, Given, World, world, part_of, parts_of, has_failed, read_faults, IsShared, IsBroken, IsResting, AreShared, AreStopped, MayBecome, MayAllBecome}
-use Rattle.pr_share.proofs.ListFacts.{got_at}
+use Rattle.pr_share.specs.Items.{conf_in, Given, part_of, parts_of, has_failed, read_faults, MayBecome, MayAllBecome}
 use Rattle.pr_share_list.specs.List.{Entry}
 use Rattle.pr_share_text.specs.Text.{Part, HaveQuotas, share_text}
 use Rattle.pr_share_text.proofs.RoundLaws.{own_lines}
-use Rattle.pr_tool_modes.specs.Files.{IsText}
 use Rattle.pr_tool_modes.specs.Programs.{inputs_of, HasProgram}
 use Rattle.pr_tool_modes.specs.Ready.{IsFeedOf}
 use Rattle.pr_tool_modes.specs.Samples.{fed_at_most, fed_in}

@@ -1,7 +1,6 @@
 -- A list and its programs: the verdict on them, and one verdict at most.
-use Rattle.std.proofs.Common.{◌≡◌, ◌⊎◌, ◌≤◌, ◌+◌, ◌∙◌, ℕ, zero, suc, List, [], ◌∷◌, length, take, Option, Some, slice_get, refl, sym, ap, ap₂, subst, arith, inl, inr}
+use Rattle.std.proofs.Common.{◌≡◌, ◌+◌, ◌∙◌, ℕ, List, [], ◌∷◌, Option, Some, refl, sym, ap, ap₂, subst, inl, inr}
 use Rattle.pr_base.specs.declared.caps.Cap.{Cap}
-use Rattle.pr_edge.specs.Count.{Rose}
 use Rattle.pr_edge.specs.Files.{Told, HasReadCause}
 use Rattle.pr_conf.specs.Shape.{Shape}
 use Rattle.pr_share_list.specs.List.{Entry, IsListed}
@@ -9,11 +8,11 @@ use Rattle.pr_share_list.proofs.ListLaws.{one_list, one_line, not_both}
 use Rattle.pr_tool_answers.specs.declared.answers.Answer.{Answer}
 use Rattle.pr_tool_answers.specs.Owed.{IsOwed}
 use Rattle.pr_tool_answers.proofs.OwedLemmas.{owed_by}
-use Rattle.pr_tool_modes.specs.Sources.{name_in, Gives, IsGood, IsSourceRefusal, IsRefusedSource}
-use Rattle.pr_tool_modes.proofs.FileLemmas.{refusal_owed, one_refused, never_refused, unread_earlier}
+use Rattle.pr_tool_modes.specs.Sources.{name_in, IsRefusedSource}
+use Rattle.pr_tool_modes.proofs.FileLemmas.{refusal_owed, one_refused, never_refused}
 use Rattle.pr_tool_modes.proofs.ReasonLemmas.{IsKind}
 use Rattle.pr_tool_modes.proofs.SourceLemmas.{source_owed, one_source, never_source, one_conf, source_kind}
-use Rattle.pr_tool_share.specs.Lists.{IsBadList, IsListRefusal, IsRefusedList, HasList, source_in, part_answer, IsPart, IsFirstRefused, IsProgramRefusal, IsRefusedProgram, AreCompiled}
+use Rattle.pr_tool_share.specs.Lists.{IsBadList, IsListRefusal, IsRefusedList, HasList, source_in, part_answer, IsProgramRefusal, IsRefusedProgram, AreCompiled}
 
 -- ---- the list
 one_bad : (text : List ℕ) (a b : Answer) → IsBadList text a → IsBadList text b → a ≡ b

@@ -1,14 +1,13 @@
 -- What the mode answers, and why.
-use Rattle.std.proofs.Common.{◌≡◌, ◌⊎◌, ◌≤◌, ◌+◌, ◌∙◌, ◌||◌, ℕ, zero, suc, Bool, true, false, cond, List, [], ◌∷◌, length, map, Option, Some, None, slice_get, refl, sym, ap, subst, arith, inl, inr, true≢false}
-use Rattle.std.specs.List.{list_any, count_by}
+use Rattle.std.proofs.Common.{◌≡◌, ◌⊎◌, ◌≤◌, ◌+◌, ◌∙◌, ◌||◌, ℕ, suc, Bool, true, false, cond, List, [], ◌∷◌, length, map, Option, None, refl, sym, ap, subst, arith, inl, inr, true≢false}
+use Rattle.std.specs.List.{list_any}
 use Rattle.std.specs.Simd.Lanes.{zip2}
 use Rattle.pr_base.specs.declared.caps.Cap.{Cap}
 use Rattle.pr_edge.specs.Count.{Rose}
 use Rattle.pr_edge.specs.Files.{Told, IsMissing, HasReadCause}
 use Rattle.pr_samples.specs.declared.feed.Feed.{Feed}
 use Rattle.pr_samples.specs.declared.feed.Got.{Got}
-use Rattle.pr_share.specs.Items.{last_of, Given, world, has_failed, read_faults, IsShared, AreShared}
-use Rattle.pr_share_list.specs.List.{Entry}
+use Rattle.pr_share.specs.Items.{last_of, Given, world, has_failed, read_faults}
 use Rattle.pr_tool_answers.specs.declared.answers.Answer.{Answer}
 use Rattle.pr_tool_modes.specs.Calls.{Call}
 use Rattle.pr_tool_modes.specs.Evaluations.{answer_by}
@@ -16,8 +15,8 @@ use Rattle.pr_tool_modes.proofs.ReasonLemmas.{refuses, IsKind}
 use Rattle.pr_tool_share.specs.Lists.{IsBadList, IsListRefusal, part_answer}
 use Rattle.pr_tool_share.specs.Ends.{is_read_fault, part_or, first_part, answer_of_all}
 use Rattle.pr_tool_share.specs.Items.{Item, end_of}
-use Rattle.pr_tool_share.specs.Shares.{IsProgramRefused, HaveTaken, HaveShared, IsSharedBy}
-use Rattle.pr_tool_share.proofs.ListVerdicts.{IsKindOfPart, program_kind}
+use Rattle.pr_tool_share.specs.Shares.{IsProgramRefused, HaveTaken, IsSharedBy}
+use Rattle.pr_tool_share.proofs.ListVerdicts.{program_kind}
 use Rattle.pr_tool_share.proofs.EndLemmas.{AreAll, count-cons}
 
 -- ---- answers that never come

@@ -1,23 +1,20 @@
 -- What the mode came to, and the verdict on it.
-use Rattle.std.proofs.Common.{◌≡◌, ◌⊎◌, ◌≤◌, ◌∙◌, ℕ, Bool, true, cond, List, map, Option, Some, None, refl, sym, ap, subst, arith, inl, inr}
-use Rattle.std.specs.List.{list_any}
-use Rattle.pr_edge.specs.Count.{Rose}
-use Rattle.pr_edge.specs.Files.{Told, HasReadCause}
-use Rattle.pr_edge.specs.Tape.{Appends, AppendsFront}
+use Rattle.std.proofs.Common.{◌≡◌, ◌⊎◌, ◌≤◌, ◌∙◌, ℕ, Bool, cond, List, map, Option, Some, sym, ap, subst, arith, inl, inr}
+use Rattle.pr_edge.specs.Files.{Told}
 use Rattle.pr_conf.specs.Shape.{Shape}
-use Rattle.pr_share.specs.Items.{World, world, AreShared, AreStopped, read_faults}
+use Rattle.pr_share.specs.Items.{World, world, AreShared, read_faults}
 use Rattle.pr_share_list.specs.List.{Entry}
 use Rattle.pr_tool_answers.specs.declared.answers.Answer.{Answer}
 use Rattle.pr_tool_answers.specs.Owed.{IsOwed}
 use Rattle.pr_tool_answers.proofs.OwedLemmas.{owed_by}
 use Rattle.pr_tool_modes.specs.Calls.{Call}
-use Rattle.pr_tool_share.specs.Lists.{HasList, IsListRefusal, IsRefusedList, IsProgramRefusal, IsRefusedProgram, AreCompiled}
-use Rattle.pr_tool_share.specs.Ends.{is_read_fault, first_part, answer_of_all, samples_ends, AreLastVerdict, IsListVerdict, IsShareVerdict}
+use Rattle.pr_tool_share.specs.Lists.{HasList, IsListRefusal, IsRefusedList, IsProgramRefusal, IsRefusedProgram}
+use Rattle.pr_tool_share.specs.Ends.{first_part, answer_of_all, samples_ends, AreLastVerdict, IsShareVerdict}
 use Rattle.pr_tool_share.specs.Items.{Item, AreItemsOf, end_of}
-use Rattle.pr_tool_share.specs.Shares.{IsProgramRefused, IsHeldBack, HaveTaken, HaveShared, IsSharedBy}
+use Rattle.pr_tool_share.specs.Shares.{IsProgramRefused, HaveTaken, IsSharedBy}
 use Rattle.pr_tool_share.proofs.ListVerdicts.{list_owed, one_refused_list, never_list, one_entries, program_owed, one_refused_program, never_program, one_confs}
 use Rattle.pr_tool_share.proofs.ItemLemmas.{confs_of, are_compiled}
-use Rattle.pr_tool_share.proofs.EndLemmas.{HaveFailed, AreAll, ends_are}
+use Rattle.pr_tool_share.proofs.EndLemmas.{AreAll, ends_are}
 
 -- ---- from what it came to
 next_owed : (files : List ℕ → Option (List ℕ)) (list : List ℕ) (entries : List Entry) (sb sn ob on : ℕ) (a : Answer) → HasList (Some files) list entries

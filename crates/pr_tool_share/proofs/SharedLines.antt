@@ -1,19 +1,17 @@
 -- From what the mode came to, to what it has written.
-use Rattle.std.proofs.Common.{◌≡◌, ◌⊎◌, ◌≤◌, ◌+◌, ◌∙◌, ◌^◌, not, ℕ, zero, suc, Bool, true, false, cond, List, All, [], ◌∷◌, length, map, Option, Some, None, slice_get, refl, sym, ap, subst, arith, inl, inr, true≢false}
+use Rattle.std.proofs.Common.{◌≡◌, ◌⊎◌, ◌≤◌, ◌+◌, ◌∙◌, ◌^◌, not, ℕ, suc, Bool, true, false, cond, List, [], ◌∷◌, length, map, Option, Some, None, slice_get, refl, sym, ap, subst, arith, inl, inr, true≢false}
 use Rattle.std.specs.Prelude.{⊤}
 use Rattle.std.specs.List.{list_any}
-use Rattle.std.specs.Bool.{MatchBool}
 use Rattle.std.proofs.lemmas.Bool.{cases_eq}
 use Rattle.pr_base.specs.declared.caps.Cap.{Cap}
 use Rattle.pr_edge.specs.Count.{RoseBy}
-use Rattle.pr_edge.specs.Files.{Told, HasReadCause}
-use Rattle.pr_edge.specs.Tape.{Tape, Appends, AppendsFront}
-use Rattle.pr_conf.specs.Shape.{Shape}
+use Rattle.pr_edge.specs.Files.{Told}
+use Rattle.pr_edge.specs.Tape.{Appends, AppendsFront}
 use Rattle.pr_samples.specs.Fed.{Ending, End, BadSample, Limit}
 use Rattle.pr_samples.specs.Got.{is_sample}
 use Rattle.pr_samples.specs.declared.feed.Got.{Got}
 use Rattle.pr_share.specs.Fed.{HasFed}
-use Rattle.pr_share.specs.Items.{conf_in, last_of, Given, World, world, parts_of, has_failed, read_faults, IsShared, AreShared, AreStopped}
+use Rattle.pr_share.specs.Items.{conf_in, Given, World, world, parts_of, read_faults, AreShared, AreStopped}
 use Rattle.pr_share.proofs.ListFacts.{got_at, got_within}
 use Rattle.pr_share_list.specs.List.{Entry}
 use Rattle.pr_share_text.specs.Text.{share_text}
@@ -22,13 +20,12 @@ use Rattle.pr_tool_modes.specs.Calls.{Call}
 use Rattle.pr_tool_modes.specs.Samples.{fed_at_most, ended_by, samples_verdict}
 use Rattle.pr_tool_modes.proofs.FedLemmas.{fed_limit}
 use Rattle.pr_tool_modes.proofs.ReasonLemmas.{is_of_samples, refuses, IsKind}
-use Rattle.pr_tool_share.specs.Lists.{HasList, IsBadList, IsListRefusal, part_answer, IsProgramRefusal}
+use Rattle.pr_tool_share.specs.Lists.{HasList, IsBadList, IsListRefusal, part_answer}
 use Rattle.pr_tool_share.specs.Ends.{is_read_fault, part_or, first_part, answer_of_all}
-use Rattle.pr_tool_share.specs.Items.{Item, IsItemOf, AreItemsOf, end_of}
-use Rattle.pr_tool_share.specs.Shares.{IsProgramRefused, IsHeldBack, HaveTaken, HaveShared, IsSharedBy}
-use Rattle.pr_tool_share.specs.Lines.{HaveLines, ByLimit, ByCause, ByEnd, AreSharedLines}
-use Rattle.pr_tool_share.proofs.ListVerdicts.{IsKindOfPart, program_kind}
-use Rattle.pr_tool_share.proofs.ItemLemmas.{length-items}
+use Rattle.pr_tool_share.specs.Items.{Item, AreItemsOf, end_of}
+use Rattle.pr_tool_share.specs.Shares.{IsProgramRefused, HaveTaken, IsSharedBy}
+use Rattle.pr_tool_share.specs.Lines.{HaveLines, ByLimit, ByEnd, AreSharedLines}
+use Rattle.pr_tool_share.proofs.ListVerdicts.{program_kind}
 use Rattle.pr_tool_share.proofs.EndLemmas.{item_end, not_sample, last_given, AreAll}
 use Rattle.pr_tool_share.proofs.LineLemmas.{WasFed, WereFed, wholes_in, may_all, same_wholes, have_lines}
 

@@ -1,5 +1,5 @@
 -- The programs of a list, ready for their turns.
-use Rattle.std.specs.Prelude.{◌≡◌, ◌≤◌, ◌^◌, ℕ, true, List, [], ◌∷◌, Option, None, is_some, ⊤}
+use Rattle.std.specs.Prelude.{◌≡◌, ◌^◌, true, List, [], ◌∷◌, None, is_some, ⊤}
 use Rattle.pr_edge.specs.Files.{Told}
 use Rattle.pr_conf.specs.Shape.{Shape}
 use Rattle.pr_share.specs.declared.items.ShareItem.{ShareItem}

@@ -1,5 +1,5 @@
 -- What the programs of a list have written.
-use Rattle.std.specs.Prelude.{◌≡◌, ◌⊎◌, ℕ, Bool, true, false, List, All, [], ◌∷◌, length, take, Option, Some, unwrap_or, slice_get, ⊤}
+use Rattle.std.specs.Prelude.{◌≡◌, ◌⊎◌, ℕ, Bool, false, List, All, [], ◌∷◌, length, take, Option, Some, unwrap_or, slice_get, ⊤}
 use Rattle.std.specs.List.{count_by}
 use Rattle.pr_base.specs.declared.caps.Cap.{Cap}
 use Rattle.pr_base.specs.Rows.{written}

@@ -1,4 +1,4 @@
-use Rattle.std.proofs.Common.{◌≡◌, ◌++◌, ◌+◌, ◌∷◌, [], ℕ, suc, List, take, map, slice_get, Some, option_map, refl, sym, ap, ◌∙◌, subst, arith, rules, inl}
+use Rattle.std.proofs.Common.{◌≡◌, ◌++◌, ◌+◌, ◌∷◌, [], ℕ, suc, List, take, map, slice_get, Some, option_map, sym, ap, ◌∙◌, subst, arith, rules, inl}
 use Rattle.std.proofs.lemmas.Option.{slice_get-map}
 use Rattle.pr_edge.specs.Files.{Told}
 use Rattle.pr_share.proofs.ListFacts.{got_from}

@@ -1,13 +1,11 @@
-use Rattle.std.proofs.Common.{◌≡◌, ◌⊎◌, ◌≤◌, List, length, map, refl, sym, ap, ◌∙◌, subst, arith, inl, inr}
-use Rattle.std.proofs.lemmas.List.{length-map}
+use Rattle.std.proofs.Common.{◌≡◌, ◌⊎◌, List, length, map, refl, sym, ap, subst, arith, inl, inr}
 use Rattle.pr_edge.specs.Files.{Told}
 use Rattle.pr_share.specs.Items.{AreReady}
-use Rattle.pr_share_list.specs.List.{Entry, entry_in}
+use Rattle.pr_share_list.specs.List.{entry_in}
 use Rattle.pr_share_list.specs.declared.lines.Entry.{Entry as Named}
 use Rattle.pr_tool_answers.specs.declared.answers.Answer.{Answer}
-use Rattle.pr_tool_share.specs.Lists.{HasList, IsProgramRefusal}
+use Rattle.pr_tool_share.specs.Lists.{IsProgramRefusal}
 use Rattle.pr_tool_share.specs.Items.{Item, AreItemsOf}
-use Rattle.pr_tool_share.specs.Shares.{IsSharedBy}
 use Rattle.pr_tool_share.proofs.ItemLemmas.{program_earlier, length-items, are_ready, listed_quotas}
 use Rattle.pr_tool_share.proofs.shares.share_list.Goals as goal
 
