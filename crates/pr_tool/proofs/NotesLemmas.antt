@@ -20,7 +20,6 @@ note_of-line bounds (Answer.Part program cause) h = refl
 note_of-line bounds Answer.ReadFault h = refl
 note_of-line bounds Answer.WriteFault h = refl
 note_of-line bounds Answer.Memory h = refl
-note_of-line bounds Answer.NotYet h = refl
 
 -- the bytes of the line, through the calls that made it
 pub line_bytes : (now shown pushed put new text : List ℕ) → now ≡ shown → shown ≡ pushed → pushed ≡ put ++ 10 ∷ [] → put ≡ new ++ text → new ≡ [] → now ≡ text ++ 10 ∷ []

@@ -13,7 +13,10 @@ use Rattle.pr_tool_modes.specs.Lines.{AreEvalLines, AreProgramLines, AreConfigur
 use Rattle.pr_tool_modes.specs.Resumptions.{HasMoved, AreMovedLines, IsMoveVerdict}
 use Rattle.pr_tool_modes.specs.Sources.{Source, File, Text, Mark}
 use Rattle.pr_tool_modes.specs.Texts.{IsTexted, AreTextBytes, IsTextVerdict}
-use Rattle.pr_tool.specs.Plans.{Plan, Texts, Runs, Folds, Moves, Extends, Evaluates, Generates, Nothing, plan_of}
+use Rattle.pr_tool_share.specs.Ends.{IsShareVerdict}
+use Rattle.pr_tool_share.specs.Lines.{AreSharedLines}
+use Rattle.pr_tool_share.specs.Shares.{IsSharedBy}
+use Rattle.pr_tool.specs.Plans.{Plan, Texts, Runs, Folds, Moves, Extends, Evaluates, Generates, Shares, plan_of}
 use Rattle.pr_tool.specs.Words.{Asked}
 
 -- nothing is written, and the bench is as it was
@@ -30,7 +33,7 @@ IsDone (Moves r) k was bench answer = HasMoved r k was bench answer
 IsDone (Extends r) k was bench answer = HasExtended r k answer × (bench ≡ was)
 IsDone (Evaluates first second) k was bench answer = IsEvaluated first second k answer × (bench ≡ was)
 IsDone (Generates g) k was bench answer = IsGenerated g k.old k.new k.out_before k.out_now was bench answer
-IsDone Nothing k was bench answer = (answer ≡ Answer.NotYet) × IsUnchanged k was bench
+IsDone (Shares list stripes) k was bench answer = IsSharedBy list k answer × (bench ≡ was)
 
 -- what a call comes to: memory may want before anything is done
 abbrev pub IsCalled : Asked → Call → Bench → Bench → Answer → Type 0
@@ -53,7 +56,7 @@ HasGained files (Moves r) k was bench answer = AreMovedLines files r k was bench
 HasGained files (Extends r) k was bench answer = AreExtendedBytes files r k answer × (bench ≡ was)
 HasGained files (Evaluates first second) k was bench answer = AreEvalLines files first (unwrap_or (files second) []) k.old k.new answer × (bench ≡ was)
 HasGained files (Generates g) k was bench answer = IsGenerated g k.old k.new k.out_before k.out_now was bench answer
-HasGained files Nothing k was bench answer = IsUnchanged k was bench
+HasGained files (Shares list stripes) k was bench answer = AreSharedLines files list k answer × (bench ≡ was)
 
 -- ---- the verdict
 -- what a plan is to come to, by the files alone
@@ -65,7 +68,7 @@ IsPlanVerdict files (Moves r) answer = IsMoveVerdict files r answer
 IsPlanVerdict files (Extends r) answer = IsMoveVerdict files r answer
 IsPlanVerdict files (Evaluates first second) answer = IsEvalVerdict files first second answer
 IsPlanVerdict files (Generates g) answer = IsGenVerdict g answer
-IsPlanVerdict files Nothing answer = answer ≡ Answer.NotYet
+IsPlanVerdict files (Shares list stripes) answer = IsShareVerdict files list answer
 
 -- what a call is to answer, by its words and the files alone
 abbrev pub IsVerdict : (List ℕ → Option (List ℕ)) → Asked → Answer → Type 0

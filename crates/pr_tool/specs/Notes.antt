@@ -60,7 +60,6 @@ answer_text bounds (Answer.Part program cause) = codes "program " ++ decimal pro
 answer_text bounds Answer.ReadFault = codes "read fault"
 answer_text bounds Answer.WriteFault = codes "write fault"
 answer_text bounds Answer.Memory = codes "out of memory"
-answer_text bounds Answer.NotYet = codes "not yet"
 
 -- the line with its end
 abbrev pub note_of : Bounds → Answer → List ℕ

@@ -1,6 +1,6 @@
 -- What is done for a command line: each mode is one of a few kinds of work.
 use Rattle.std.specs.Prelude.{ℕ, true, false, List}
-use Rattle.pr_tool_words.specs.Lawful.{Order, Task, Run, Trace, Compile, Exec, Eval, Show, Gen, Migrate, Checkpoint, Move, Extend}
+use Rattle.pr_tool_words.specs.Lawful.{Order, Task, Run, Trace, Compile, Exec, Eval, Show, Gen, Migrate, Share, Checkpoint, Move, Extend}
 use Rattle.pr_tool_modes.specs.declared.texts.Form.{Form}
 use Rattle.pr_tool_modes.specs.declared.targets.Target.{Target}
 use Rattle.pr_tool_modes.specs.Generations.{Generation, generation_of}
@@ -10,7 +10,7 @@ use Rattle.pr_tool.specs.declared.plans.Plan.{Plan as NamedPlan}
 use Rattle.pr_tool.specs.declared.plans.Plan.TheVariants as named
 
 -- a text of a configuration is written; a configuration is run; it is run for its checkpoint; a run goes on from a checkpoint,
--- or does so for the next one; a program is evaluated; a generated program is run; or nothing is done
+-- or does so for the next one; a program is evaluated; a generated program is run; or the programs of a list take turns
 pub data Plan : Type 0 where
   Texts : (form : Form) (source : Source) → Plan
   Runs : (j : Job) → Plan
@@ -19,7 +19,7 @@ pub data Plan : Type 0 where
   Extends : (r : Resumption) → Plan
   Evaluates : (first second : List ℕ) → Plan
   Generates : (g : Generation) → Plan
-  Nothing : Plan
+  Shares : (list : List ℕ) (stripes : ℕ) → Plan
 
 -- what programs are compiled for
 abbrev pub target_of : Order → Target
@@ -41,7 +41,7 @@ plan_for order (Gen turns) = Generates (record { turns = turns; target = target_
 plan_for order (Checkpoint program samples) = Folds (job (Text program (target_of order)) samples order.stall order.stripes false)
 plan_for order (Move checkpoint samples) = Moves (resumption order checkpoint samples)
 plan_for order (Extend checkpoint samples) = Extends (resumption order checkpoint samples)
-plan_for order task = Nothing
+plan_for order (Share list) = Shares list order.stripes
 
 abbrev pub plan_of : Order → Plan
 plan_of order = plan_for order order.task
@@ -55,4 +55,4 @@ plan_in (named.Moves r) = Moves (resumption_of r)
 plan_in (named.Extends r) = Extends (resumption_of r)
 plan_in (named.Evaluates program samples) = Evaluates program.now samples.now
 plan_in (named.Generates g) = Generates (generation_of g)
-plan_in named.Nothing = Nothing
+plan_in (named.Shares s) = Shares s.list.now s.stripes

@@ -1,12 +1,12 @@
 -- What the words of a command line ask for, which files are read for it, and its limits.
 use Rattle.std.specs.Prelude.{◌≢◌, ℕ, List, Option, Some, None, map, string_bytes, String, ⊤}
 use Rattle.std.specs.declared.alloc.Global.{Global}
-use Rattle.pr_tool_words.specs.Lawful.{Order, Task, Eval, lawful_words}
+use Rattle.pr_tool_words.specs.Lawful.{Order, Task, Eval, Share, lawful_words}
 use Rattle.pr_tool_modes.specs.Jobs.{IsNeither}
 use Rattle.pr_tool_modes.specs.Resumptions.{IsNoFile}
 use Rattle.pr_tool_modes.specs.Sources.{name_in, columns}
 use Rattle.pr_tool.specs.declared.notes.Bounds.{Bounds}
-use Rattle.pr_tool.specs.Plans.{Plan, Texts, Runs, Folds, Moves, Extends, Evaluates, Generates, Nothing, plan_of}
+use Rattle.pr_tool.specs.Plans.{Plan, Texts, Runs, Folds, Moves, Extends, Evaluates, Generates, Shares, plan_of}
 
 -- what is asked for, if the words are lawful
 abbrev pub Asked : Type 0
@@ -16,7 +16,8 @@ abbrev pub asked_by : List (String Global) → Asked
 asked_by words = lawful_words (map string_bytes words)
 
 -- ---- files
--- this is no file that is read for a plan
+-- this is no file that is read for a plan; which files a list of programs names is not told by the words, so that of its plan
+-- nothing is said
 abbrev pub IsOtherFile : Plan → List ℕ → Type 0
 IsOtherFile (Texts form source) q = q ≢ name_in source
 IsOtherFile (Runs j) q = (q ≢ j.second) × IsNeither j q
@@ -25,7 +26,7 @@ IsOtherFile (Moves r) q = IsNoFile r q
 IsOtherFile (Extends r) q = IsNoFile r q
 IsOtherFile (Evaluates first second) q = (q ≢ first) × (q ≢ second)
 IsOtherFile (Generates g) q = ⊤
-IsOtherFile Nothing q = ⊤
+IsOtherFile (Shares list stripes) q = ⊥
 
 abbrev pub IsOther : Asked → List ℕ → Type 0
 IsOther None q = ⊤
@@ -37,8 +38,13 @@ abbrev pub sample_bytes : Task → ℕ
 sample_bytes (Eval program samples) = 16777216
 sample_bytes task = 17592186044416
 
+-- the slices of all inputs; the programs of a list are for the base fabric
+abbrev pub input_bytes : Order → Task → ℕ
+input_bytes order (Share list) = 16
+input_bytes order task = columns order.fabric
+
 abbrev pub bounds_for : Order → Bounds
-bounds_for order = record { input_bytes = columns order.fabric; sample_bytes = sample_bytes order.task }
+bounds_for order = record { input_bytes = input_bytes order order.task; sample_bytes = sample_bytes order.task }
 
 abbrev pub bounds_in : Asked → Bounds
 bounds_in None = record { input_bytes = 16; sample_bytes = 17592186044416 }

@@ -10,6 +10,7 @@ use crate::plans::Plan;
 use pr_edge::{Shelf, Sink};
 use pr_tool_answers::Answer;
 use pr_tool_modes::{Bench, eval, execute, extend, fold, generate, move_on, write_text};
+use pr_tool_share::share_list;
 use std::alloc::Global;
 
 /// Carries out a plan.
@@ -36,6 +37,6 @@ pub fn carry_out<S: Shelf, K: Sink>(
         Plan::Extends(resumption) => extend(alloc, &resumption, shelf, out),
         Plan::Evaluates { program, samples } => eval(alloc, program, samples, shelf, out),
         Plan::Generates(generation) => generate(alloc, &generation, out, bench),
-        Plan::Nothing => Answer::NotYet,
+        Plan::Shares(sharing) => share_list(alloc, &sharing, shelf, out),
     }
 }

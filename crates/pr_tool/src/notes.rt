@@ -133,7 +133,6 @@ fn put_answer(text: &mut Line, bounds: &Bounds, answer: &Answer)
         Answer::ReadFault => text.push_str("read fault"),
         Answer::WriteFault => text.push_str("write fault"),
         Answer::Memory => text.push_str("out of memory"),
-        Answer::NotYet => text.push_str("not yet"),
     }
 }
 

@@ -5,6 +5,7 @@ ghost use Rattle.pr_tool_modes.specs.Jobs.{job, stall_in, source_of, resumption_
 ghost use Rattle.pr_tool.specs.Plans.{Runs, Folds, plan_of, plan_in};
 
 use pr_tool_modes::{Form, Generation, Job, Resumption, Run, Source, Target};
+use pr_tool_share::Sharing;
 use pr_tool_words::{Mode, Options, Words};
 
 /// What is done for a command line.
@@ -24,8 +25,8 @@ pub enum Plan<'a> {
     Evaluates { program: &'a str, samples: &'a str },
     /// A generated program is run.
     Generates(Generation),
-    /// Nothing is built of it.
-    Nothing,
+    /// The programs of a list take turns.
+    Shares(Sharing<'a>),
 }
 
 /// On what samples a configuration is run, and how, with the options of a command line.
@@ -139,6 +140,9 @@ pub fn plan_of<'a>(words: &Words<'a>) -> Plan<'a>
             checkpoint,
             samples,
         } => Plan::Extends(resumption(options, checkpoint, samples)),
-        Mode::Share { .. } => Plan::Nothing,
+        Mode::Share { list } => Plan::Shares(Sharing {
+            list,
+            stripes: options.stripes,
+        }),
     }
 }

@@ -13,7 +13,7 @@ ghost use Rattle.pr_tool_modes.specs.declared.targets.Target.{Target};
 ghost use Rattle.pr_tool.specs.Notes.{note_of};
 ghost use Rattle.pr_tool.specs.Noted.{GainsNote};
 ghost use Rattle.pr_tool.specs.Plans.{Runs, plan_of};
-ghost use Rattle.pr_tool.specs.Words.{asked_by, bounds_for, bounds_in, IsOther};
+ghost use Rattle.pr_tool.specs.Words.{asked_by, bounds_for, bounds_in, input_bytes, IsOther};
 ghost use Rattle.pr_tool.specs.Calls.{IsUnchanged, IsCalled, IsVerdict, IsToldVerdict, HasGained};
 
 use crate::modes::carry_out;
@@ -37,7 +37,8 @@ struct Reply {
 ///
 /// The words are those of the system, the program's name first. A run leaves its machine on the bench, and else that is left
 /// as it was. Programs are evaluated, and they are compiled and run on both fabrics, narrowed or not, with the log of the cycles or
-/// without it; so are configuration files and generated programs. Words and files have one verdict at most (`answer_law`).
+/// without it; so are configuration files and generated programs. The programs of a list take turns on the base fabric. Words and
+/// files have one verdict at most (`answer_law`).
 pub fn piperench<S: Shelf, K: Sink, E: Sink>(
     alloc: Global,
     words: &[String],
@@ -73,7 +74,8 @@ pub fn piperench<S: Shelf, K: Sink, E: Sink>(
 
     // What each plan has written over told files, and what is on the bench. A checkpoint has the number of its samples, with those
     // before, and the configuration as they left it, and comes of samples that are all good alone; the bench is as it was. A run that
-    // goes on from one writes the lines of the further samples, which are the rest of what the program means (`moving_law`).
+    // goes on from one writes the lines of the further samples, which are the rest of what the program means (`moving_law`). The
+    // programs of a list have written the text of their turns, in which the lines of each are those that it writes alone.
     ensures gained { (files : List ℕ → Option (List ℕ)) (order : Order) → S.told shelf.old ≡ Some files → asked_by words.now ≡ Some order
         → HasGained files (plan_of order) (call
         (view (S.told shelf.old) (S.reach shelf.old) (S.faults shelf.old)) (view (S.told shelf.new) (S.reach shelf.new) (S.faults shelf.new))
@@ -98,14 +100,24 @@ pub fn piperench<S: Shelf, K: Sink, E: Sink>(
     reply.answer
 }
 
+/// The slices of all inputs at most: the columns of the fabric. The programs of a list are for the base fabric.
+fn input_bytes(words: &Words<'_>) -> u64
+    ensures { result ≡ input_bytes (order_of words.now) (order_of words.now).task }
+{
+    if let Mode::Share { .. } = words.mode {
+        return 16;
+    }
+    match words.options.fabric {
+        Fabric::Base => 16,
+        Fabric::Wide => 32,
+    }
+}
+
 /// The limits of a command line.
 fn bounds_of(words: &Words<'_>) -> Bounds
     ensures { result ≡ bounds_for (order_of words.now) }
 {
-    let input_bytes = match words.options.fabric {
-        Fabric::Base => 16,
-        Fabric::Wide => 32,
-    };
+    let input_bytes = input_bytes(words);
     let sample_bytes = match words.mode {
         Mode::Eval { .. } => 16_777_216,
         _ => 17_592_186_044_416,

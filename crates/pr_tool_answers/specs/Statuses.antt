@@ -28,4 +28,3 @@ status_of (Answer.Part program cause) = cause_status cause
 status_of Answer.ReadFault = 10
 status_of Answer.WriteFault = 11
 status_of Answer.Memory = 12
-status_of Answer.NotYet = 13

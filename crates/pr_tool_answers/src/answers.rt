@@ -54,8 +54,6 @@ pub enum Answer {
     WriteFault,
     /// Memory was wanting.
     Memory,
-    /// The words or the files are lawful, but this is not built yet.
-    NotYet,
 }
 
 impl Cause {
@@ -91,7 +89,6 @@ impl Answer {
             Answer::ReadFault => 10,
             Answer::WriteFault => 11,
             Answer::Memory => 12,
-            Answer::NotYet => 13,
             Answer::BadList { .. } => 14,
             Answer::Part { cause, .. } => cause.status(),
         }

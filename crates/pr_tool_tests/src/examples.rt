@@ -170,7 +170,7 @@ type Line<'a> = (&'a [&'a str], Answer, u8, &'a str, &'a str);
 const USAGE: &str =
     "usage: piperench MODE FIRST [SECOND] [--stripes P] [--stall FILE] [--fabric F] [--narrow]\n";
 
-const LINES: [Line<'_>; 42] = [
+const LINES: [Line<'_>; 41] = [
     (
         &["--stripes=16", "run", "--fabric", "base", "p", "s"],
         Answer::Ok,
@@ -263,7 +263,6 @@ const LINES: [Line<'_>; 42] = [
         "end cycles 0 stalls 0 records 0\n",
         "",
     ),
-    (&["share", "p"], Answer::NotYet, 13, "", "not yet\n"),
     (&["run", "p"], Answer::Usage, 2, "", USAGE),
     (&["fly", "p", "s"], Answer::Usage, 2, "", USAGE),
     (

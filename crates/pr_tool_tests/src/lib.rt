@@ -24,6 +24,8 @@ mod moves;
 #[cfg(test)]
 mod run_faults;
 #[cfg(test)]
+mod shares;
+#[cfg(test)]
 mod streams;
 #[cfg(test)]
 mod texts;

@@ -1,0 +1,7 @@
+pub mod ListVerdicts
+pub mod ItemLemmas
+pub mod EndLemmas
+pub mod LineLemmas
+pub mod ShareVerdicts
+pub mod SharedLines
+pub mod ShareAnswers

@@ -1,0 +1,46 @@
+use Rattle.std.proofs.Common.{◌≡◌, ◌++◌, ◌+◌, ◌∷◌, [], ℕ, suc, List, take, map, slice_get, Some, option_map, sym, ap, ◌∙◌, subst, arith, rules, inl}
+use Rattle.std.proofs.lemmas.Option.{slice_get-map}
+use Rattle.pr_edge.specs.Files.{Told}
+use Rattle.pr_share.proofs.ListFacts.{got_from}
+use Rattle.pr_share_list.specs.List.{entry_in}
+use Rattle.pr_tool_answers.specs.declared.answers.Answer.{Answer}
+use Rattle.pr_tool_modes.specs.Sources.{IsSourceRefusal}
+use Rattle.pr_tool_share.specs.Lists.{part_answer, source_in, IsProgramRefusal}
+use Rattle.pr_tool_share.specs.Items.{Item, IsItemOf, AreItemsOf}
+use Rattle.pr_tool_share.proofs.ItemLemmas.{items_more, refused_at}
+use Rattle.pr_tool_share.proofs.items.make_items.Goals as goal
+
+pub returns-in-Err-clause-refused : goal.returns-in-Err-clause-refused
+returns-in-Err-clause-refused g c =
+    let inv = c.loop-number.invariant in
+    let told = g.S.Shelf.told c.args.shelf.now in
+    let before = g.S.Shelf.faults c.args.shelf.now in
+    let mid = g.S.Shelf.faults c.loop-number.shelf in
+    let now = g.S.Shelf.faults c.make_item.new.shelf in
+    let number = c.loop-number.number in
+    let entry = c.index-entries-number.result in
+    let entries = map entry_in c.args.entries.now in
+    let here : slice_get entries number ≡ Some (entry_in entry) =
+    slice_get-map entry_in c.args.entries.now number ∙ ap (option_map entry_in) (got_from c.args.entries.now number entry c.loop-number-test.true c.index-entries-number.is) in
+    let refused = subst (λ (t : Told). IsSourceRefusal t (source_in (entry_in entry)) mid now c.in-Err.answer) inv.same c.in-Err.ensures.refused in
+    let at = refused_at told before mid now entries c.loop-number.items.items 0 number (entry_in entry) c.in-Err.answer inv.ready here inv.later refused in
+    let same : part_answer (0 + number) c.in-Err.answer ≡ c.part_of.result = ap (λ (n : ℕ). part_answer n c.in-Err.answer) (omega (arith, c.loop-number-test.true, c.requires)) ∙ sym c.part_of.ensures in
+    inl (subst (λ (a : Answer). IsProgramRefusal told before now 0 entries a) same at)
+
+pub loop-number-preserved : goal.loop-number-preserved
+loop-number-preserved g c =
+    let inv = c.loop-number.invariant in
+    let told = g.S.Shelf.told c.args.shelf.now in
+    let number = c.loop-number.number in
+    let entry = c.index-entries-number.result in
+    let entries = map entry_in c.args.entries.now in
+    let here : slice_get entries number ≡ Some (entry_in entry) =
+    slice_get-map entry_in c.args.entries.now number ∙ ap (option_map entry_in) (got_from c.args.entries.now number entry c.loop-number-test.true c.index-entries-number.is) in
+    let ready = subst (λ (t : Told). IsItemOf t (entry_in entry) c.in-Ok.item) inv.same c.in-Ok.ensures.ready in
+    let pushed : c.push.new.self.items ≡ c.loop-number.items.items ++ c.in-Ok.item ∷ [] = first_of (cc, search rules, grind arith) in
+    let one : suc number ≡ number + 1 = omega arith in
+    record {
+      ready = subst (λ (xs : List Item). AreItemsOf told (take (number + 1) entries) xs) (sym pushed) (subst (λ (n : ℕ). AreItemsOf told (take n entries) (c.loop-number.items.items ++ c.in-Ok.item ∷ [])) one (items_more told entries c.loop-number.items.items number (entry_in entry) c.in-Ok.item inv.ready here ready));
+      later = omega (arith, inv.later, c.make_item.ensures.later);
+      same = c.make_item.ensures.same ∙ inv.same;
+    }

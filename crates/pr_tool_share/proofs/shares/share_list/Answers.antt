@@ -1,0 +1,45 @@
+use Rattle.std.proofs.Common.{◌≡◌, ◌⊎◌, List, length, map, refl, sym, ap, subst, arith, inl, inr}
+use Rattle.pr_edge.specs.Files.{Told}
+use Rattle.pr_share.specs.Items.{AreReady}
+use Rattle.pr_share_list.specs.List.{entry_in}
+use Rattle.pr_share_list.specs.declared.lines.Entry.{Entry as Named}
+use Rattle.pr_tool_answers.specs.declared.answers.Answer.{Answer}
+use Rattle.pr_tool_share.specs.Lists.{IsProgramRefusal}
+use Rattle.pr_tool_share.specs.Items.{Item, AreItemsOf}
+use Rattle.pr_tool_share.proofs.ItemLemmas.{program_earlier, length-items, are_ready, listed_quotas}
+use Rattle.pr_tool_share.proofs.shares.share_list.Goals as goal
+
+pub returns-in-Err-make_items-clause-shared : goal.returns-in-Err-make_items-clause-shared
+returns-in-Err-make_items-clause-shared g c =
+    let told = g.S.Shelf.told c.args.shelf.now in
+    let before = g.S.Shelf.faults c.args.shelf.now in
+    let mid = g.S.Shelf.faults c.load_list.new.shelf in
+    let now = g.S.Shelf.faults c.make_items.new.shelf in
+    let entries = map entry_in c.in-Ok.entries.items in
+    let a = c.in-Err-make_items.answer in
+    let refused = subst (λ (xs : List Named). IsProgramRefusal (g.S.Shelf.told c.load_list.new.shelf) mid now 0 (map entry_in xs) a ⊎ (a ≡ Answer.Memory)) c.deref.ensures.value c.in-Err-make_items.ensures.refused in
+    elim refused [
+      | inl is ↦ inl (record {
+        cause = inr (inl (record {
+          entries = entries;
+          has = c.in-Ok.ensures.list;
+          refused = program_earlier told before mid now 0 entries a c.load_list.ensures.later (subst (λ (t : Told). IsProgramRefusal t mid now 0 entries a) c.load_list.ensures.same is);
+        }));
+        unwritten = refl;
+      })
+      | inr memory ↦ inl (record { cause = inr (inr memory); unwritten = refl })
+    ]
+
+pub take_turns-requires-clause-few : goal.take_turns-requires-clause-few
+take_turns-requires-clause-few g c =
+    let items = length-items _ _ _ c.in-Ok-make_items.ensures.ready in
+    let few = c.in-Ok.ensures.list.listed.say.few in
+    let same = ap (λ (xs : List Named). length (map entry_in xs)) c.deref.ensures.value in
+    let value = ap (λ (xs : List Item). length xs) c.deref_mut.ensures.value in
+    omega (arith, items, few, same, value)
+
+pub take_turns-requires-clause-ready : goal.take_turns-requires-clause-ready
+take_turns-requires-clause-ready g c =
+    let least = listed_quotas _ _ c.in-Ok.ensures.list.listed in
+    let ready = subst (λ (xs : List Named). AreItemsOf (g.S.Shelf.told c.load_list.new.shelf) (map entry_in xs) c.in-Ok-make_items.items.items) c.deref.ensures.value c.in-Ok-make_items.ensures.ready in
+    subst (λ (xs : List Item). AreReady xs) (sym c.deref_mut.ensures.value) (are_ready _ (map entry_in c.in-Ok.entries.items) c.in-Ok-make_items.items.items ready least)

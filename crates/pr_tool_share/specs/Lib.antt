@@ -1,0 +1,5 @@
+pub mod Lists
+pub mod Ends
+pub mod Items
+pub mod Shares
+pub mod Lines

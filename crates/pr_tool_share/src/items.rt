@@ -1,0 +1,128 @@
+//! The programs of a list, made ready for their turns.
+ghost use Rattle.std.specs.Prelude.{◌≡◌, ◌≤◌, ◌⊎◌, IfOk, IfErr, length, map};
+ghost use Rattle.pr_conf.specs.Configuration.{shape_of};
+ghost use Rattle.pr_share_list.specs.List.{entry_in};
+ghost use Rattle.pr_tool_modes.specs.Sources.{Gives, IsSourceRefusal};
+ghost use Rattle.pr_tool_share.specs.Lists.{part_answer, source_in, IsProgramRefusal};
+ghost use Rattle.pr_tool_share.specs.Items.{IsParkedFor, IsItemOf, AreItemsOf};
+
+use pr_conf::Configuration;
+use pr_edge::Shelf;
+use pr_machine::Parked;
+use pr_samples::Feed;
+use pr_share::ShareItem;
+use pr_share_list::Entry;
+use pr_tool_answers::{Answer, Cause};
+use pr_tool_modes::{Fabric, Loadable, Source, Target, load};
+use std::alloc::{AllocError, Global};
+
+/// The answer where a program of a list ends so, by the answer of the program alone.
+fn part_of(number: u8, answer: Answer) -> Answer
+    ensures { result ≡ part_answer number answer }
+{
+    let cause = match answer {
+        Answer::Syntax { token } => Cause::Syntax { token },
+        Answer::Scope { rule, item } => Cause::Scope { rule, item },
+        Answer::NoWidth { equation } => Cause::NoWidth { equation },
+        Answer::NoFit { unit } => Cause::NoFit { unit },
+        Answer::Limit { which } => Cause::Limit { which },
+        Answer::BadSample { line } => Cause::BadSample { line },
+        other => return other,
+    };
+    Answer::Part {
+        program: number,
+        cause,
+    }
+}
+
+/// Reads and compiles the program of an entry, for the base fabric and not narrowed.
+fn compile<S: Shelf>(
+    alloc: Global,
+    shelf: &mut S,
+    entry: &Entry,
+) -> Result<Configuration<16, 8>, Answer>
+    ensures compiled { IfOk result (λ c. Gives (S.told shelf.old) (source_in (entry_in entry.now)) 16 8 (shape_of c)) }
+    ensures refused { IfErr result (IsSourceRefusal (S.told shelf.old) (source_in (entry_in entry.now)) (S.faults shelf.old) (S.faults shelf.new)) }
+    ensures later { S.faults shelf.old ≤ S.faults shelf.new }
+    ensures same { S.told shelf.new ≡ S.told shelf.old }
+{
+    let target = Target {
+        fabric: Fabric::Base,
+        narrowed: false,
+    };
+    let source = Source::Program {
+        name: &entry.program,
+        target,
+    };
+    match load(alloc, &source, shelf) {
+        Err(answer) => Err(answer),
+        Ok(Loadable::Base(conf)) => Ok(conf),
+        Ok(Loadable::Wide(_)) => unreachable!(),
+    }
+}
+
+/// A configuration that is parked, with the samples and the quota of an entry.
+fn park(
+    alloc: Global,
+    said: &Entry,
+    conf: Configuration<16, 8>,
+) -> Result<ShareItem<16, 8>, AllocError>
+    ensures { IfOk result (λ i. IsParkedFor (entry_in said.now) (shape_of conf) i) }
+{
+    let feed = Feed::make(alloc, &said.samples, &conf.inputs)?;
+    match Parked::make(alloc, conf) {
+        Err(_) => Err(AllocError),
+        Ok(parked) => Ok(ShareItem {
+            parked: Some(parked),
+            feed,
+            quota: said.quota,
+            ended: None,
+        }),
+    }
+}
+
+/// Makes the program of an entry ready for its turns.
+fn make_item<S: Shelf>(
+    alloc: Global,
+    shelf: &mut S,
+    entry: &Entry,
+) -> Result<ShareItem<16, 8>, Answer>
+    ensures ready { IfOk result (λ i. IsItemOf (S.told shelf.old) (entry_in entry.now) i) }
+    ensures refused { IfErr result (IsSourceRefusal (S.told shelf.old) (source_in (entry_in entry.now)) (S.faults shelf.old) (S.faults shelf.new)) }
+    ensures later { S.faults shelf.old ≤ S.faults shelf.new }
+    ensures same { S.told shelf.new ≡ S.told shelf.old }
+{
+    let conf = match compile(alloc, shelf, entry) {
+        Ok(conf) => conf,
+        Err(answer) => return Err(answer),
+    };
+    match park(alloc, entry, conf) {
+        Ok(item) => Ok(item),
+        Err(_) => Err(Answer::Memory),
+    }
+}
+
+/// Makes the programs of a list ready for their turns. They are read and compiled in order, and the first that is refused ends it.
+pub(crate) fn make_items<S: Shelf>(
+    alloc: Global,
+    shelf: &mut S,
+    entries: &[Entry],
+) -> Result<Vec<ShareItem<16, 8>>, Answer>
+    requires { length entries.now ≤ 8 }
+    ensures ready { IfOk result (λ items. AreItemsOf (S.told shelf.old) (map entry_in entries.now) items.items) }
+    ensures refused { IfErr result (λ a. IsProgramRefusal (S.told shelf.old) (S.faults shelf.old) (S.faults shelf.new) 0 (map entry_in entries.now) a ⊎ (a ≡ Answer.Memory)) }
+    ensures later { S.faults shelf.old ≤ S.faults shelf.new }
+    ensures same { S.told shelf.new ≡ S.told shelf.old }
+{
+    let mut items = Vec::new(alloc);
+    for number in 0..entries.len() {
+        let item = match make_item(alloc, shelf, &entries[number]) {
+            Ok(item) => item,
+            Err(answer) => return Err(part_of(number as u8, answer)),
+        };
+        if items.push(item).is_err() {
+            return Err(Answer::Memory);
+        }
+    }
+    Ok(items)
+}

@@ -1,0 +1,35 @@
+//! Lists of programs that are read from files.
+ghost use Rattle.std.specs.Prelude.{◌≡◌, ◌≤◌, ℕ, IfOk, IfErr, map};
+ghost use Rattle.pr_share_list.specs.List.{entry_in};
+ghost use Rattle.pr_tool_share.specs.Lists.{HasList, IsListRefusal};
+
+use pr_edge::Shelf;
+use pr_share_list::{Entry, ListFault, read_list};
+use pr_tool_answers::Answer;
+use pr_tool_modes::{Cap, read_file};
+use std::alloc::Global;
+
+/// The bytes of a list at most.
+const LIMIT: usize = 65_536;
+
+/// Reads the programs of a list.
+pub(crate) fn load_list<S: Shelf>(
+    alloc: Global,
+    shelf: &mut S,
+    list: &str,
+) -> Result<Vec<Entry>, Answer>
+    ensures list { IfOk result (λ entries. HasList (S.told shelf.old) list.now (map entry_in entries.items)) }
+    ensures refused { IfErr result (IsListRefusal (S.told shelf.old) list.now (S.faults shelf.old) (S.faults shelf.new)) }
+    ensures later { S.faults shelf.old ≤ S.faults shelf.new }
+    ensures same { S.told shelf.new ≡ S.told shelf.old }
+{
+    let text = match read_file(alloc, shelf, list, LIMIT, Cap::ListBytes) {
+        Ok(text) => text,
+        Err(answer) => return Err(answer),
+    };
+    match read_list(alloc, &text) {
+        Ok(entries) => Ok(entries),
+        Err(ListFault::BadList { line }) => Err(Answer::BadList { line }),
+        Err(ListFault::Memory(_)) => Err(Answer::Memory),
+    }
+}

@@ -1,0 +1,104 @@
+//! A list of programs that take turns.
+ghost use Rattle.std.specs.Prelude.{◌≡◌, ◌≤◌, ◌^◌, ◌⊎◌, ℕ, IfOk, IfErr, OnErr, length};
+ghost use Rattle.pr_edge.specs.Files.{Told};
+ghost use Rattle.pr_run.specs.Setting.{view};
+ghost use Rattle.pr_share.specs.Items.{World, world, AreReady};
+ghost use Rattle.pr_tool_modes.specs.Calls.{call};
+ghost use Rattle.pr_tool_share.specs.Items.{Item};
+ghost use Rattle.pr_tool_share.specs.Shares.{HaveTaken, IsSharedBy};
+
+use crate::ends::answer_of;
+use crate::items::make_items;
+use crate::lists::load_list;
+use pr_edge::{Shelf, Sink};
+use pr_machine::{Bare, Machine};
+use pr_run::Room;
+use pr_share::{ShareEnd, ShareItem, share};
+use pr_tool_answers::Answer;
+use std::alloc::{AllocError, Global};
+
+/// A list of programs that are to take turns.
+#[derive(Clone, Copy, PartialEq, Eq, Debug)]
+pub struct Sharing<'a> {
+    /// The name of the list's file.
+    pub list: &'a str,
+    /// The number of stripes.
+    pub stripes: usize,
+    ghost least: { 2 ≤ stripes },
+    ghost greatest: { stripes ≤ 256 },
+}
+
+/// What programs take turns on.
+#[derive(Drop)]
+struct Place {
+    /// The machine.
+    machine: Machine<16, 8, Bare>,
+    /// The buffers.
+    room: Room,
+}
+
+/// A bare machine of so many stripes, and the buffers of a run.
+fn make_place(alloc: Global, stripes: usize) -> Result<Place, AllocError>
+    requires two { 2 ≤ stripes }
+    requires most { stripes ≤ 256 }
+{
+    let machine = Machine::<16, 8, Bare>::make(alloc, stripes)?;
+    let room = Room::make(alloc)?;
+    Ok(Place { machine, room })
+}
+
+/// Runs programs in turns until the samples of all have ended. No memory is taken.
+fn take_turns<S: Shelf, K: Sink>(
+    place: Place,
+    items: &mut [ShareItem<16, 8>],
+    shelf: &mut S,
+    out: &mut K,
+) -> Answer
+    requires few { length items.old ≤ 8 }
+    requires ready { AreReady items.old }
+    ensures taken { HaveTaken items.old items.new (world (S.told shelf.old) (S.faults shelf.old) (K.told out.old)) (world (S.told shelf.new) (S.faults shelf.new) (K.told out.new))
+        (K.faults out.old) (K.faults out.new) result }
+    ensures told { S.told shelf.new ≡ S.told shelf.old }
+    ensures shelf_later { S.faults shelf.old ≤ S.faults shelf.new }
+    ensures out_later { K.faults out.old ≤ K.faults out.new }
+{
+    let Place { machine, mut room } = place;
+    match share(machine, items, shelf, out, &mut room) {
+        ShareEnd::WriteFault => Answer::WriteFault,
+        ShareEnd::Done => answer_of(items),
+    }
+}
+
+/// Runs the programs of a list in turns on the same stripes. Each line of their results goes to `out` after its program's number.
+///
+/// The list is read first, and then its programs are read and compiled in order, for the base fabric and not narrowed. Where the
+/// list or a program is refused, or there is no memory, nothing is written. After the first turn has begun no memory is taken. Where
+/// the samples of a program end otherwise than with the end of their file, its results before are written, and the others go on.
+pub fn share_list<S: Shelf, K: Sink>(
+    alloc: Global,
+    sharing: &Sharing<'_>,
+    shelf: &mut S,
+    out: &mut K,
+) -> Answer
+    // What it came to: a refusal before the turns, or the turns.
+    ensures shared { IsSharedBy sharing.now.list.now (call
+        (view (S.told shelf.old) (S.reach shelf.old) (S.faults shelf.old)) (view (S.told shelf.new) (S.reach shelf.new) (S.faults shelf.new))
+        (K.told out.old) (K.told out.new) (K.faults out.old) (K.faults out.new)) result }
+
+    ensures told { S.told shelf.new ≡ S.told shelf.old }
+    ensures shelf_later { S.faults shelf.old ≤ S.faults shelf.new }
+    ensures out_later { K.faults out.old ≤ K.faults out.new }
+{
+    let entries = match load_list(alloc, shelf, sharing.list) {
+        Ok(entries) => entries,
+        Err(answer) => return answer,
+    };
+    let mut items = match make_items(alloc, shelf, &entries) {
+        Ok(items) => items,
+        Err(answer) => return answer,
+    };
+    match make_place(alloc, sharing.stripes) {
+        Ok(place) => take_turns(place, &mut items, shelf, out),
+        Err(_) => Answer::Memory,
+    }
+}
