@@ -16,7 +16,7 @@ const SEVENTEEN: &str = "input a:128; input b:8; output y = b;";
 
 /// The programs, the samples, and a list.
 fn files(alloc: Global, list: &str) -> Result<Vec<(String, Vec<u8>)>, AllocError> {
-    vec![in alloc;
+    let files = vec![in alloc;
         named(alloc, "l", list)?,
         named(alloc, "r", RUNNING_SUM)?,
         named(alloc, "q", "5\n1\n1\n")?,
@@ -26,7 +26,8 @@ fn files(alloc: Global, list: &str) -> Result<Vec<(String, Vec<u8>)>, AllocError
         named(alloc, "g", GROWING_SUM)?,
         named(alloc, "w", SEVENTEEN)?,
         named(alloc, "e", "")?,
-    ]
+    ]?;
+    Ok(files)
 }
 
 /// A list, the answer, the status, the text and the note that it is to come to.
