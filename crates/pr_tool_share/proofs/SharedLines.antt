@@ -20,11 +20,11 @@ use Rattle.pr_tool_modes.specs.Calls.{Call}
 use Rattle.pr_tool_modes.specs.Samples.{fed_at_most, ended_by, samples_verdict}
 use Rattle.pr_tool_modes.proofs.FedLemmas.{fed_limit}
 use Rattle.pr_tool_modes.proofs.ReasonLemmas.{is_of_samples, refuses, IsKind}
-use Rattle.pr_tool_share.specs.Lists.{HasList, IsBadList, IsListRefusal, part_answer}
+use Rattle.pr_tool_share.specs.Lists.{HasList, IsBadList, IsListRefusal, IsProgramRefusal, part_answer}
 use Rattle.pr_tool_share.specs.Ends.{is_read_fault, part_or, first_part, answer_of_all}
 use Rattle.pr_tool_share.specs.Items.{Item, AreItemsOf, end_of}
 use Rattle.pr_tool_share.specs.Shares.{IsProgramRefused, HaveTaken, IsSharedBy}
-use Rattle.pr_tool_share.specs.Lines.{HaveLines, ByLimit, ByEnd, AreSharedLines}
+use Rattle.pr_tool_share.specs.Lines.{HaveLines, IsUnread, ByLimit, ByEnd, AreSharedLines}
 use Rattle.pr_tool_share.proofs.ListVerdicts.{program_kind}
 use Rattle.pr_tool_share.proofs.EndLemmas.{item_end, not_sample, last_given, AreAll}
 use Rattle.pr_tool_share.proofs.LineLemmas.{WasFed, WereFed, wholes_in, may_all, same_wholes, have_lines}
@@ -48,36 +48,36 @@ not_true : (b : Bool) → not b ≡ true → b ≡ false
 not_true true e = absurd (true≢false (sym e))
 not_true false e = refl
 
-refused_part : (whole cut none : Type 0) (k : ℕ) (alone : Answer) → refuses alone ≡ true → none → ByEnd whole cut none (part_answer k alone)
-refused_part whole cut none k (Answer.Limit which) is h = no_limit whole none which (not_true (is_of_samples which) is) h
-refused_part whole cut none k Answer.Ok is h = absurd (true≢false (sym is))
-refused_part whole cut none k (Answer.BadSample line) is h = absurd (true≢false (sym is))
-refused_part whole cut none k (Answer.Part program cause) is h = absurd (true≢false (sym is))
-refused_part whole cut none k Answer.ReadFault is h = absurd (true≢false (sym is))
-refused_part whole cut none k Answer.WriteFault is h = absurd (true≢false (sym is))
-refused_part whole cut none k alone is h = h
+refused_part : (whole cut unread none : Type 0) (k : ℕ) (alone : Answer) → refuses alone ≡ true → none → ByEnd whole cut unread none (part_answer k alone)
+refused_part whole cut unread none k (Answer.Limit which) is h = no_limit whole none which (not_true (is_of_samples which) is) h
+refused_part whole cut unread none k Answer.Ok is h = absurd (true≢false (sym is))
+refused_part whole cut unread none k (Answer.BadSample line) is h = absurd (true≢false (sym is))
+refused_part whole cut unread none k (Answer.Part program cause) is h = absurd (true≢false (sym is))
+refused_part whole cut unread none k Answer.ReadFault is h = absurd (true≢false (sym is))
+refused_part whole cut unread none k Answer.WriteFault is h = absurd (true≢false (sym is))
+refused_part whole cut unread none k alone is h = h
 
-kind_part : (whole cut none cause : Type 0) (k : ℕ) (alone : Answer) → IsKind cause alone → none → ByEnd whole cut none (part_answer k alone)
-kind_part whole cut none cause k alone (inl refused) h = refused_part whole cut none k alone refused h
-kind_part whole cut none cause k alone (inr (inl read)) h = subst (λ (a : Answer). ByEnd whole cut none (part_answer k a)) (sym read.0) (inl h)
-kind_part whole cut none cause k alone (inr (inr memory)) h = subst (λ (a : Answer). ByEnd whole cut none (part_answer k a)) (sym memory) h
+kind_part : (whole cut unread none cause : Type 0) (k : ℕ) (alone : Answer) → IsKind cause alone → (part_answer k alone ≡ Answer.ReadFault → unread) → none → ByEnd whole cut unread none (part_answer k alone)
+kind_part whole cut unread none cause k alone (inl refused) fault h = refused_part whole cut unread none k alone refused h
+kind_part whole cut unread none cause k alone (inr (inl read)) fault h = subst (λ (a : Answer). ByEnd whole cut unread none (part_answer k a)) (sym read.0) (inl (fault (ap (part_answer k) read.0)))
+kind_part whole cut unread none cause k alone (inr (inr memory)) fault h = subst (λ (a : Answer). ByEnd whole cut unread none (part_answer k a)) (sym memory) h
 
-bad_list : (whole cut none : Type 0) (text : List ℕ) (a : Answer) → IsBadList text a → none → ByEnd whole cut none a
-bad_list whole cut none text (Answer.BadList line) is h = h
-bad_list whole cut none text a is h = absurd is
+bad_list : (whole cut unread none : Type 0) (text : List ℕ) (a : Answer) → IsBadList text a → none → ByEnd whole cut unread none a
+bad_list whole cut unread none text (Answer.BadList line) is h = h
+bad_list whole cut unread none text a is h = absurd is
 
-refused_list : (whole cut none : Type 0) (told : Told) (list : List ℕ) (before now : ℕ) (a : Answer) → IsListRefusal told list before now a → none → ByEnd whole cut none a
-refused_list whole cut none told list before now a (inl (inl long)) h = subst (ByEnd whole cut none) (sym long.0) h
-refused_list whole cut none told list before now a (inl (inr (inl read))) h = subst (ByEnd whole cut none) (sym read.0) (inl h)
-refused_list whole cut none told list before now a (inl (inr (inr memory))) h = subst (ByEnd whole cut none) (sym memory) h
-refused_list whole cut none told list before now a (inr has) h = bad_list whole cut none has.text a has.refused h
+refused_list : (whole cut unread none : Type 0) (told : Told) (list : List ℕ) (before now : ℕ) (a : Answer) → IsListRefusal told list before now a → (a ≡ Answer.ReadFault → unread) → none → ByEnd whole cut unread none a
+refused_list whole cut unread none told list before now a (inl (inl long)) fault h = subst (ByEnd whole cut unread none) (sym long.0) h
+refused_list whole cut unread none told list before now a (inl (inr (inl read))) fault h = subst (ByEnd whole cut unread none) (sym read.0) (inl (fault read.0))
+refused_list whole cut unread none told list before now a (inl (inr (inr memory))) fault h = subst (ByEnd whole cut unread none) (sym memory) h
+refused_list whole cut unread none told list before now a (inr has) fault h = bad_list whole cut unread none has.text a has.refused h
 
-held_lines : (whole cut none : Type 0) (list : List ℕ) (k : Call) (a : Answer) → IsListRefusal k.before.told list k.before.faults k.now.faults a ⊎ (IsProgramRefused list k a ⊎ (a ≡ Answer.Memory)) → none → ByEnd whole cut none a
-held_lines whole cut none list k a (inl refused) h = refused_list whole cut none k.before.told list k.before.faults k.now.faults a refused h
-held_lines whole cut none list k a (inr (inl refused)) h =
+held_lines : (whole cut unread none : Type 0) (list : List ℕ) (k : Call) (a : Answer) → IsListRefusal k.before.told list k.before.faults k.now.faults a ⊎ (IsProgramRefused list k a ⊎ (a ≡ Answer.Memory)) → (a ≡ Answer.ReadFault → unread) → none → ByEnd whole cut unread none a
+held_lines whole cut unread none list k a (inl refused) fault h = refused_list whole cut unread none k.before.told list k.before.faults k.now.faults a refused fault h
+held_lines whole cut unread none list k a (inr (inl refused)) fault h =
     let kind = program_kind k.before.told k.before.faults k.now.faults 0 refused.entries a refused.refused in
-    subst (ByEnd whole cut none) (sym kind.answers) (kind_part whole cut none _ kind.place kind.alone kind.kind h)
-held_lines whole cut none list k a (inr (inr memory)) h = subst (ByEnd whole cut none) (sym memory) h
+    subst (ByEnd whole cut unread none) (sym kind.answers) (kind_part whole cut unread none _ kind.place kind.alone kind.kind (λ is. fault (kind.answers ∙ is)) h)
+held_lines whole cut unread none list k a (inr (inr memory)) fault h = subst (ByEnd whole cut unread none) (sym memory) h
 
 -- ---- by how the samples ended
 -- a limit that ended samples is one of theirs
@@ -127,21 +127,21 @@ samples_limit whole none Cap.StallBytes is h = absurd (true≢false (sym is))
 samples_limit whole none Cap.ConfigBytes is h = absurd (true≢false (sym is))
 samples_limit whole none Cap.ListBytes is h = absurd (true≢false (sym is))
 
-part_lines : (whole cut none : Type 0) (k : ℕ) (a other : Answer) → IsOfSamples a → whole → ByEnd whole cut none other → ByEnd whole cut none (part_or k a other)
-part_lines whole cut none k (Answer.BadSample line) other is w h = w
-part_lines whole cut none k (Answer.Limit which) other is w h = samples_limit whole none which is w
-part_lines whole cut none k a other is w h = h
+part_lines : (whole cut unread none : Type 0) (k : ℕ) (a other : Answer) → IsOfSamples a → whole → ByEnd whole cut unread none other → ByEnd whole cut unread none (part_or k a other)
+part_lines whole cut unread none k (Answer.BadSample line) other is w h = w
+part_lines whole cut unread none k (Answer.Limit which) other is w h = samples_limit whole none which is w
+part_lines whole cut unread none k a other is w h = h
 
-first_lines : (whole cut none : Type 0) (k : ℕ) (rest : List Answer) → AreOfSamples rest → whole → ByEnd whole cut none (first_part k rest)
-first_lines whole cut none k [] are w = w
-first_lines whole cut none k (a ∷ rest) are w = part_lines whole cut none k a (first_part (k + 1) rest) are.0 w (first_lines whole cut none (k + 1) rest are.1 w)
+first_lines : (whole cut unread none : Type 0) (k : ℕ) (rest : List Answer) → AreOfSamples rest → whole → ByEnd whole cut unread none (first_part k rest)
+first_lines whole cut unread none k [] are w = w
+first_lines whole cut unread none k (a ∷ rest) are w = part_lines whole cut unread none k a (first_part (k + 1) rest) are.0 w (first_lines whole cut unread none (k + 1) rest are.1 w)
 
-done_lines : (whole cut none : Type 0) (rest : List Answer) → AreOfSamples rest → whole → ByEnd whole cut none (answer_of_all rest)
-done_lines whole cut none rest are w = by_test (list_any is_read_fault rest)
+done_lines : (whole cut unread none : Type 0) (rest : List Answer) → AreOfSamples rest → whole → ByEnd whole cut unread none (answer_of_all rest)
+done_lines whole cut unread none rest are w = by_test (list_any is_read_fault rest)
   where
-    by_test : (b : Bool) → ByEnd whole cut none (cond b Answer.ReadFault (first_part 0 rest))
+    by_test : (b : Bool) → ByEnd whole cut unread none (cond b Answer.ReadFault (first_part 0 rest))
     by_test true = inr w
-    by_test false = first_lines whole cut none 0 rest are w
+    by_test false = first_lines whole cut unread none 0 rest are w
 
 no_sample : (last : Got) → (last ≡ Got.Sample → ⊥) → is_sample last ≡ false
 no_sample Got.Sample never = absurd (never refl)
@@ -183,19 +183,37 @@ module _ (files : List ℕ → Option (List ℕ)) (list : List ℕ) (entries : L
       have_lines files list entries firsts givens (AppendsFront start.tape now.tape) has are stopped.givens_count fed_at before start.faults now.faults le (subst (λ (t : Told). RoseBy start.faults now.faults (read_faults t firsts givens)) told stopped.faults)
       (stopped.text (wholes_in files firsts givens) (may_all files entries firsts givens are stopped.givens_count fed_at))
 
-  taken_lines : (none : Type 0) (ob on : ℕ) (a : Answer) → HaveTaken firsts items start now ob on a → ByEnd (HaveLines files list before now.faults (Appends start.tape now.tape)) (HaveLines files list before now.faults (AppendsFront start.tape now.tape)) none a
-  taken_lines none ob on a (inl done) =
+  taken_lines : (unread none : Type 0) (ob on : ℕ) (a : Answer) → HaveTaken firsts items start now ob on a → ByEnd (HaveLines files list before now.faults (Appends start.tape now.tape)) (HaveLines files list before now.faults (AppendsFront start.tape now.tape)) unread none a
+  taken_lines unread none ob on a (inl done) =
       let shared = done.0 in
       let limits = items_limits files entries firsts items shared.givens are shared.items_count shared.givens_count (subst (λ (t : Told). AreAll t firsts items shared.givens) told shared.each) in
-      subst (ByEnd (HaveLines files list before now.faults (Appends start.tape now.tape)) (HaveLines files list before now.faults (AppendsFront start.tape now.tape)) none) (sym done.1)
-      (done_lines (HaveLines files list before now.faults (Appends start.tape now.tape)) (HaveLines files list before now.faults (AppendsFront start.tape now.tape)) none (map end_of items) limits (shared_lines shared))
-  taken_lines none ob on a (inr stopped) =
-      subst (ByEnd (HaveLines files list before now.faults (Appends start.tape now.tape)) (HaveLines files list before now.faults (AppendsFront start.tape now.tape)) none) (sym stopped.1.0) (stopped_lines stopped.0)
+      subst (ByEnd (HaveLines files list before now.faults (Appends start.tape now.tape)) (HaveLines files list before now.faults (AppendsFront start.tape now.tape)) unread none) (sym done.1)
+      (done_lines (HaveLines files list before now.faults (Appends start.tape now.tape)) (HaveLines files list before now.faults (AppendsFront start.tape now.tape)) unread none (map end_of items) limits (shared_lines shared))
+  taken_lines unread none ob on a (inr stopped) =
+      subst (ByEnd (HaveLines files list before now.faults (Appends start.tape now.tape)) (HaveLines files list before now.faults (AppendsFront start.tape now.tape)) unread none) (sym stopped.1.0) (stopped_lines stopped.0)
+
+-- the list was not read, or a program of it
+unread_list : (files : List ℕ → Option (List ℕ)) (list : List ℕ) (k : Call) (a : Answer) → k.before.told ≡ Some files → k.new ≡ k.old → IsListRefusal k.before.told list k.before.faults k.now.faults a ⊎ (IsProgramRefused list k a ⊎ (a ≡ Answer.Memory)) → a ≡ Answer.ReadFault → IsUnread files list k
+unread_list files list k a told same (inl refused) is = record {
+  cause = inl (subst (λ (t : Told). IsListRefusal t list k.before.faults k.now.faults Answer.ReadFault) told (subst (λ (x : Answer). IsListRefusal k.before.told list k.before.faults k.now.faults x) is refused));
+  unwritten = same;
+}
+unread_list files list k a told same (inr (inl refused)) is = record {
+  cause = inr (
+    refused.entries,
+    (
+      subst (λ (t : Told). HasList t list refused.entries) told refused.has,
+      subst (λ (t : Told). IsProgramRefusal t k.before.faults k.now.faults 0 refused.entries Answer.ReadFault) told (subst (λ (x : Answer). IsProgramRefusal k.before.told k.before.faults k.now.faults 0 refused.entries x) is refused.refused),
+    ),
+  );
+  unwritten = same;
+}
+unread_list files list k a told same (inr (inr memory)) is = absurd (let never : Answer.ReadFault ≡ Answer.Memory = sym is ∙ memory in cc)
 
 pub share_lines : (files : List ℕ → Option (List ℕ)) (list : List ℕ) (k : Call) (a : Answer) → k.before.told ≡ Some files → IsSharedBy list k a → AreSharedLines files list k a
 share_lines files list k a told (inl held) =
-    held_lines (HaveLines files list k.before.faults k.now.faults (Appends k.old k.new)) (HaveLines files list k.before.faults k.now.faults (AppendsFront k.old k.new)) (k.new ≡ k.old) list k a held.cause held.unwritten
+    held_lines (HaveLines files list k.before.faults k.now.faults (Appends k.old k.new)) (HaveLines files list k.before.faults k.now.faults (AppendsFront k.old k.new)) (IsUnread files list k) (k.new ≡ k.old) list k a held.cause (unread_list files list k a told held.unwritten held.cause) held.unwritten
 share_lines files list k a told (inr shared) =
     let has = subst (λ (t : Told). HasList t list shared.entries) told shared.has in
     let ready = subst (λ (t : Told). AreItemsOf t shared.entries shared.firsts) told shared.ready in
-    taken_lines files list shared.entries shared.firsts shared.items (world k.before.told shared.faults k.old) (world k.before.told k.now.faults k.new) k.before.faults has ready told shared.later (k.new ≡ k.old) k.out_before k.out_now a shared.taken
+    taken_lines files list shared.entries shared.firsts shared.items (world k.before.told shared.faults k.old) (world k.before.told k.now.faults k.new) k.before.faults has ready told shared.later (IsUnread files list k) (k.new ≡ k.old) k.out_before k.out_now a shared.taken

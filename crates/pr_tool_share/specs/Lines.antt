@@ -14,7 +14,7 @@ use Rattle.pr_tool_answers.specs.declared.answers.Cause.{Cause}
 use Rattle.pr_tool_modes.specs.Calls.{Call}
 use Rattle.pr_tool_modes.specs.Programs.{inputs_of, HasProgram}
 use Rattle.pr_tool_modes.specs.Samples.{fed_in}
-use Rattle.pr_tool_share.specs.Lists.{HasList}
+use Rattle.pr_tool_share.specs.Lists.{HasList, IsListRefusal, IsProgramRefusal}
 
 -- the samples of a program; a file that is not there has none
 abbrev pub samples_of : (List ℕ → Option (List ℕ)) → Entry → Program → List (List ℕ)
@@ -62,15 +62,21 @@ ByCause whole none (Cause.BadSample line) = whole
 ByCause whole none (Cause.Limit which) = ByLimit whole none which
 ByCause whole none cause = none
 
--- by the answer: the text is written, or its first bytes, or nothing
-abbrev pub ByEnd : Type 0 → Type 0 → Type 0 → Answer → Type 0
-ByEnd whole cut none Answer.Ok = whole
-ByEnd whole cut none (Answer.Part program cause) = ByCause whole none cause
-ByEnd whole cut none Answer.ReadFault = none ⊎ whole
-ByEnd whole cut none Answer.WriteFault = cut
-ByEnd whole cut none answer = none
+-- by the answer: the text is written, or its first bytes, or nothing, for which a failed read has a cause of its own
+abbrev pub ByEnd : Type 0 → Type 0 → Type 0 → Type 0 → Answer → Type 0
+ByEnd whole cut unread none Answer.Ok = whole
+ByEnd whole cut unread none (Answer.Part program cause) = ByCause whole none cause
+ByEnd whole cut unread none Answer.ReadFault = unread ⊎ whole
+ByEnd whole cut unread none Answer.WriteFault = cut
+ByEnd whole cut unread none answer = none
+
+-- nothing is written: the list or a program of it is not there, or a read of one of them failed
+pub record IsUnread (files : List ℕ → Option (List ℕ)) (list : List ℕ) (k : Call) : Type 0 where
+  pub cause : IsListRefusal (Some files) list k.before.faults k.now.faults Answer.ReadFault
+      ⊎ ((entries : List Entry) × (HasList (Some files) list entries × IsProgramRefusal (Some files) k.before.faults k.now.faults 0 entries Answer.ReadFault))
+  pub unwritten : k.new ≡ k.old
 
 -- what is written over told files
 abbrev pub AreSharedLines : (List ℕ → Option (List ℕ)) → List ℕ → Call → Answer → Type 0
 AreSharedLines files list k answer =
-    ByEnd (HaveLines files list k.before.faults k.now.faults (Appends k.old k.new)) (HaveLines files list k.before.faults k.now.faults (AppendsFront k.old k.new)) (k.new ≡ k.old) answer
+    ByEnd (HaveLines files list k.before.faults k.now.faults (Appends k.old k.new)) (HaveLines files list k.before.faults k.now.faults (AppendsFront k.old k.new)) (IsUnread files list k) (k.new ≡ k.old) answer
