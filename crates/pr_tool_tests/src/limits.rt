@@ -11,7 +11,7 @@ use std::test::Fail;
 /// The exclusive or, with blanks behind it up to so many bytes.
 fn of_bytes(alloc: Global, bytes: usize) -> Result<Vec<u8>, AllocError> {
     let mut text = Vec::from_slice(alloc, XOR.as_bytes())?;
-    while text.len() < bytes {
+    for _ in text.len()..bytes {
         text.push(b' ')?;
     }
     Ok(text)

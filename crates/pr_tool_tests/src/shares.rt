@@ -180,8 +180,11 @@ fn long_lists(rt: HostRuntime) -> Result<(), Fail> {
             bytes.push(b' ')?;
         }
         bytes.push(b'\n')?;
-        let mut files = files(alloc, "")?;
-        files[0].1 = bytes;
+        let files = vec![in alloc;
+            (String::from_str(alloc, "l")?, bytes),
+            named(alloc, "r", RUNNING_SUM)?,
+            named(alloc, "q", "5\n1\n1\n")?,
+        ]?;
         let mut out = SureSink::make(alloc, 100)?;
         let mut note = SureSink::make(alloc, 100)?;
         let came = answer_to(alloc, &["share", "l"], files, &mut out, &mut note)?;
