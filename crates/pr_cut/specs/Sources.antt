@@ -11,7 +11,7 @@ use Rattle.pr_net.specs.declared.cells.Slice.{Slice}
 use Rattle.pr_net.specs.declared.cells.Cell.{Cell}
 use Rattle.pr_cut_units.specs.Parts.{Making}
 use Rattle.pr_cut_units.specs.Widening.{Argument, read_as}
-use Rattle.pr_cut_units.specs.Equations.{Plan, plan_of, hold_unit, operand_slices, equation_units, next_units, cut_after, cut_whole, Cut}
+use Rattle.pr_cut_units.specs.Equations.{Plan, plan_of, hold_unit, operand_slices, equation_units, next_units, cut_after, cut_whole}
 use Rattle.pr_cut_plan.specs.Plans.{IsPlanOf}
 use Rattle.pr_cut.specs.declared.sources.Source.{Source}
 use Rattle.pr_cut.specs.declared.sources.Turn.{Turn}

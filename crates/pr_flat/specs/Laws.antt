@@ -1,5 +1,5 @@
 -- What laws say of flat equations.
-use Rattle.std.specs.Prelude.{◌≡◌, ℕ, Some, List, length, take, reverse, slice_index}
+use Rattle.std.specs.Prelude.{◌≡◌, ℕ, Some, List, take, reverse, slice_index}
 use Rattle.std.specs.List.{slice_get}
 use Rattle.pr_base.specs.Rows.{IsRow}
 use Rattle.pr_flat.specs.declared.equations.Operand.{Operand}

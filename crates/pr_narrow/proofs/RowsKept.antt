@@ -7,7 +7,6 @@ use Rattle.std.proofs.lemmas.Bool.{cases_lt, and_parts, ltb-true}
 use Rattle.std.proofs.lemmas.Bool.Decides.{nat_tests}
 use Rattle.std.proofs.lemmas.Option.{slice_get_within}
 use Rattle.std.proofs.Math.Nat.{mod-eq_of_lt}
-use Rattle.pr_base.specs.Rows.{IsRow}
 use Rattle.pr_flat.specs.declared.equations.Operand.{Operand}
 use Rattle.pr_flat.specs.declared.equations.Operand.TheVariants.{Const, Eq, Past}
 use Rattle.pr_flat.specs.declared.equations.Op.{Op}
@@ -20,7 +19,7 @@ use Rattle.pr_flat.specs.Shape.{EquationShape, EachEquation}
 use Rattle.pr_flat.specs.Facts.{arity, is_lawful_output, is_input, is_rec, is_lawful_operand, IsFlat}
 use Rattle.pr_flat.specs.Widths.{operand_width, operand_forms, settled_width, AreWidths}
 use Rattle.pr_flat.specs.Laws.{AllHaveWidths, AreSamples}
-use Rattle.pr_flat.specs.Values.{input_widths, output_list, Sight, init_of, initial_of, number_before, operand_number, delayed_number, points_in, operator_number, recurrence_number, first_delayed, number_in, row_of, rows_after, rows_of, HaveWidths}
+use Rattle.pr_flat.specs.Values.{output_list, Sight, init_of, initial_of, number_before, operand_number, delayed_number, points_in, operator_number, recurrence_number, first_delayed, number_in, row_of, rows_after, rows_of, HaveWidths}
 use Rattle.pr_flat.proofs.NumberLemmas.{row_of-holds, rows_of-have_widths, IsSampleFor-from_IsRow, number_width-holds, initial-holds}
 use Rattle.pr_flat.proofs.WidthLemmas.{PastOf, past_of, equation_at}
 use Rattle.pr_flat.proofs.ValueLemmas.{row_of-at, forms_of-points_in}
