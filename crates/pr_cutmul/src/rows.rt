@@ -16,9 +16,6 @@ use pr_net::{Net, Slice};
 use std::alloc::{AllocError, Global};
 use thiserror::Error;
 
-/// The most units of a net.
-const MOST_UNITS: usize = 32_768;
-
 /// Why rows are not appended.
 #[derive(Debug, Drop, Error)]
 pub enum RowFault {
@@ -80,7 +77,7 @@ pub fn mul_rows(
     ensures same { HasSame net.old net.new }
 {
     let count = rows_of(bits, wa, wb);
-    if net.units.len() + count > MOST_UNITS {
+    if net.units.len() + count > Cap::MOST_UNITS {
         return Err(RowFault::Limit(Cap::Units));
     }
     let slices = product(alloc, &mut net.units, &Factors { a, wa, b, wb }, bits)?;
@@ -114,7 +111,7 @@ pub fn shift_rows(
     ensures part { OnErr result (IsPrefix net.new.units.items (net.old.units.items ++ (shifted_by left wa by.now wby a.now (length net.old.units.items)).units)) }
     ensures same { HasSame net.old net.new }
 {
-    if net.units.len() + usize::from(wby) > MOST_UNITS {
+    if net.units.len() + usize::from(wby) > Cap::MOST_UNITS {
         return Err(RowFault::Limit(Cap::Units));
     }
     let shift = Shift {

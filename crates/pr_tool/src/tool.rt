@@ -13,15 +13,16 @@ ghost use Rattle.pr_tool_modes.specs.declared.targets.Target.{Target};
 ghost use Rattle.pr_tool.specs.Notes.{note_of};
 ghost use Rattle.pr_tool.specs.Noted.{GainsNote};
 ghost use Rattle.pr_tool.specs.Plans.{Runs, plan_of};
-ghost use Rattle.pr_tool.specs.Words.{asked_by, bounds_for, bounds_in, input_bytes, IsOther};
+ghost use Rattle.pr_tool.specs.Words.{asked_by, bounds_for, bounds_in, fabric_for, IsOther};
 ghost use Rattle.pr_tool.specs.Calls.{IsUnchanged, IsCalled, IsVerdict, IsToldVerdict, HasGained};
 
 use crate::modes::carry_out;
 use crate::notes::{Bounds, put_note};
 use crate::plans::plan_of;
+use pr_base::{Cap, Fabric};
 use pr_edge::{Shelf, Sink};
 use pr_tool_answers::Answer;
-use pr_tool_modes::{Bench, Fabric};
+use pr_tool_modes::Bench;
 use pr_tool_words::{Mode, Words, WordsFault, read_words};
 use std::alloc::Global;
 
@@ -100,16 +101,13 @@ pub fn piperench<S: Shelf, K: Sink, E: Sink>(
     reply.answer
 }
 
-/// The slices of all inputs at most: the columns of the fabric. The programs of a list are for the base fabric.
-fn input_bytes(words: &Words<'_>) -> u64
-    ensures { result ≡ input_bytes (order_of words.now) (order_of words.now).task }
+/// The fabric of the programs of a command line. Those of a list are for the base fabric.
+fn fabric_for(words: &Words<'_>) -> Fabric
+    ensures { result ≡ fabric_for (order_of words.now) (order_of words.now).task }
 {
-    if let Mode::Share { .. } = words.mode {
-        return 16;
-    }
-    match words.options.fabric {
-        Fabric::Base => 16,
-        Fabric::Wide => 32,
+    match words.mode {
+        Mode::Share { .. } => Fabric::Base,
+        _ => words.options.fabric,
     }
 }
 
@@ -117,13 +115,13 @@ fn input_bytes(words: &Words<'_>) -> u64
 fn bounds_of(words: &Words<'_>) -> Bounds
     ensures { result ≡ bounds_for (order_of words.now) }
 {
-    let input_bytes = input_bytes(words);
+    let fabric = fabric_for(words);
     let sample_bytes = match words.mode {
-        Mode::Eval { .. } => 16_777_216,
-        _ => 17_592_186_044_416,
+        Mode::Eval { .. } => Cap::MOST_EVALUATED_BYTES,
+        _ => Cap::MOST_SAMPLE_BYTES,
     };
     Bounds {
-        input_bytes,
+        fabric,
         sample_bytes,
     }
 }

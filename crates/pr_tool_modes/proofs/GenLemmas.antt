@@ -1,6 +1,7 @@
 -- From a run over texts in memory to what is told of it.
 use Rattle.std.proofs.Common.{◌≡◌, ◌⊎◌, ◌≤◌, ◌<◌, ◌∙◌, ℕ, true, List, [], length, map, vec_len, Option, Some, None, refl, sym, ap, subst, arith, inl, inr}
 use Rattle.std.proofs.lemmas.List.{length-map}
+use Rattle.pr_base.specs.Fabrics.{columns, registers}
 use Rattle.pr_base.specs.declared.caps.Cap.{Cap}
 use Rattle.pr_base.specs.Rows.{row_bytes, written}
 use Rattle.pr_compile.specs.Configured.{HasUnits}
@@ -33,7 +34,7 @@ use Rattle.pr_tool_modes.specs.Programs.{IsCounted, IsUncompiled}
 use Rattle.pr_tool_modes.specs.Files.{IsFileRefusal}
 use Rattle.pr_tool_modes.specs.Samples.{fed_in, pieces}
 use Rattle.pr_tool_modes.specs.Stalls.{HasStall}
-use Rattle.pr_tool_modes.specs.Sources.{Text, Gives, columns, registers, columns_in, registers_in, shape_in, IsOnFabric, IsRefusedSource}
+use Rattle.pr_tool_modes.specs.Sources.{Text, Gives, columns_in, registers_in, shape_in, IsOnFabric, IsRefusedSource}
 use Rattle.pr_tool_modes.proofs.LinesLemmas.{program_lines}
 use Rattle.pr_tool_modes.proofs.RunVerdicts.{come_of, run_owed}
 use Rattle.pr_tool_modes.proofs.SourceLemmas.{source_owed, source_kind}

@@ -1,5 +1,6 @@
 -- What comes of the file of a source, and the verdict on it.
 use Rattle.std.proofs.Common.{◌≡◌, ◌⊎◌, ◌≤◌, ◌∙◌, ℕ, List, length, Option, Some, refl, sym, ap, subst, inl, inr}
+use Rattle.pr_base.specs.Fabrics.{columns, registers}
 use Rattle.pr_base.specs.declared.caps.Cap.{Cap}
 use Rattle.pr_code.specs.Marks.{count_read, shape_marked}
 use Rattle.pr_conf.specs.Shape.{Shape}
@@ -12,7 +13,7 @@ use Rattle.pr_tool_modes.specs.Files.{IsText, IsFileRefusal}
 use Rattle.pr_tool_modes.specs.Configurations.{IsBadConfiguration, broken_in, columns_of, configuration_in}
 use Rattle.pr_tool_modes.specs.Checkpoints.{IsBadMark, file_in, broken_mark}
 use Rattle.pr_tool_modes.specs.Programs.{HasCompiled, IsUncompiled}
-use Rattle.pr_tool_modes.specs.Sources.{Source, File, Text, Mark, name_in, columns, registers, CompilesTo, IsOnFabric, Gives, IsSourceRefusal, IsRefusedSource}
+use Rattle.pr_tool_modes.specs.Sources.{Source, File, Text, Mark, name_in, CompilesTo, IsOnFabric, Gives, IsSourceRefusal, IsRefusedSource}
 use Rattle.pr_tool_modes.proofs.CompileLaws.{one_compiled}
 use Rattle.pr_tool_modes.proofs.ReasonLemmas.{IsKind, word_refuses, one_word, never_word, compile_refuses, one_uncompiled, never_uncompiled}
 use Rattle.pr_tool_modes.proofs.FileLemmas.{refusal_owed, one_refused, never_refused, refusal_kind}

@@ -1,10 +1,10 @@
 -- Where a configuration comes from: a configuration file, the file of a program that is compiled, or a checkpoint.
 use Rattle.std.specs.Prelude.{◌≡◌, ◌-◌, ◌^◌, ℕ, List, Option}
 use Rattle.pr_base.specs.declared.caps.Cap.{Cap}
+use Rattle.pr_base.specs.Fabrics.{columns, registers}
 use Rattle.pr_edge.specs.Files.{Told}
 use Rattle.pr_conf.specs.Shape.{Shape}
 use Rattle.pr_conf.specs.Configuration.{shape_of}
-use Rattle.pr_code.specs.declared.fabrics.Fabric.{Fabric}
 use Rattle.pr_compile.specs.Configured.{IsCompiled}
 use Rattle.pr_tool_answers.specs.declared.answers.Answer.{Answer}
 use Rattle.pr_tool_modes.specs.declared.targets.Target.{Target}
@@ -35,15 +35,7 @@ count_in (Mark name count) = count
 abbrev pub most_in : Source → ℕ
 most_in source = 2 ^ 40 - count_in source
 
--- ---- fabrics
-abbrev pub columns : Fabric → ℕ
-columns Fabric.Base = 16
-columns Fabric.Wide = 32
-
-abbrev pub registers : Fabric → ℕ
-registers Fabric.Base = 8
-registers Fabric.Wide = 16
-
+-- ---- configurations of either fabric
 abbrev pub columns_in : Loadable → ℕ
 columns_in (Loadable.Base conf) = 16
 columns_in (Loadable.Wide conf) = 32

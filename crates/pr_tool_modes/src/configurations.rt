@@ -10,15 +10,12 @@ ghost use Rattle.pr_tool_modes.specs.Sources.{columns_in, registers_in, shape_in
 
 use crate::files::read_file;
 use crate::loadables::Loadable;
-use pr_base::Cap;
-use pr_code::{CodeFault, Fabric, decode, fabric_of};
+use pr_base::{Cap, Fabric};
+use pr_code::{CodeFault, decode, fabric_of};
 use pr_conf::Configuration;
 use pr_edge::Shelf;
 use pr_tool_answers::Answer;
 use std::alloc::Global;
-
-/// The bytes of a configuration file at most.
-const LIMIT: usize = 16_777_216;
 
 /// The configuration of a file's bytes, on this fabric.
 fn decode_bytes<const N: usize, const P: usize>(
@@ -64,7 +61,7 @@ pub fn read_configuration<S: Shelf>(
     ensures same { S.told shelf.new ≡ S.told shelf.old }
     ensures others { (q : List ℕ) → q ≢ name.now → S.reach shelf.new q ≡ S.reach shelf.old q }
 {
-    let bytes = match read_file(alloc, shelf, name, LIMIT, Cap::ConfigBytes) {
+    let bytes = match read_file(alloc, shelf, name, Cap::MOST_CONFIG_BYTES, Cap::ConfigBytes) {
         Ok(bytes) => bytes,
         Err(answer) => return Err(answer),
     };

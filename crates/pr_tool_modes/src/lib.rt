@@ -33,8 +33,6 @@ pub use jobs::{Generation, Job, Resumption, Run, Source};
 pub use laws::{behaviour_law, moving_law, verdict_law};
 pub use loadables::{Loadable, Origin};
 pub use moves::move_on;
-pub use pr_base::Cap;
-pub use pr_code::Fabric;
 pub use pr_tool_answers::Answer;
 pub use sources::load;
 pub use targets::Target;

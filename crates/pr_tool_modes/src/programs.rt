@@ -1,25 +1,22 @@
 //! Programs that are read from files.
 ghost use Rattle.std.specs.Prelude.{◌≡◌, ◌≢◌, ◌≤◌, ◌⊎◌, ℕ, List, length, IfOk, IfErr};
 ghost use Rattle.pr_base.specs.declared.caps.Cap.{Cap};
+ghost use Rattle.pr_base.specs.Fabrics.{columns, registers};
 ghost use Rattle.pr_conf.specs.Configuration.{shape_of};
 ghost use Rattle.pr_compile.specs.Configured.{IsCompiled, HasUnits};
 ghost use Rattle.pr_tool_modes.specs.Files.{IsFileRefusal};
 ghost use Rattle.pr_tool_modes.specs.Programs.{front_answer, compile_answer, IsBadProgram, IsUncompiled, IsLoaded, IsCounted};
-ghost use Rattle.pr_tool_modes.specs.Sources.{columns, registers, columns_in, registers_in, shape_in, IsOnFabric, CompilesTo};
+ghost use Rattle.pr_tool_modes.specs.Sources.{columns_in, registers_in, shape_in, IsOnFabric, CompilesTo};
 
 use crate::files::read_file;
 use crate::loadables::Loadable;
 use crate::targets::Target;
-use pr_base::Cap;
-use pr_code::Fabric;
+use pr_base::{Cap, Fabric};
 use pr_compile::{CompileFault, Compiled, compile_counted};
 use pr_compile_front::{Front, FrontFault, read_program};
 use pr_edge::Shelf;
 use pr_tool_answers::Answer;
 use std::alloc::Global;
-
-/// The bytes of a program at most.
-const LIMIT: usize = 1_048_576;
 
 /// The answer that a fault of a text is.
 fn answer_of_front(fault: FrontFault) -> Answer
@@ -56,7 +53,13 @@ pub fn load_program<S: Shelf>(alloc: Global, shelf: &mut S, name: &str) -> Resul
     ensures same { S.told shelf.new ≡ S.told shelf.old }
     ensures others { (q : List ℕ) → q ≢ name.now → S.reach shelf.new q ≡ S.reach shelf.old q }
 {
-    let text = match read_file(alloc, shelf, name, LIMIT, Cap::ProgramBytes) {
+    let text = match read_file(
+        alloc,
+        shelf,
+        name,
+        Cap::MOST_PROGRAM_BYTES,
+        Cap::ProgramBytes,
+    ) {
         Ok(text) => text,
         Err(answer) => return Err(answer),
     };
@@ -131,7 +134,13 @@ pub fn compile_file<S: Shelf>(
     ensures same { S.told shelf.new ≡ S.told shelf.old }
     ensures others { (q : List ℕ) → q ≢ name.now → S.reach shelf.new q ≡ S.reach shelf.old q }
 {
-    let text = match read_file(alloc, shelf, name, LIMIT, Cap::ProgramBytes) {
+    let text = match read_file(
+        alloc,
+        shelf,
+        name,
+        Cap::MOST_PROGRAM_BYTES,
+        Cap::ProgramBytes,
+    ) {
         Ok(text) => text,
         Err(answer) => return Err(answer),
     };

@@ -21,12 +21,6 @@ use pr_source::Evaluator;
 use pr_tool_answers::Answer;
 use std::alloc::{AllocError, Global};
 
-/// The bytes of a file of samples at most.
-const LIMIT: u64 = 16_777_216;
-
-/// The samples at most.
-const MOST: u64 = 1_099_511_627_776;
-
 /// The lines of results, and how the samples end.
 #[derive(Drop)]
 pub struct Results {
@@ -119,7 +113,13 @@ pub fn results_of<S: Shelf>(
     ensures others { (q : List ℕ) → q ≢ samples.now → S.reach shelf.new q ≡ S.reach shelf.old q }
 {
     let inputs = &front.scoped.inputs;
-    let mut feed = match Feed::make_bounded(alloc, samples, inputs, MOST, LIMIT) {
+    let mut feed = match Feed::make_bounded(
+        alloc,
+        samples,
+        inputs,
+        Cap::MOST_SAMPLES,
+        Cap::MOST_EVALUATED_BYTES,
+    ) {
         Ok(feed) => feed,
         Err(_) => return Err(Answer::Memory),
     };

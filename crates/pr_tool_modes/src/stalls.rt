@@ -13,9 +13,6 @@ use pr_samples::Stall;
 use pr_tool_answers::Answer;
 use std::alloc::Global;
 
-/// The bytes of a stall text at most.
-const LIMIT: usize = 1_048_576;
-
 /// The text of a stall file; without one it is empty.
 fn read_text<S: Shelf>(alloc: Global, shelf: &mut S, name: Option<&str>) -> Result<Vec<u8>, Answer>
     ensures text { IfOk result (λ v. IsStallText (S.told shelf.old) (option_map (λ s. s.now) name.entry) v.items) }
@@ -27,7 +24,7 @@ fn read_text<S: Shelf>(alloc: Global, shelf: &mut S, name: Option<&str>) -> Resu
 {
     match name {
         None => Ok(Vec::new(alloc)),
-        Some(name) => read_file(alloc, shelf, name, LIMIT, Cap::StallBytes),
+        Some(name) => read_file(alloc, shelf, name, Cap::MOST_STALL_BYTES, Cap::StallBytes),
     }
 }
 

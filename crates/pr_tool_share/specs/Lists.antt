@@ -2,7 +2,7 @@
 use Rattle.std.specs.Prelude.{◌≡◌, ◌≤◌, ◌+◌, ◌⊎◌, ℕ, false, List, [], ◌∷◌, length, Option, Some, ⊤}
 use Rattle.pr_base.specs.declared.caps.Cap.{Cap}
 use Rattle.pr_edge.specs.Files.{Told}
-use Rattle.pr_code.specs.declared.fabrics.Fabric.{Fabric}
+use Rattle.pr_base.specs.declared.fabrics.Fabric.{Fabric}
 use Rattle.pr_conf.specs.Shape.{Shape}
 use Rattle.pr_share_list.specs.List.{Entry, IsListed, IsBadAt}
 use Rattle.pr_tool_answers.specs.declared.answers.Answer.{Answer}

@@ -6,6 +6,7 @@ ghost use Rattle.pr_tool_modes.specs.Sources.{Gives, IsSourceRefusal};
 ghost use Rattle.pr_tool_share.specs.Lists.{part_answer, source_in, IsProgramRefusal};
 ghost use Rattle.pr_tool_share.specs.Items.{IsParkedFor, IsItemOf, AreItemsOf};
 
+use pr_base::Fabric;
 use pr_conf::Configuration;
 use pr_edge::Shelf;
 use pr_machine::Parked;
@@ -13,7 +14,7 @@ use pr_samples::Feed;
 use pr_share::ShareItem;
 use pr_share_list::Entry;
 use pr_tool_answers::{Answer, Cause};
-use pr_tool_modes::{Fabric, Loadable, Source, Target, load};
+use pr_tool_modes::{Loadable, Source, Target, load};
 use std::alloc::{AllocError, Global};
 
 /// The answer where a program of a list ends so, by the answer of the program alone.
