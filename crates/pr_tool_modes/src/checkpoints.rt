@@ -1,11 +1,9 @@
 //! Configurations that are read from checkpoints.
 ghost use Rattle.std.specs.Prelude.{◌≡◌, ◌≢◌, ◌≤◌, ◌^◌, ℕ, List, drop, None, IfOk, OnOk, IfErr};
-ghost use Rattle.pr_base.specs.declared.caps.Cap.{Cap};
 ghost use Rattle.pr_conf.specs.Configuration.{shape_of};
 ghost use Rattle.pr_code.specs.Marks.{IsMark, bad_mark, count_read, shape_marked};
-ghost use Rattle.pr_tool_modes.specs.Files.{IsFileRefusal};
 ghost use Rattle.pr_tool_modes.specs.Configurations.{IsWordRefusal};
-ghost use Rattle.pr_tool_modes.specs.Checkpoints.{broken_mark, IsResumable, HasMark, IsBadMark};
+ghost use Rattle.pr_tool_modes.specs.Checkpoints.{broken_mark, IsResumable, HasMark, IsNotMarked};
 ghost use Rattle.pr_tool_modes.specs.Sources.{columns_in, registers_in, shape_in};
 
 use crate::files::read_file;
@@ -82,7 +80,7 @@ fn decode_named(alloc: Global, bytes: &[u8]) -> Result<Origin, Answer>
 /// Reads the configuration of a checkpoint, and the number of samples that came before, on the fabric that the file names.
 pub fn read_checkpoint<S: Shelf>(alloc: Global, shelf: &mut S, name: &str) -> Result<Origin, Answer>
     ensures read { IfOk result (λ l. HasMark (S.told shelf.old) name.now (columns_in l.conf) (registers_in l.conf) l.before (shape_in l.conf)) }
-    ensures refused { IfErr result (IsFileRefusal 16777216 Cap.ConfigBytes IsBadMark (S.told shelf.old) name.now (S.faults shelf.old) (S.faults shelf.new)) }
+    ensures refused { IfErr result (IsNotMarked (S.told shelf.old) name.now (S.faults shelf.old) (S.faults shelf.new)) }
     ensures later { S.faults shelf.old ≤ S.faults shelf.new }
     ensures same { S.told shelf.new ≡ S.told shelf.old }
     ensures others { (q : List ℕ) → q ≢ name.now → S.reach shelf.new q ≡ S.reach shelf.old q }

@@ -1,11 +1,9 @@
 //! Configurations that are read from configuration files.
 ghost use Rattle.std.specs.Prelude.{◌≡◌, ◌≢◌, ◌≤◌, ℕ, List, None, IfOk, OnOk, IfErr};
-ghost use Rattle.pr_base.specs.declared.caps.Cap.{Cap};
 ghost use Rattle.pr_conf.specs.Configuration.{shape_of};
 ghost use Rattle.pr_code.specs.Spelling.{IsFile};
 ghost use Rattle.pr_code.specs.Rules.{bad_word, shape_read};
-ghost use Rattle.pr_tool_modes.specs.Files.{IsFileRefusal};
-ghost use Rattle.pr_tool_modes.specs.Configurations.{columns_of, registers_of, IsWordRefusal, IsLoadable, HasConfiguration, IsBadConfiguration};
+ghost use Rattle.pr_tool_modes.specs.Configurations.{columns_of, registers_of, IsWordRefusal, IsLoadable, HasConfiguration, IsNotConfigured};
 ghost use Rattle.pr_tool_modes.specs.Sources.{columns_in, registers_in, shape_in};
 
 use crate::files::read_file;
@@ -56,7 +54,7 @@ pub fn read_configuration<S: Shelf>(
     name: &str,
 ) -> Result<Loadable, Answer>
     ensures read { IfOk result (λ l. HasConfiguration (S.told shelf.old) name.now (columns_in l) (registers_in l) (shape_in l)) }
-    ensures refused { IfErr result (IsFileRefusal 16777216 Cap.ConfigBytes IsBadConfiguration (S.told shelf.old) name.now (S.faults shelf.old) (S.faults shelf.new)) }
+    ensures refused { IfErr result (IsNotConfigured (S.told shelf.old) name.now (S.faults shelf.old) (S.faults shelf.new)) }
     ensures later { S.faults shelf.old ≤ S.faults shelf.new }
     ensures same { S.told shelf.new ≡ S.told shelf.old }
     ensures others { (q : List ℕ) → q ≢ name.now → S.reach shelf.new q ≡ S.reach shelf.old q }

@@ -12,7 +12,7 @@ use pr_tool_answers::Answer;
 use std::alloc::Global;
 
 /// What comes of samples that end so.
-fn answer_of(end: Got) -> Answer
+pub fn answer_of(end: Got) -> Answer
     ensures { result ≡ answer_by end }
 {
     match end {

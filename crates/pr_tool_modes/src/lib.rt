@@ -24,7 +24,7 @@ mod targets;
 mod texts;
 
 pub use benches::Bench;
-pub use evaluations::eval;
+pub use evaluations::{answer_of, eval};
 pub use executions::execute;
 pub use files::read_file;
 pub use folds::{extend, fold};
@@ -34,6 +34,7 @@ pub use laws::{behaviour_law, moving_law, verdict_law};
 pub use loadables::{Loadable, Origin};
 pub use moves::move_on;
 pub use pr_tool_answers::Answer;
+pub use programs::compile_on;
 pub use sources::load;
 pub use targets::Target;
 pub use texts::{Form, write_text};
