@@ -2,12 +2,13 @@
 ghost use Rattle.std.specs.Prelude.{◌≡◌, ◌≤◌, ◌^◌, ◌⊎◌, ℕ, IfOk, IfErr, OnErr, length};
 ghost use Rattle.pr_edge.specs.Files.{Told};
 ghost use Rattle.pr_run.specs.Setting.{view};
+ghost use Rattle.pr_machine.specs.Stands.{bare_stripes};
 ghost use Rattle.pr_share.specs.Items.{World, world, AreReady};
 ghost use Rattle.pr_tool_modes.specs.Calls.{call};
 ghost use Rattle.pr_tool_share.specs.Items.{Item};
 ghost use Rattle.pr_tool_share.specs.Shares.{HaveTaken, IsSharedBy};
 
-use crate::ends::answer_of;
+use crate::ends::answer_of_all;
 use crate::items::make_items;
 use crate::lists::load_list;
 use pr_edge::{Shelf, Sink};
@@ -41,6 +42,7 @@ struct Place {
 fn make_place(alloc: Global, stripes: usize) -> Result<Place, AllocError>
     requires two { 2 ≤ stripes }
     requires most { stripes ≤ 256 }
+    ensures { IfOk result (λ p. bare_stripes p.machine ≡ stripes) }
 {
     let machine = Machine::<16, 8, Bare>::make(alloc, stripes)?;
     let room = Room::make(alloc)?;
@@ -65,7 +67,7 @@ fn take_turns<S: Shelf, K: Sink>(
     let Place { machine, mut room } = place;
     match share(machine, items, shelf, out, &mut room) {
         ShareEnd::WriteFault => Answer::WriteFault,
-        ShareEnd::Done => answer_of(items),
+        ShareEnd::Done => answer_of_all(items),
     }
 }
 
@@ -81,7 +83,7 @@ pub fn share_list<S: Shelf, K: Sink>(
     out: &mut K,
 ) -> Answer
     // What it came to: a refusal before the turns, or the turns.
-    ensures shared { IsSharedBy sharing.now.list.now (call
+    ensures shared { IsSharedBy sharing.now.list.now sharing.now.stripes (call
         (view (S.told shelf.old) (S.reach shelf.old) (S.faults shelf.old)) (view (S.told shelf.new) (S.reach shelf.new) (S.faults shelf.new))
         (K.told out.old) (K.told out.new) (K.faults out.old) (K.faults out.new)) result }
 
