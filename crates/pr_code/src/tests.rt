@@ -3,7 +3,7 @@
 ghost use Rattle.std.specs.Prelude.{◌≤◌};
 
 use crate::words::put_words;
-use crate::{CodeFault, Fabric, decode, encode, fabric_of, read_mark, write_mark};
+use crate::{CodeFault, decode, encode, fabric_of, read_mark, write_mark};
 use std::alloc::{AllocError, Global};
 use std::test::Fail;
 

@@ -30,12 +30,6 @@ pub struct Plan {
     pub hold_counts: Vec<u32>,
 }
 
-/// The most outputs of a net.
-const MOST_OUTPUTS: usize = 64;
-
-/// The most units of a net.
-const MOST_UNITS: u64 = 32_768;
-
 /// The units that equation `i` has of its own, where an output can be reached from it.
 fn unit_count(flat: &Flat, widths: &[u8], i: usize, has_units: bool, holds: u32) -> u64
     requires there { i < vec_len flat.now.equations }
@@ -85,7 +79,7 @@ fn hold_units(
         let holds = first as u32 + body_count(&flat.equations[i], widths[i], widths);
         push(&mut units, holds)?;
         first += unit_count(flat, widths, i, flags[i], hold_counts[i]);
-        if first > MOST_UNITS {
+        if first > Cap::MOST_UNITS as u64 {
             return Err(CutFault::Limit(Cap::Units));
         }
     }
@@ -113,7 +107,7 @@ pub fn plan_of(
     if input_bytes(flat) > columns {
         return Err(CutFault::Limit(Cap::InputBytes));
     }
-    if flat.outputs.len() > MOST_OUTPUTS {
+    if flat.outputs.len() > Cap::MOST_OUTPUTS {
         return Err(CutFault::Limit(Cap::Outputs));
     }
     let reached = reached(alloc, flat)?;

@@ -18,9 +18,6 @@ use pr_net::{Net, Slice};
 use std::alloc::{AllocError, Global};
 use thiserror::Error;
 
-/// The most units of a net.
-const MOST_UNITS: usize = 32_768;
-
 /// Why rows are not appended.
 #[derive(Debug, Drop, Error)]
 pub enum RowFault {
@@ -87,7 +84,7 @@ pub fn mul_rows(
     ensures same { HasSame net.old net.new }
 {
     let count = rows_of(bits, wa, wb);
-    if net.units.len() + count > MOST_UNITS {
+    if net.units.len() + count > Cap::MOST_UNITS {
         return Err(RowFault::Limit(Cap::Units));
     }
     let slices = product(alloc, &mut net.units, &Factors { a, wa, b, wb }, bits)?;
@@ -128,7 +125,7 @@ pub fn shift_rows(
         (units_after net.old.units.items (shifted_by left wa by.now wby a.now))) }
     ensures same { HasSame net.old net.new }
 {
-    if net.units.len() + usize::from(wby) > MOST_UNITS {
+    if net.units.len() + usize::from(wby) > Cap::MOST_UNITS {
         return Err(RowFault::Limit(Cap::Units));
     }
     let shift = Shift {

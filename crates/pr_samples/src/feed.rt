@@ -16,12 +16,6 @@ use std::alloc::{AllocError, Global};
 /// The bytes of the buffer of a feed.
 const BUFFER: usize = 65_536;
 
-/// The bytes of a file that a feed reads at most.
-const LIMIT: u64 = 17_592_186_044_416;
-
-/// The samples that a feed gives at most.
-const MOST: u64 = 1_099_511_627_776;
-
 /// What a feed answers.
 #[derive(Clone, Copy, PartialEq, Eq, Debug)]
 pub enum Got {
@@ -88,7 +82,7 @@ impl Feed {
         ensures start { IfOk result (λ f. reads_nothing f × (given_of f ≡ 0)) }
         ensures stands { IfOk result (λ f. (file : List ℕ) → StandsFor f file) }
     {
-        Feed::make_within(alloc, name, widths, MOST)
+        Feed::make_within(alloc, name, widths, Cap::MOST_SAMPLES)
     }
 
     /// A feed that gives at most so many samples.
@@ -107,7 +101,7 @@ impl Feed {
         ensures start { IfOk result (λ f. reads_nothing f × (given_of f ≡ 0)) }
         ensures stands { IfOk result (λ f. (file : List ℕ) → StandsFor f file) }
     {
-        Feed::make_bounded(alloc, name, widths, most, LIMIT)
+        Feed::make_bounded(alloc, name, widths, most, Cap::MOST_SAMPLE_BYTES)
     }
 
     /// A feed that gives at most so many samples from so many bytes.

@@ -21,12 +21,6 @@ use pr_source::Evaluator;
 use pr_tool_answers::Answer;
 use std::alloc::{AllocError, Global};
 
-/// The bytes of a file of samples at most.
-const LIMIT: u64 = 16_777_216;
-
-/// The samples at most.
-const MOST: u64 = 1_099_511_627_776;
-
 /// The lines of results, and how the samples end.
 #[derive(Drop)]
 pub struct Results {
@@ -56,9 +50,13 @@ fn results_in<S: Shelf>(
     requires feed { IsShortFeed (inputs_of front.now.scoped.program) feed.old }
     requires sample { length sample.old ≡ vec_len front.now.scoped.inputs }
     requires row { length row.old ≡ vec_len front.now.flat.outputs }
-    ensures results { IfOk result (λ r. r.end ≢ Got.ReadFault → HasEvaluated (S.told shelf.old) front.now.scoped.program feed.old feed.new r.text.items r.end) }
+    ensures results { IfOk result
+        (λ r. r.end ≢ Got.ReadFault
+        → HasEvaluated (S.told shelf.old) front.now.scoped.program feed.old feed.new r.text.items r.end) }
     ensures there { IfOk result (λ r. r.end ≢ Got.ReadFault → IsMissing (S.told shelf.old) (name_of feed.old) → ⊥) }
-    ensures cause { IfOk result (λ r. r.end ≡ Got.ReadFault → HasReadCause (S.told shelf.old) (name_of feed.old) (S.faults shelf.old) (S.faults shelf.new)) }
+    ensures cause { IfOk result
+        (λ r. r.end ≡ Got.ReadFault
+        → HasReadCause (S.told shelf.old) (name_of feed.old) (S.faults shelf.old) (S.faults shelf.new)) }
     ensures file { SameFile feed.old feed.new }
     ensures later { S.faults shelf.old ≤ S.faults shelf.new }
     ensures same { S.told shelf.new ≡ S.told shelf.old }
@@ -88,9 +86,13 @@ fn evaluate<S: Shelf>(
     requires flat { HasEquations front.now.scoped.program front.now.flat }
     requires widths { AreWidths (equations_of front.now.scoped.program).equations front.now.widths }
     requires feed { IsShortFeed (inputs_of front.now.scoped.program) feed.old }
-    ensures results { IfOk result (λ r. r.end ≢ Got.ReadFault → HasEvaluated (S.told shelf.old) front.now.scoped.program feed.old feed.new r.text.items r.end) }
+    ensures results { IfOk result
+        (λ r. r.end ≢ Got.ReadFault
+        → HasEvaluated (S.told shelf.old) front.now.scoped.program feed.old feed.new r.text.items r.end) }
     ensures there { IfOk result (λ r. r.end ≢ Got.ReadFault → IsMissing (S.told shelf.old) (name_of feed.old) → ⊥) }
-    ensures cause { IfOk result (λ r. r.end ≡ Got.ReadFault → HasReadCause (S.told shelf.old) (name_of feed.old) (S.faults shelf.old) (S.faults shelf.new)) }
+    ensures cause { IfOk result
+        (λ r. r.end ≡ Got.ReadFault
+        → HasReadCause (S.told shelf.old) (name_of feed.old) (S.faults shelf.old) (S.faults shelf.new)) }
     ensures file { SameFile feed.old feed.new }
     ensures later { S.faults shelf.old ≤ S.faults shelf.new }
     ensures same { S.told shelf.new ≡ S.told shelf.old }
@@ -112,14 +114,22 @@ pub fn results_of<S: Shelf>(
     requires scoped { IsScoped front.now.scoped.program front.now.scoped }
     requires flat { HasEquations front.now.scoped.program front.now.flat }
     requires widths { AreWidths (equations_of front.now.scoped.program).equations front.now.widths }
-    ensures results { IfOk result (λ r. HasLines (S.told shelf.old) samples.now front.now.scoped.program r.text.items r.end) }
-    ensures refused { IfErr result (IsUnread 16777216 Cap.SampleBytes (S.told shelf.old) samples.now (S.faults shelf.old) (S.faults shelf.new)) }
+    ensures results { IfOk result
+        (λ r. HasLines (S.told shelf.old) samples.now front.now.scoped.program r.text.items r.end) }
+    ensures refused { IfErr result
+        (IsUnread 16777216 Cap.SampleBytes (S.told shelf.old) samples.now (S.faults shelf.old) (S.faults shelf.new)) }
     ensures later { S.faults shelf.old ≤ S.faults shelf.new }
     ensures same { S.told shelf.new ≡ S.told shelf.old }
     ensures others { (q : List ℕ) → q ≢ samples.now → S.reach shelf.new q ≡ S.reach shelf.old q }
 {
     let inputs = &front.scoped.inputs;
-    let mut feed = match Feed::make_bounded(alloc, samples, inputs, MOST, LIMIT) {
+    let mut feed = match Feed::make_bounded(
+        alloc,
+        samples,
+        inputs,
+        Cap::MOST_SAMPLES,
+        Cap::MOST_EVALUATED_BYTES,
+    ) {
         Ok(feed) => feed,
         Err(_) => return Err(Answer::Memory),
     };

@@ -80,7 +80,7 @@ fn fed_within(
 
 /// The same with the limits of the product.
 fn fed(alloc: Global, text: &[u8]) -> Result<(Vec<(Num, Num)>, Got), AllocError> {
-    fed_within(alloc, text, MOST, LIMIT)
+    fed_within(alloc, text, Cap::MOST_SAMPLES, Cap::MOST_SAMPLE_BYTES)
 }
 
 /// The samples of a text over a slow shelf.
@@ -206,12 +206,15 @@ fn read_fails(rt: HostRuntime) -> Result<(), Fail> {
     Ok(())
 }
 
+/// The bytes of the greatest file.
+const ALL: u64 = Cap::MOST_SAMPLE_BYTES;
+
 /// Texts with the samples and the bytes that are allowed, the samples given, and how they end.
 const BOUNDS: [(&[u8], u64, u64, usize, Got); 11] = [
-    (b"1 2\n3 4\n5 6\n", 2, LIMIT, 2, Got::Limit(Cap::Samples)),
-    (b"1 2\n3 4\n\n", 2, LIMIT, 2, Got::End),
-    (b"1 2\n3 4\nx\n", 2, LIMIT, 2, Got::BadSample { line: 3 }),
-    (b"1 2\n", 0, LIMIT, 0, Got::Limit(Cap::Samples)),
+    (b"1 2\n3 4\n5 6\n", 2, ALL, 2, Got::Limit(Cap::Samples)),
+    (b"1 2\n3 4\n\n", 2, ALL, 2, Got::End),
+    (b"1 2\n3 4\nx\n", 2, ALL, 2, Got::BadSample { line: 3 }),
+    (b"1 2\n", 0, ALL, 0, Got::Limit(Cap::Samples)),
     (b"1 2\n34 5\n", 9, 5, 1, Got::Limit(Cap::SampleBytes)),
     (b"1 2\n34 5\n", 9, 4, 1, Got::Limit(Cap::SampleBytes)),
     (b"1 2\n34 5\n", 9, 9, 2, Got::End),
@@ -224,7 +227,7 @@ const BOUNDS: [(&[u8], u64, u64, usize, Got); 11] = [
 #[test]
 fn table_of_bounds(rt: HostRuntime) -> Result<(), Fail> {
     for (text, most, limit, count, ending) in BOUNDS {
-        let (pairs, got) = fed_within(rt.alloc(), text, most, limit.min(LIMIT))?;
+        let (pairs, got) = fed_within(rt.alloc(), text, most, limit.min(ALL))?;
         assert_eq!(rt; pairs.len(), count);
         assert_eq!(rt; got, ending);
     }

@@ -3,7 +3,7 @@ use Rattle.pr_tool_answers.specs.declared.answers.Answer.{Answer}
 use Rattle.pr_tool_share.specs.Ends.{first_part}
 use Rattle.pr_tool_share.specs.Items.{end_of}
 use Rattle.pr_tool_share.proofs.EndLemmas.{ends_any}
-use Rattle.pr_tool_share.proofs.ends.answer_of.Goals as goal
+use Rattle.pr_tool_share.proofs.ends.answer_of_all.Goals as goal
 
 pub returns-then-is_unread : goal.returns-then-is_unread
 returns-then-is_unread c =
