@@ -5,6 +5,7 @@
 mod amounts;
 mod constants;
 mod counts;
+mod instances;
 mod laws;
 mod names;
 mod rules;
@@ -13,6 +14,7 @@ mod streams;
 pub use amounts::amount;
 pub use constants::{apply, constant, place, read_name, read_static};
 pub use counts::{Count, count_one};
+pub use instances::Instances;
 pub use laws::{later_names_law, next_item_law};
 pub use names::{Callee, Frame, Static, Statics, Table};
 pub use rules::{Offence, Rule, Stop};
@@ -66,6 +68,20 @@ mod tests {
         assert!(rt; streams.has_name(&t));
         assert!(rt; streams.has(&t, Some(3)));
         assert!(rt; !streams.has(&t, None));
+        Ok(())
+    }
+
+    #[test]
+    fn what_instances_stand_for(rt: HostRuntime) -> Result<(), Fail> {
+        let alloc = rt.alloc();
+        let mut instances = Instances::new(alloc);
+        let t = name(alloc, "t")?;
+        instances.set(alloc, &t, None, 4)?;
+        instances.set(alloc, &t, Some(3), 5)?;
+        instances.set(alloc, &t, Some(3), 6)?;
+        assert_eq!(rt; instances.get(&t, None).copied(), Some(4u64));
+        assert_eq!(rt; instances.get(&t, Some(3)).copied(), Some(6));
+        assert!(rt; instances.get(&t, Some(4)).is_none());
         Ok(())
     }
 }

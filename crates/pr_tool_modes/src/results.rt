@@ -4,7 +4,6 @@ ghost use Rattle.pr_samples.specs.declared.feed.Got.{Got};
 ghost use Rattle.pr_base.specs.declared.caps.Cap.{Cap};
 ghost use Rattle.pr_edge.specs.Files.{IsMissing, HasReadCause};
 ghost use Rattle.pr_flat.specs.Widths.{AreWidths};
-ghost use Rattle.pr_scope.specs.Walk.{IsScoped};
 ghost use Rattle.pr_expand_spec.specs.Programs.{equations_of};
 ghost use Rattle.pr_compile_front.specs.Passed.{HasEquations};
 ghost use Rattle.pr_samples.specs.Feed.{name_of, SameFile};
@@ -44,7 +43,6 @@ fn results_in<S: Shelf>(
     sample: &mut [Num],
     row: &mut [Num],
 ) -> Result<Results, AllocError>
-    requires scoped { IsScoped front.now.scoped.program front.now.scoped }
     requires flat { HasEquations front.now.scoped.program front.now.flat }
     requires widths { AreWidths (equations_of front.now.scoped.program).equations front.now.widths }
     requires feed { IsShortFeed (inputs_of front.now.scoped.program) feed.old }
@@ -82,7 +80,6 @@ fn evaluate<S: Shelf>(
     feed: &mut Feed,
     shelf: &mut S,
 ) -> Result<Results, AllocError>
-    requires scoped { IsScoped front.now.scoped.program front.now.scoped }
     requires flat { HasEquations front.now.scoped.program front.now.flat }
     requires widths { AreWidths (equations_of front.now.scoped.program).equations front.now.widths }
     requires feed { IsShortFeed (inputs_of front.now.scoped.program) feed.old }
@@ -111,7 +108,6 @@ pub fn results_of<S: Shelf>(
     samples: &str,
     shelf: &mut S,
 ) -> Result<Results, Answer>
-    requires scoped { IsScoped front.now.scoped.program front.now.scoped }
     requires flat { HasEquations front.now.scoped.program front.now.flat }
     requires widths { AreWidths (equations_of front.now.scoped.program).equations front.now.widths }
     ensures results { IfOk result
