@@ -73,8 +73,8 @@ pub fn primary<'a>(
         return Ok((whole, rest));
     }
     let (bytes, after) = name(text, tokens)?;
-    let (index, rest) = index(alloc, text, after)?;
     let name = build::name(alloc, bytes)?;
+    let (index, rest) = index(alloc, text, after)?;
     let whole = build::fixed_refer(alloc, name, index)?;
     Ok((whole, rest))
 }
@@ -108,8 +108,8 @@ pub fn target<'a>(
     ensures err { IfErr result (λ e. Fails (rule TheTarget) text.now tokens.now e) }
 {
     let (bytes, after) = name(text, tokens)?;
-    let (index, rest) = index(alloc, text, after)?;
     let name = build::name(alloc, bytes)?;
+    let (index, rest) = index(alloc, text, after)?;
     Ok((Ref { name, index }, rest))
 }
 
