@@ -228,6 +228,3 @@ pub fn solve(alloc: Global, flat: &Flat) -> Result<Widths, WidthFault>
         }),
     }
 }
-
-#[cfg(test)]
-mod tests;
