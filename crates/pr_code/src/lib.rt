@@ -12,8 +12,6 @@ mod parts;
 mod reading;
 mod spelled;
 mod stages;
-#[cfg(test)]
-mod tests;
 mod words;
 
 pub use decoding::{decode, read_mark};

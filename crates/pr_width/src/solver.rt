@@ -230,6 +230,3 @@ pub fn solve(alloc: Global, flat: &Flat) -> Result<Widths, WidthFault>
         }),
     }
 }
-
-#[cfg(test)]
-mod tests;

@@ -2,9 +2,12 @@
 
 ghost use Rattle.pr_flat.specs.Forms.{IsPoint};
 
-use super::*;
 use pr_base::{Num, Width};
 use pr_flat::{Form, Op, Point};
+use pr_flat_ops::{
+    choose, fit, natural, natural_choice, natural_one, natural_two, number_width, operate,
+    operate_one, operate_two,
+};
 use std::process::Abort;
 
 /// A number: whether it is signed (`S`), its width, and itself.

@@ -4,11 +4,10 @@ ghost use Rattle.std.specs.Prelude.{◌≡◌, [], ◌∷◌, ◌++◌, IfOk};
 ghost use Rattle.pr_flat.specs.declared.equations.Operand.TheVariants.{Eq};
 ghost use Rattle.pr_flat.specs.Shape.{equation_shape, shapes_of};
 ghost use Rattle.pr_flat.specs.Facts.{IsFlat};
-ghost use Rattle.pr_width.specs.Made.{shape_made, input_made};
+ghost use Rattle.pr_width_tests.specs.Made.{shape_made, input_made};
 
-use super::solve;
-use crate::{WidthFault, Widths};
 use pr_flat::{Equation, Flat, Op, Operand};
+use pr_width::{WidthFault, Widths, solve};
 use std::alloc::{AllocError, Global};
 use std::test::Fail;
 

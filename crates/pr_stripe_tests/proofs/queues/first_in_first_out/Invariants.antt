@@ -1,5 +1,5 @@
 use Rattle.std.proofs.Common.{◌≡◌}
-use Rattle.pr_queue.proofs.tests.first_in_first_out.Given as goal
+use Rattle.pr_stripe_tests.proofs.queues.first_in_first_out.Given as goal
 
 abbrev pub invariant-loop-k : goal.invariant-loop-k
 invariant-loop-k g l = l.queue.size ≡ 2
