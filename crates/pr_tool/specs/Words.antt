@@ -4,10 +4,12 @@ use Rattle.std.specs.declared.alloc.Global.{Global}
 use Rattle.pr_base.specs.declared.caps.Cap.{Cap}
 use Rattle.pr_base.specs.declared.fabrics.Fabric.{Fabric}
 use Rattle.pr_base.specs.Limits.{cap_number}
+use Rattle.pr_edge.specs.Files.{Told}
 use Rattle.pr_tool_words.specs.Lawful.{Order, Task, Eval, Share, lawful_words}
 use Rattle.pr_tool_modes.specs.Jobs.{IsNeither}
 use Rattle.pr_tool_modes.specs.Resumptions.{IsNoFile}
 use Rattle.pr_tool_modes.specs.Sources.{name_in}
+use Rattle.pr_tool_share.specs.Lists.{IsUnlisted}
 use Rattle.pr_tool.specs.declared.notes.Bounds.{Bounds}
 use Rattle.pr_tool.specs.Plans.{Plan, Texts, Runs, Folds, Moves, Extends, Evaluates, Generates, Shares, plan_of}
 
@@ -19,21 +21,20 @@ abbrev pub asked_by : List (String Global) → Asked
 asked_by words = lawful_words (map string_bytes words)
 
 -- ---- files
--- this is no file that is read for a plan; which files a list of programs names is not told by the words, so that of its plan
--- nothing is said
-abbrev pub IsOtherFile : Plan → List ℕ → Type 0
-IsOtherFile (Texts form source) q = q ≢ name_in source
-IsOtherFile (Runs j) q = (q ≢ j.second) × IsNeither j q
-IsOtherFile (Folds j) q = (q ≢ j.second) × IsNeither j q
-IsOtherFile (Moves r) q = IsNoFile r q
-IsOtherFile (Extends r) q = IsNoFile r q
-IsOtherFile (Evaluates first second) q = (q ≢ first) × (q ≢ second)
-IsOtherFile (Generates g) q = ⊤
-IsOtherFile (Shares list stripes) q = ⊥
+-- this is no file that is read for a plan; which files a list of programs names is told by its text
+abbrev pub IsOtherFile : Told → Plan → List ℕ → Type 0
+IsOtherFile told (Texts form source) q = q ≢ name_in source
+IsOtherFile told (Runs j) q = (q ≢ j.second) × IsNeither j q
+IsOtherFile told (Folds j) q = (q ≢ j.second) × IsNeither j q
+IsOtherFile told (Moves r) q = IsNoFile r q
+IsOtherFile told (Extends r) q = IsNoFile r q
+IsOtherFile told (Evaluates first second) q = (q ≢ first) × (q ≢ second)
+IsOtherFile told (Generates g) q = ⊤
+IsOtherFile told (Shares list stripes) q = IsUnlisted told list q
 
-abbrev pub IsOther : Asked → List ℕ → Type 0
-IsOther None q = ⊤
-IsOther (Some order) q = IsOtherFile (plan_of order) q
+abbrev pub IsOther : Told → Asked → List ℕ → Type 0
+IsOther told None q = ⊤
+IsOther told (Some order) q = IsOtherFile told (plan_of order) q
 
 -- ---- limits
 -- the bytes of a file of samples

@@ -89,8 +89,8 @@ pub fn piperench<S: Shelf, K: Sink, E: Sink>(
     ensures write_fault { result ≡ Answer.WriteFault → Rose (K.faults out.old) (K.faults out.new) }
     ensures memory { result ≡ Answer.Memory → (K.told out.new ≡ K.told out.old) × (bench.new ≡ bench.old) }
 
-    // Only the files of the plan are read.
-    ensures other_files { (q : List ℕ) → IsOther (asked_by words.now) q → S.reach shelf.new q ≡ S.reach shelf.old q }
+    // Only the files of the plan are read, and those that a list of programs names.
+    ensures other_files { (q : List ℕ) → IsOther (S.told shelf.old) (asked_by words.now) q → S.reach shelf.new q ≡ S.reach shelf.old q }
 
     ensures note { GainsNote (E.told note.old) (E.told note.new) (E.faults note.old) (E.faults note.new) (note_of (bounds_in (asked_by words.now)) result) }
     ensures told { S.told shelf.new ≡ S.told shelf.old }
@@ -138,7 +138,7 @@ fn reply_to<S: Shelf, K: Sink>(
         (view (S.told shelf.old) (S.reach shelf.old) (S.faults shelf.old)) (view (S.told shelf.new) (S.reach shelf.new) (S.faults shelf.new))
         (K.told out.old) (K.told out.new) (K.faults out.old) (K.faults out.new)) bench.old bench.new result.answer }
     ensures bounds { note_of result.bounds result.answer ≡ note_of (bounds_in (asked_by words.now)) result.answer }
-    ensures other_files { (q : List ℕ) → IsOther (asked_by words.now) q → S.reach shelf.new q ≡ S.reach shelf.old q }
+    ensures other_files { (q : List ℕ) → IsOther (S.told shelf.old) (asked_by words.now) q → S.reach shelf.new q ≡ S.reach shelf.old q }
     ensures told { S.told shelf.new ≡ S.told shelf.old }
     ensures shelf_later { S.faults shelf.old ≤ S.faults shelf.new }
     ensures out_later { K.faults out.old ≤ K.faults out.new }

@@ -1,5 +1,5 @@
 -- A list of programs, and what refuses it or one of its programs.
-use Rattle.std.specs.Prelude.{◌≡◌, ◌≤◌, ◌+◌, ◌⊎◌, ℕ, false, List, [], ◌∷◌, length, Option, Some, None, unwrap_or, ⊤}
+use Rattle.std.specs.Prelude.{◌≡◌, ◌≢◌, ◌≤◌, ◌+◌, ◌⊎◌, ℕ, false, List, [], ◌∷◌, length, Option, Some, None, unwrap_or, slice_get, ⊤}
 use Rattle.pr_base.specs.declared.caps.Cap.{Cap}
 use Rattle.pr_edge.specs.Files.{Told}
 use Rattle.pr_base.specs.declared.fabrics.Fabric.{Fabric}
@@ -80,3 +80,18 @@ AreCompiled told [] [] = ⊤
 AreCompiled told [] (conf ∷ confs) = ⊥
 AreCompiled told (entry ∷ entries) [] = ⊥
 AreCompiled told (entry ∷ entries) (conf ∷ confs) = Gives told (source_in entry) 16 8 conf × AreCompiled told entries confs
+
+-- ---- names
+-- none of these programs is in the file of this name
+abbrev pub IsNoProgram : List Entry → List ℕ → Type 0
+IsNoProgram entries q = (i : ℕ) (entry : Entry) → slice_get entries i ≡ Some entry → q ≢ entry.program
+
+-- nor are its samples
+abbrev pub IsNoSamples : List Entry → List ℕ → Type 0
+IsNoSamples entries q = (i : ℕ) (entry : Entry) → slice_get entries i ≡ Some entry → q ≢ entry.samples
+
+-- this is neither the file of a list, nor one that the list names
+pub record IsUnlisted (told : Told) (list q : List ℕ) : Type 0 where
+  pub other : q ≢ list
+  pub no_program : (entries : List Entry) → HasList told list entries → IsNoProgram entries q
+  pub no_samples : (entries : List Entry) → HasList told list entries → IsNoSamples entries q

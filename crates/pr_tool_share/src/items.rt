@@ -1,9 +1,9 @@
 //! The programs of a list, made ready for their turns.
-ghost use Rattle.std.specs.Prelude.{◌≡◌, ◌≤◌, ◌⊎◌, IfOk, IfErr, length, map};
+ghost use Rattle.std.specs.Prelude.{◌≡◌, ◌≢◌, ◌≤◌, ◌⊎◌, ℕ, List, IfOk, IfErr, length, map};
 ghost use Rattle.pr_conf.specs.Configuration.{shape_of};
 ghost use Rattle.pr_share_list.specs.List.{entry_in};
 ghost use Rattle.pr_tool_modes.specs.Sources.{Gives, IsSourceRefusal};
-ghost use Rattle.pr_tool_share.specs.Lists.{source_in, IsProgramRefusal};
+ghost use Rattle.pr_tool_share.specs.Lists.{source_in, IsProgramRefusal, IsNoProgram};
 ghost use Rattle.pr_tool_share.specs.Items.{IsParkedFor, IsItemOf, AreItemsOf};
 
 use crate::parts::part_answer;
@@ -27,6 +27,7 @@ fn compile<S: Shelf>(
     ensures refused { IfErr result (IsSourceRefusal (S.told shelf.old) (source_in (entry_in entry.now)) (S.faults shelf.old) (S.faults shelf.new)) }
     ensures later { S.faults shelf.old ≤ S.faults shelf.new }
     ensures same { S.told shelf.new ≡ S.told shelf.old }
+    ensures others { (q : List ℕ) → q ≢ (entry_in entry.now).program → S.reach shelf.new q ≡ S.reach shelf.old q }
 {
     match compile_on::<16, 8, S>(alloc, shelf, &entry.program, false) {
         Ok(compiled) => Ok(compiled.conf),
@@ -64,6 +65,7 @@ fn make_item<S: Shelf>(
     ensures refused { IfErr result (IsSourceRefusal (S.told shelf.old) (source_in (entry_in entry.now)) (S.faults shelf.old) (S.faults shelf.new)) }
     ensures later { S.faults shelf.old ≤ S.faults shelf.new }
     ensures same { S.told shelf.new ≡ S.told shelf.old }
+    ensures others { (q : List ℕ) → q ≢ (entry_in entry.now).program → S.reach shelf.new q ≡ S.reach shelf.old q }
 {
     let conf = match compile(alloc, shelf, entry) {
         Ok(conf) => conf,
@@ -86,6 +88,7 @@ pub(crate) fn make_items<S: Shelf>(
     ensures refused { IfErr result (λ a. IsProgramRefusal (S.told shelf.old) (S.faults shelf.old) (S.faults shelf.new) 0 (map entry_in entries.now) a ⊎ (a ≡ Answer.Memory)) }
     ensures later { S.faults shelf.old ≤ S.faults shelf.new }
     ensures same { S.told shelf.new ≡ S.told shelf.old }
+    ensures others { (q : List ℕ) → IsNoProgram (map entry_in entries.now) q → S.reach shelf.new q ≡ S.reach shelf.old q }
 {
     let mut items = Vec::new(alloc);
     for number in 0..entries.len() {

@@ -1,5 +1,5 @@
 //! Lists of programs that are read from files.
-ghost use Rattle.std.specs.Prelude.{◌≡◌, ◌≤◌, ℕ, IfOk, IfErr, map};
+ghost use Rattle.std.specs.Prelude.{◌≡◌, ◌≢◌, ◌≤◌, ℕ, List, IfOk, IfErr, map};
 ghost use Rattle.pr_share_list.specs.List.{entry_in};
 ghost use Rattle.pr_tool_share.specs.Lists.{HasList, IsListRefusal};
 
@@ -20,6 +20,7 @@ pub(crate) fn load_list<S: Shelf>(
     ensures refused { IfErr result (IsListRefusal (S.told shelf.old) list.now (S.faults shelf.old) (S.faults shelf.new)) }
     ensures later { S.faults shelf.old ≤ S.faults shelf.new }
     ensures same { S.told shelf.new ≡ S.told shelf.old }
+    ensures others { (q : List ℕ) → q ≢ list.now → S.reach shelf.new q ≡ S.reach shelf.old q }
 {
     let text = match read_file(alloc, shelf, list, Cap::MOST_LIST_BYTES, Cap::ListBytes) {
         Ok(text) => text,

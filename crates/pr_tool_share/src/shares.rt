@@ -1,11 +1,12 @@
 //! A list of programs that take turns.
-ghost use Rattle.std.specs.Prelude.{◌≡◌, ◌≤◌, ◌^◌, ◌⊎◌, ℕ, IfOk, IfErr, OnErr, length};
+ghost use Rattle.std.specs.Prelude.{◌≡◌, ◌≤◌, ◌^◌, ◌⊎◌, ℕ, List, IfOk, IfErr, OnErr, length};
 ghost use Rattle.pr_edge.specs.Files.{Told};
 ghost use Rattle.pr_run.specs.Setting.{view};
 ghost use Rattle.pr_machine.specs.Stands.{bare_stripes};
-ghost use Rattle.pr_share.specs.Items.{World, world, AreReady};
+ghost use Rattle.pr_share.specs.Items.{World, world, AreReady, names_of, IsNoneOf};
 ghost use Rattle.pr_tool_modes.specs.Calls.{call};
 ghost use Rattle.pr_tool_share.specs.Items.{Item};
+ghost use Rattle.pr_tool_share.specs.Lists.{IsUnlisted};
 ghost use Rattle.pr_tool_share.specs.Shares.{HaveTaken, IsSharedBy};
 
 use crate::ends::answer_of_all;
@@ -61,6 +62,7 @@ fn take_turns<S: Shelf, K: Sink>(
     ensures taken { HaveTaken items.old items.new (world (S.told shelf.old) (S.faults shelf.old) (K.told out.old)) (world (S.told shelf.new) (S.faults shelf.new) (K.told out.new))
         (K.faults out.old) (K.faults out.new) result }
     ensures told { S.told shelf.new ≡ S.told shelf.old }
+    ensures others { (q : List ℕ) → IsNoneOf (names_of items.old) q → S.reach shelf.new q ≡ S.reach shelf.old q }
     ensures shelf_later { S.faults shelf.old ≤ S.faults shelf.new }
     ensures out_later { K.faults out.old ≤ K.faults out.new }
 {
@@ -88,6 +90,8 @@ pub fn share_list<S: Shelf, K: Sink>(
         (K.told out.old) (K.told out.new) (K.faults out.old) (K.faults out.new)) result }
 
     ensures told { S.told shelf.new ≡ S.told shelf.old }
+    // Only the list is read, and the files that it names.
+    ensures others { (q : List ℕ) → IsUnlisted (S.told shelf.old) sharing.now.list.now q → S.reach shelf.new q ≡ S.reach shelf.old q }
     ensures shelf_later { S.faults shelf.old ≤ S.faults shelf.new }
     ensures out_later { K.faults out.old ≤ K.faults out.new }
 {
