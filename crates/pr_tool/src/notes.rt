@@ -130,7 +130,8 @@ fn put_answer(text: &mut Line, bounds: &Bounds, answer: &Answer)
 
 /// Writes the line of an answer that is not Ok. It takes no memory, and a failure of it is of no account.
 pub fn put_note<E: Sink>(note: &mut E, bounds: &Bounds, answer: &Answer)
-    ensures gains { GainsNote (E.told note.old) (E.told note.new) (E.faults note.old) (E.faults note.new) (note_of bounds.now answer.now) }
+    ensures gains { GainsNote (E.told note.old) (E.told note.new) (E.faults note.old) (E.faults note.new)
+        (note_of bounds.now answer.now) }
     ensures later { E.faults note.old ≤ E.faults note.new }
 {
     if let Answer::Ok = answer {

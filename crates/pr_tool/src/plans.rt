@@ -94,7 +94,13 @@ fn run_on<'a>(options: &Options<'a>, samples: &'a str, log: bool) -> Run<'a>
 
 /// A run that goes on from a checkpoint, with the options of a command line.
 fn resumption<'a>(options: &Options<'a>, checkpoint: &'a str, samples: &'a str) -> Resumption<'a>
-    ensures { resumption_of result ≡ record { name = checkpoint.now; second = samples.now; stall = option_map (λ s. s.now) options.now.stall; stripes = options.now.stripes; log = false } }
+    ensures { resumption_of result ≡ record {
+      name = checkpoint.now;
+      second = samples.now;
+      stall = option_map (λ s. s.now) options.now.stall;
+      stripes = options.now.stripes;
+      log = false;
+    } }
 {
     Resumption {
         checkpoint,
@@ -104,7 +110,8 @@ fn resumption<'a>(options: &Options<'a>, checkpoint: &'a str, samples: &'a str) 
 
 /// A run of a source on samples, with the options of a command line.
 fn runs<'a>(options: &Options<'a>, source: Source<'a>, samples: &'a str, log: bool) -> Plan<'a>
-    ensures { plan_in result ≡ Runs (job (source_of source.entry) samples.now (option_map (λ s. s.now) options.now.stall) options.now.stripes log) }
+    ensures { plan_in result ≡ Runs
+        (job (source_of source.entry) samples.now (option_map (λ s. s.now) options.now.stall) options.now.stripes log) }
 {
     Plan::Runs(Job {
         source,
@@ -114,7 +121,9 @@ fn runs<'a>(options: &Options<'a>, source: Source<'a>, samples: &'a str, log: bo
 
 /// A run of a source for the checkpoint after these samples, with the options of a command line.
 fn folds<'a>(options: &Options<'a>, source: Source<'a>, samples: &'a str) -> Plan<'a>
-    ensures { plan_in result ≡ Folds (job (source_of source.entry) samples.now (option_map (λ s. s.now) options.now.stall) options.now.stripes false) }
+    ensures { plan_in result ≡ Folds
+        (job (source_of source.entry) samples.now (option_map (λ s. s.now) options.now.stall) options.now.stripes
+        false) }
 {
     Plan::Folds(Job {
         source,

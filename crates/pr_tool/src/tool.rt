@@ -50,14 +50,17 @@ pub fn piperench<S: Shelf, K: Sink, E: Sink>(
 ) -> Answer
     // What it came to, by the plan of the words: what was read, what is written, and what is on the bench.
     ensures called { IsCalled (asked_by words.now) (call
-        (view (S.told shelf.old) (S.reach shelf.old) (S.faults shelf.old)) (view (S.told shelf.new) (S.reach shelf.new) (S.faults shelf.new))
+        (view (S.told shelf.old) (S.reach shelf.old) (S.faults shelf.old))
+        (view (S.told shelf.new) (S.reach shelf.new) (S.faults shelf.new))
         (K.told out.old) (K.told out.new) (K.faults out.old) (K.faults out.new)) bench.old bench.new result }
 
     // Over told files the answer is the verdict on words and files, or a fault that was counted, or want of memory; and where
     // no count rises it is the verdict or want of memory.
     ensures verdict { (files : List ℕ → Option (List ℕ)) → S.told shelf.old ≡ Some files
-        → IsOwed (IsVerdict files (asked_by words.now)) (S.faults shelf.old) (S.faults shelf.new) (K.faults out.old) (K.faults out.new) result }
-    ensures complete { (files : List ℕ → Option (List ℕ)) → S.told shelf.old ≡ Some files → IsSteady (S.faults shelf.old) (S.faults shelf.new) → IsSteady (K.faults out.old) (K.faults out.new)
+        → IsOwed (IsVerdict files (asked_by words.now)) (S.faults shelf.old) (S.faults shelf.new) (K.faults out.old)
+        (K.faults out.new) result }
+    ensures complete { (files : List ℕ → Option (List ℕ)) → S.told shelf.old ≡ Some files
+        → IsSteady (S.faults shelf.old) (S.faults shelf.new) → IsSteady (K.faults out.old) (K.faults out.new)
         → IsVerdict files (asked_by words.now) result ⊎ (result ≡ Answer.Memory) }
 
     // The headline, for every text of samples, every number of stripes from 2 to 256, every stall text and both fabrics. Over told
@@ -67,34 +70,43 @@ pub fn piperench<S: Shelf, K: Sink, E: Sink>(
     // that drain the samples. After a read fault they are first samples, and all their lines are written, or no run was begun.
     // After a write fault first bytes of the lines are. With the log the same lines stand among those of the cycles. At every
     // other answer no run was begun: nothing is written, and the bench is as it was.
-    ensures lines { (files : List ℕ → Option (List ℕ)) (order : Order) (j : Job) (name : List ℕ) (target : Target) → S.told shelf.old ≡ Some files
+    ensures lines { (files : List ℕ → Option (List ℕ)) (order : Order) (j : Job) (name : List ℕ) (target : Target)
+        → S.told shelf.old ≡ Some files
         → asked_by words.now ≡ Some order → plan_of order ≡ Runs j → j.source ≡ Text name target
         → AreProgramLines files j (call
-        (view (S.told shelf.old) (S.reach shelf.old) (S.faults shelf.old)) (view (S.told shelf.new) (S.reach shelf.new) (S.faults shelf.new))
+        (view (S.told shelf.old) (S.reach shelf.old) (S.faults shelf.old))
+        (view (S.told shelf.new) (S.reach shelf.new) (S.faults shelf.new))
         (K.told out.old) (K.told out.new) (K.faults out.old) (K.faults out.new)) bench.old bench.new result }
 
     // What each plan has written over told files, and what is on the bench. A checkpoint has the number of its samples, with those
     // before, and the configuration as they left it, and comes of samples that are all good alone; the bench is as it was. A run that
     // goes on from one writes the lines of the further samples, which are the rest of what the program means (`moving_law`). The
     // programs of a list have written the text of their turns, in which the lines of each are those that it writes alone.
-    ensures gained { (files : List ℕ → Option (List ℕ)) (order : Order) → S.told shelf.old ≡ Some files → asked_by words.now ≡ Some order
+    ensures gained { (files : List ℕ → Option (List ℕ)) (order : Order) → S.told shelf.old ≡ Some files
+        → asked_by words.now ≡ Some order
         → HasGained files (plan_of order) (call
-        (view (S.told shelf.old) (S.reach shelf.old) (S.faults shelf.old)) (view (S.told shelf.new) (S.reach shelf.new) (S.faults shelf.new))
+        (view (S.told shelf.old) (S.reach shelf.old) (S.faults shelf.old))
+        (view (S.told shelf.new) (S.reach shelf.new) (S.faults shelf.new))
         (K.told out.old) (K.told out.new) (K.faults out.old) (K.faults out.new)) bench.old bench.new result }
 
     // Each answer by its cause: wrong words, a failed read, a failed write, want of memory.
     ensures usage { result ≡ Answer.Usage → asked_by words.now ≡ None }
     ensures wrong { asked_by words.now ≡ None → (result ≡ Answer.Usage) ⊎ (result ≡ Answer.Memory) }
-    ensures read_fault { result ≡ Answer.ReadFault → IsToldVerdict (S.told shelf.old) (asked_by words.now) result ⊎ Rose (S.faults shelf.old) (S.faults shelf.new) }
+    ensures read_fault { result ≡ Answer.ReadFault
+        → IsToldVerdict (S.told shelf.old) (asked_by words.now) result
+        ⊎ Rose (S.faults shelf.old) (S.faults shelf.new) }
     ensures write_fault { result ≡ Answer.WriteFault → Rose (K.faults out.old) (K.faults out.new) }
     ensures memory { result ≡ Answer.Memory → (K.told out.new ≡ K.told out.old) × (bench.new ≡ bench.old) }
 
     // Only the files of the plan are read, and those that a list of programs names.
-    ensures other_files { (q : List ℕ) → IsOther (S.told shelf.old) (asked_by words.now) q → S.reach shelf.new q ≡ S.reach shelf.old q }
+    ensures other_files { (q : List ℕ) → IsOther (S.told shelf.old) (asked_by words.now) q
+        → S.reach shelf.new q ≡ S.reach shelf.old q }
 
-    ensures note { GainsNote (E.told note.old) (E.told note.new) (E.faults note.old) (E.faults note.new) (note_of (bounds_in (asked_by words.now)) result) }
+    ensures note { GainsNote (E.told note.old) (E.told note.new) (E.faults note.old) (E.faults note.new)
+        (note_of (bounds_in (asked_by words.now)) result) }
     ensures told { S.told shelf.new ≡ S.told shelf.old }
-    ensures counts { (S.faults shelf.old ≤ S.faults shelf.new) × (K.faults out.old ≤ K.faults out.new) × (E.faults note.old ≤ E.faults note.new) }
+    ensures counts { (S.faults shelf.old ≤ S.faults shelf.new) × (K.faults out.old ≤ K.faults out.new)
+        × (E.faults note.old ≤ E.faults note.new) }
 {
     let reply = reply_to(alloc, words, shelf, out, bench);
     put_note(note, &reply.bounds, &reply.answer);
@@ -135,10 +147,12 @@ fn reply_to<S: Shelf, K: Sink>(
     bench: &mut Bench,
 ) -> Reply
     ensures called { IsCalled (asked_by words.now) (call
-        (view (S.told shelf.old) (S.reach shelf.old) (S.faults shelf.old)) (view (S.told shelf.new) (S.reach shelf.new) (S.faults shelf.new))
+        (view (S.told shelf.old) (S.reach shelf.old) (S.faults shelf.old))
+        (view (S.told shelf.new) (S.reach shelf.new) (S.faults shelf.new))
         (K.told out.old) (K.told out.new) (K.faults out.old) (K.faults out.new)) bench.old bench.new result.answer }
     ensures bounds { note_of result.bounds result.answer ≡ note_of (bounds_in (asked_by words.now)) result.answer }
-    ensures other_files { (q : List ℕ) → IsOther (S.told shelf.old) (asked_by words.now) q → S.reach shelf.new q ≡ S.reach shelf.old q }
+    ensures other_files { (q : List ℕ) → IsOther (S.told shelf.old) (asked_by words.now) q
+        → S.reach shelf.new q ≡ S.reach shelf.old q }
     ensures told { S.told shelf.new ≡ S.told shelf.old }
     ensures shelf_later { S.faults shelf.old ≤ S.faults shelf.new }
     ensures out_later { K.faults out.old ≤ K.faults out.new }

@@ -56,7 +56,8 @@ fn file_part(bytes: &[u8]) -> &[u8]
 
 /// The count and the configuration of a checkpoint's bytes, on the fabric that they name.
 fn decode_named(alloc: Global, bytes: &[u8]) -> Result<Origin, Answer>
-    ensures read { IfOk result (λ l. IsResumable (columns_in l.conf) (registers_in l.conf) l.before (shape_in l.conf) bytes.now) }
+    ensures read { IfOk result
+        (λ l. IsResumable (columns_in l.conf) (registers_in l.conf) l.before (shape_in l.conf) bytes.now) }
     ensures refused { IfErr result (IsWordRefusal (broken_mark bytes.now)) }
 {
     match fabric_of(file_part(bytes)) {
@@ -79,7 +80,9 @@ fn decode_named(alloc: Global, bytes: &[u8]) -> Result<Origin, Answer>
 
 /// Reads the configuration of a checkpoint, and the number of samples that came before, on the fabric that the file names.
 pub fn read_checkpoint<S: Shelf>(alloc: Global, shelf: &mut S, name: &str) -> Result<Origin, Answer>
-    ensures read { IfOk result (λ l. HasMark (S.told shelf.old) name.now (columns_in l.conf) (registers_in l.conf) l.before (shape_in l.conf)) }
+    ensures read { IfOk result
+        (λ l. HasMark (S.told shelf.old) name.now (columns_in l.conf) (registers_in l.conf) l.before
+        (shape_in l.conf)) }
     ensures refused { IfErr result (IsNotMarked (S.told shelf.old) name.now (S.faults shelf.old) (S.faults shelf.new)) }
     ensures later { S.faults shelf.old ≤ S.faults shelf.new }
     ensures same { S.told shelf.new ≡ S.told shelf.old }

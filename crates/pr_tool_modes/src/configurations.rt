@@ -39,7 +39,8 @@ fn decode_bytes<const N: usize, const P: usize>(
 /// The configuration of a file's bytes, on the fabric that they name.
 fn decode_named(alloc: Global, bytes: &[u8]) -> Result<Loadable, Answer>
     ensures read { IfOk result (λ l. IsLoadable (columns_in l) (registers_in l) (shape_in l) bytes.now) }
-    ensures refused { IfErr result (IsWordRefusal (bad_word (columns_of bytes.now) (registers_of bytes.now) bytes.now)) }
+    ensures refused { IfErr result
+        (IsWordRefusal (bad_word (columns_of bytes.now) (registers_of bytes.now) bytes.now)) }
 {
     match fabric_of(bytes) {
         Fabric::Base => Ok(Loadable::Base(decode_bytes::<16, 8>(alloc, bytes)?)),
@@ -53,8 +54,10 @@ pub fn read_configuration<S: Shelf>(
     shelf: &mut S,
     name: &str,
 ) -> Result<Loadable, Answer>
-    ensures read { IfOk result (λ l. HasConfiguration (S.told shelf.old) name.now (columns_in l) (registers_in l) (shape_in l)) }
-    ensures refused { IfErr result (IsNotConfigured (S.told shelf.old) name.now (S.faults shelf.old) (S.faults shelf.new)) }
+    ensures read { IfOk result
+        (λ l. HasConfiguration (S.told shelf.old) name.now (columns_in l) (registers_in l) (shape_in l)) }
+    ensures refused { IfErr result
+        (IsNotConfigured (S.told shelf.old) name.now (S.faults shelf.old) (S.faults shelf.new)) }
     ensures later { S.faults shelf.old ≤ S.faults shelf.new }
     ensures same { S.told shelf.new ≡ S.told shelf.old }
     ensures others { (q : List ℕ) → q ≢ name.now → S.reach shelf.new q ≡ S.reach shelf.old q }

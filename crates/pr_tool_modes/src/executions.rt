@@ -33,15 +33,21 @@ fn run_on<const N: usize, const P: usize, S: Shelf, K: Sink>(
     out: &mut K,
 ) -> Result<Over<N, P>, Answer>
     requires { before ≤ 2 ^ 40 }
-    ensures ran { (source : Source) → count_in source ≡ before → IfOk result (λ o. HasRun (IsNoStall (job_on source run.now)) (shape_of conf.entry) (job_on source run.now)
-        (view (S.told shelf.old) (S.reach shelf.old) (S.faults shelf.old)) (view (S.told shelf.new) (S.reach shelf.new) (S.faults shelf.new))
+    ensures ran { (source : Source) → count_in source ≡ before
+        → IfOk result (λ o. HasRun (IsNoStall (job_on source run.now)) (shape_of conf.entry) (job_on source run.now)
+        (view (S.told shelf.old) (S.reach shelf.old) (S.faults shelf.old))
+        (view (S.told shelf.new) (S.reach shelf.new) (S.faults shelf.new))
         (K.told out.old) (K.told out.new) o.machine o.answer) }
-    ensures refused { IfErr result (λ a. IsStallRefusal (S.told shelf.old) (stall_in run.now) (S.faults shelf.old) (S.faults shelf.new) a ⊎ (a ≡ Answer.Memory)) }
+    ensures refused { IfErr result
+        (λ a. IsStallRefusal (S.told shelf.old) (stall_in run.now) (S.faults shelf.old) (S.faults shelf.new) a
+        ⊎ (a ≡ Answer.Memory)) }
     ensures unwritten { OnErr result (K.told out.new ≡ K.told out.old) }
-    ensures unread { OnErr result ((q : List ℕ) → stall_in run.now ≢ Some q → S.reach shelf.new q ≡ S.reach shelf.old q) }
+    ensures unread { OnErr result
+        ((q : List ℕ) → stall_in run.now ≢ Some q → S.reach shelf.new q ≡ S.reach shelf.old q) }
     ensures write_fault { IfOk result (λ o. o.answer ≡ Answer.WriteFault → Rose (K.faults out.old) (K.faults out.new)) }
     ensures told { S.told shelf.new ≡ S.told shelf.old }
-    ensures others { (q : List ℕ) → q ≢ run.now.samples.now → stall_in run.now ≢ Some q → S.reach shelf.new q ≡ S.reach shelf.old q }
+    ensures others { (q : List ℕ) → q ≢ run.now.samples.now → stall_in run.now ≢ Some q
+        → S.reach shelf.new q ≡ S.reach shelf.old q }
     ensures shelf_later { S.faults shelf.old ≤ S.faults shelf.new }
     ensures out_later { K.faults out.old ≤ K.faults out.new }
 {
@@ -97,14 +103,20 @@ pub fn run_either<S: Shelf, K: Sink>(
     out: &mut K,
 ) -> Result<Ran, Answer>
     // Whatever the source that the configuration comes from.
-    ensures ran { (source : Source) → count_in source ≡ origin.before → IfOk result (λ r. IsRunOn origin.conf (job_on source run.now) (call
-        (view (S.told shelf.old) (S.reach shelf.old) (S.faults shelf.old)) (view (S.told shelf.new) (S.reach shelf.new) (S.faults shelf.new))
+    ensures ran { (source : Source) → count_in source ≡ origin.before
+        → IfOk result (λ r. IsRunOn origin.conf (job_on source run.now) (call
+        (view (S.told shelf.old) (S.reach shelf.old) (S.faults shelf.old))
+        (view (S.told shelf.new) (S.reach shelf.new) (S.faults shelf.new))
         (K.told out.old) (K.told out.new) (K.faults out.old) (K.faults out.new)) (bench_in r) (answer_in r)) }
-    ensures refused { IfErr result (λ a. IsStallRefusal (S.told shelf.old) (stall_in run.now) (S.faults shelf.old) (S.faults shelf.new) a ⊎ (a ≡ Answer.Memory)) }
+    ensures refused { IfErr result
+        (λ a. IsStallRefusal (S.told shelf.old) (stall_in run.now) (S.faults shelf.old) (S.faults shelf.new) a
+        ⊎ (a ≡ Answer.Memory)) }
     ensures unwritten { OnErr result (K.told out.new ≡ K.told out.old) }
-    ensures unread { OnErr result ((q : List ℕ) → stall_in run.now ≢ Some q → S.reach shelf.new q ≡ S.reach shelf.old q) }
+    ensures unread { OnErr result
+        ((q : List ℕ) → stall_in run.now ≢ Some q → S.reach shelf.new q ≡ S.reach shelf.old q) }
     ensures told { S.told shelf.new ≡ S.told shelf.old }
-    ensures others { (q : List ℕ) → q ≢ run.now.samples.now → stall_in run.now ≢ Some q → S.reach shelf.new q ≡ S.reach shelf.old q }
+    ensures others { (q : List ℕ) → q ≢ run.now.samples.now → stall_in run.now ≢ Some q
+        → S.reach shelf.new q ≡ S.reach shelf.old q }
     ensures shelf_later { S.faults shelf.old ≤ S.faults shelf.new }
     ensures out_later { K.faults out.old ≤ K.faults out.new }
 {
@@ -132,11 +144,14 @@ pub fn run_from<S: Shelf, K: Sink>(
     bench: &mut Bench,
 ) -> Answer
     // Whatever the source that the configuration comes from.
-    ensures ended { (source : Source) → count_in source ≡ origin.before → IsRunOf origin.conf (job_on source run.now) (call
-        (view (S.told shelf.old) (S.reach shelf.old) (S.faults shelf.old)) (view (S.told shelf.new) (S.reach shelf.new) (S.faults shelf.new))
+    ensures ended { (source : Source) → count_in source ≡ origin.before → IsRunOf origin.conf (job_on source run.now)
+        (call
+        (view (S.told shelf.old) (S.reach shelf.old) (S.faults shelf.old))
+        (view (S.told shelf.new) (S.reach shelf.new) (S.faults shelf.new))
         (K.told out.old) (K.told out.new) (K.faults out.old) (K.faults out.new)) bench.old bench.new result }
     ensures told { S.told shelf.new ≡ S.told shelf.old }
-    ensures others { (q : List ℕ) → q ≢ run.now.samples.now → stall_in run.now ≢ Some q → S.reach shelf.new q ≡ S.reach shelf.old q }
+    ensures others { (q : List ℕ) → q ≢ run.now.samples.now → stall_in run.now ≢ Some q
+        → S.reach shelf.new q ≡ S.reach shelf.old q }
     ensures shelf_later { S.faults shelf.old ≤ S.faults shelf.new }
     ensures out_later { K.faults out.old ≤ K.faults out.new }
 {
@@ -161,10 +176,12 @@ pub fn run_loaded<S: Shelf, K: Sink>(
     bench: &mut Bench,
 ) -> Answer
     ensures ended { IsRunOf loaded (job_of job.now) (call
-        (view (S.told shelf.old) (S.reach shelf.old) (S.faults shelf.old)) (view (S.told shelf.new) (S.reach shelf.new) (S.faults shelf.new))
+        (view (S.told shelf.old) (S.reach shelf.old) (S.faults shelf.old))
+        (view (S.told shelf.new) (S.reach shelf.new) (S.faults shelf.new))
         (K.told out.old) (K.told out.new) (K.faults out.old) (K.faults out.new)) bench.old bench.new result }
     ensures told { S.told shelf.new ≡ S.told shelf.old }
-    ensures others { (q : List ℕ) → q ≢ (job_of job.now).second → IsNoStall (job_of job.now) q → S.reach shelf.new q ≡ S.reach shelf.old q }
+    ensures others { (q : List ℕ) → q ≢ (job_of job.now).second → IsNoStall (job_of job.now) q
+        → S.reach shelf.new q ≡ S.reach shelf.old q }
     ensures shelf_later { S.faults shelf.old ≤ S.faults shelf.new }
     ensures out_later { K.faults out.old ≤ K.faults out.new }
 {
@@ -189,11 +206,13 @@ pub fn execute<S: Shelf, K: Sink>(
 ) -> Answer
     // What it came to: a refusal before the run, or the run.
     ensures ended { HasCome (job_of job.now) (call
-        (view (S.told shelf.old) (S.reach shelf.old) (S.faults shelf.old)) (view (S.told shelf.new) (S.reach shelf.new) (S.faults shelf.new))
+        (view (S.told shelf.old) (S.reach shelf.old) (S.faults shelf.old))
+        (view (S.told shelf.new) (S.reach shelf.new) (S.faults shelf.new))
         (K.told out.old) (K.told out.new) (K.faults out.old) (K.faults out.new)) bench.old bench.new result }
 
     ensures told { S.told shelf.new ≡ S.told shelf.old }
-    ensures others { (q : List ℕ) → q ≢ (job_of job.now).second → IsNeither (job_of job.now) q → S.reach shelf.new q ≡ S.reach shelf.old q }
+    ensures others { (q : List ℕ) → q ≢ (job_of job.now).second → IsNeither (job_of job.now) q
+        → S.reach shelf.new q ≡ S.reach shelf.old q }
     ensures shelf_later { S.faults shelf.old ≤ S.faults shelf.new }
     ensures out_later { K.faults out.old ≤ K.faults out.new }
 {

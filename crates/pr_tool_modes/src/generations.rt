@@ -142,7 +142,9 @@ fn summary_on(
 
 /// Makes both texts, compiles the program and runs it on the samples, and says what is to be told of it.
 fn run_generated(alloc: Global, generation: &Generation) -> Result<Generated, Answer>
-    ensures told { IfOk result (λ r. OnBench (λ N P machine. HasGenerated (generation_of generation.now) (λ text. r.text.items ≡ text) machine) r.bench) }
+    ensures told { IfOk result
+        (λ r. OnBench (λ N P machine. HasGenerated (generation_of generation.now) (λ text. r.text.items ≡ text) machine)
+        r.bench) }
     ensures refused { IfErr result (λ a. IsGenVerdict (generation_of generation.now) a ⊎ (a ≡ Answer.Memory)) }
     ensures failed { IfErr result (λ a. a ≢ Answer.Ok) }
 {
@@ -190,7 +192,8 @@ pub fn generate<K: Sink>(
     out: &mut K,
     bench: &mut Bench,
 ) -> Answer
-    ensures ended { IsGenerated (generation_of generation.now) (K.told out.old) (K.told out.new) (K.faults out.old) (K.faults out.new) bench.old bench.new result }
+    ensures ended { IsGenerated (generation_of generation.now)
+        (K.told out.old) (K.told out.new) (K.faults out.old) (K.faults out.new) bench.old bench.new result }
     ensures later { K.faults out.old ≤ K.faults out.new }
 {
     let ran = match run_generated(alloc, generation) {

@@ -110,7 +110,8 @@ pub fn compile_on<const N: usize, const P: usize, S: Shelf>(
     requires most_registers { P ≤ 16 }
     ensures compiled { IfOk result (λ c. HasCompiled (S.told shelf.old) name.now N P narrowed (shape_of c.conf)) }
     ensures units { IfOk result (λ c. IsCounted (S.told shelf.old) name.now narrowed c.units) }
-    ensures refused { IfErr result (IsNotCompiled N P narrowed (S.told shelf.old) name.now (S.faults shelf.old) (S.faults shelf.new)) }
+    ensures refused { IfErr result
+        (IsNotCompiled N P narrowed (S.told shelf.old) name.now (S.faults shelf.old) (S.faults shelf.new)) }
     ensures later { S.faults shelf.old ≤ S.faults shelf.new }
     ensures same { S.told shelf.new ≡ S.told shelf.old }
     ensures others { (q : List ℕ) → q ≢ name.now → S.reach shelf.new q ≡ S.reach shelf.old q }
@@ -135,9 +136,13 @@ pub fn compile_file<S: Shelf>(
     name: &str,
     target: Target,
 ) -> Result<Made, Answer>
-    ensures compiled { IfOk result (λ m. IsOnFabric (S.told shelf.old) name.now target (columns_in m.loaded) (registers_in m.loaded) (shape_in m.loaded)) }
+    ensures compiled { IfOk result
+        (λ m. IsOnFabric (S.told shelf.old) name.now target (columns_in m.loaded) (registers_in m.loaded)
+        (shape_in m.loaded)) }
     ensures units { IfOk result (λ m. IsCounted (S.told shelf.old) name.now target.narrowed m.units) }
-    ensures refused { IfErr result (IsNotCompiled (columns target.fabric) (registers target.fabric) target.narrowed (S.told shelf.old) name.now (S.faults shelf.old) (S.faults shelf.new)) }
+    ensures refused { IfErr result
+        (IsNotCompiled (columns target.fabric) (registers target.fabric) target.narrowed (S.told shelf.old) name.now
+        (S.faults shelf.old) (S.faults shelf.new)) }
     ensures later { S.faults shelf.old ≤ S.faults shelf.new }
     ensures same { S.told shelf.new ≡ S.told shelf.old }
     ensures others { (q : List ℕ) → q ≢ name.now → S.reach shelf.new q ≡ S.reach shelf.old q }

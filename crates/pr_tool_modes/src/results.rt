@@ -50,9 +50,13 @@ fn results_in<S: Shelf>(
     requires feed { IsShortFeed (inputs_of front.now.scoped.program) feed.old }
     requires sample { length sample.old ≡ vec_len front.now.scoped.inputs }
     requires row { length row.old ≡ vec_len front.now.flat.outputs }
-    ensures results { IfOk result (λ r. r.end ≢ Got.ReadFault → HasEvaluated (S.told shelf.old) front.now.scoped.program feed.old feed.new r.text.items r.end) }
+    ensures results { IfOk result
+        (λ r. r.end ≢ Got.ReadFault
+        → HasEvaluated (S.told shelf.old) front.now.scoped.program feed.old feed.new r.text.items r.end) }
     ensures there { IfOk result (λ r. r.end ≢ Got.ReadFault → IsMissing (S.told shelf.old) (name_of feed.old) → ⊥) }
-    ensures cause { IfOk result (λ r. r.end ≡ Got.ReadFault → HasReadCause (S.told shelf.old) (name_of feed.old) (S.faults shelf.old) (S.faults shelf.new)) }
+    ensures cause { IfOk result
+        (λ r. r.end ≡ Got.ReadFault
+        → HasReadCause (S.told shelf.old) (name_of feed.old) (S.faults shelf.old) (S.faults shelf.new)) }
     ensures file { SameFile feed.old feed.new }
     ensures later { S.faults shelf.old ≤ S.faults shelf.new }
     ensures same { S.told shelf.new ≡ S.told shelf.old }
@@ -82,9 +86,13 @@ fn evaluate<S: Shelf>(
     requires flat { HasEquations front.now.scoped.program front.now.flat }
     requires widths { AreWidths (equations_of front.now.scoped.program).equations front.now.widths }
     requires feed { IsShortFeed (inputs_of front.now.scoped.program) feed.old }
-    ensures results { IfOk result (λ r. r.end ≢ Got.ReadFault → HasEvaluated (S.told shelf.old) front.now.scoped.program feed.old feed.new r.text.items r.end) }
+    ensures results { IfOk result
+        (λ r. r.end ≢ Got.ReadFault
+        → HasEvaluated (S.told shelf.old) front.now.scoped.program feed.old feed.new r.text.items r.end) }
     ensures there { IfOk result (λ r. r.end ≢ Got.ReadFault → IsMissing (S.told shelf.old) (name_of feed.old) → ⊥) }
-    ensures cause { IfOk result (λ r. r.end ≡ Got.ReadFault → HasReadCause (S.told shelf.old) (name_of feed.old) (S.faults shelf.old) (S.faults shelf.new)) }
+    ensures cause { IfOk result
+        (λ r. r.end ≡ Got.ReadFault
+        → HasReadCause (S.told shelf.old) (name_of feed.old) (S.faults shelf.old) (S.faults shelf.new)) }
     ensures file { SameFile feed.old feed.new }
     ensures later { S.faults shelf.old ≤ S.faults shelf.new }
     ensures same { S.told shelf.new ≡ S.told shelf.old }
@@ -106,8 +114,10 @@ pub fn results_of<S: Shelf>(
     requires scoped { IsScoped front.now.scoped.program front.now.scoped }
     requires flat { HasEquations front.now.scoped.program front.now.flat }
     requires widths { AreWidths (equations_of front.now.scoped.program).equations front.now.widths }
-    ensures results { IfOk result (λ r. HasLines (S.told shelf.old) samples.now front.now.scoped.program r.text.items r.end) }
-    ensures refused { IfErr result (IsUnread 16777216 Cap.SampleBytes (S.told shelf.old) samples.now (S.faults shelf.old) (S.faults shelf.new)) }
+    ensures results { IfOk result
+        (λ r. HasLines (S.told shelf.old) samples.now front.now.scoped.program r.text.items r.end) }
+    ensures refused { IfErr result
+        (IsUnread 16777216 Cap.SampleBytes (S.told shelf.old) samples.now (S.faults shelf.old) (S.faults shelf.new)) }
     ensures later { S.faults shelf.old ≤ S.faults shelf.new }
     ensures same { S.told shelf.new ≡ S.told shelf.old }
     ensures others { (q : List ℕ) → q ≢ samples.now → S.reach shelf.new q ≡ S.reach shelf.old q }

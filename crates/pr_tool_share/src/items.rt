@@ -24,7 +24,9 @@ fn compile<S: Shelf>(
     entry: &Entry,
 ) -> Result<Configuration<16, 8>, Answer>
     ensures compiled { IfOk result (λ c. Gives (S.told shelf.old) (source_in (entry_in entry.now)) 16 8 (shape_of c)) }
-    ensures refused { IfErr result (IsSourceRefusal (S.told shelf.old) (source_in (entry_in entry.now)) (S.faults shelf.old) (S.faults shelf.new)) }
+    ensures refused { IfErr result
+        (IsSourceRefusal (S.told shelf.old) (source_in (entry_in entry.now)) (S.faults shelf.old)
+        (S.faults shelf.new)) }
     ensures later { S.faults shelf.old ≤ S.faults shelf.new }
     ensures same { S.told shelf.new ≡ S.told shelf.old }
     ensures others { (q : List ℕ) → q ≢ (entry_in entry.now).program → S.reach shelf.new q ≡ S.reach shelf.old q }
@@ -62,7 +64,9 @@ fn make_item<S: Shelf>(
     entry: &Entry,
 ) -> Result<ShareItem<16, 8>, Answer>
     ensures ready { IfOk result (λ i. IsItemOf (S.told shelf.old) (entry_in entry.now) i) }
-    ensures refused { IfErr result (IsSourceRefusal (S.told shelf.old) (source_in (entry_in entry.now)) (S.faults shelf.old) (S.faults shelf.new)) }
+    ensures refused { IfErr result
+        (IsSourceRefusal (S.told shelf.old) (source_in (entry_in entry.now)) (S.faults shelf.old)
+        (S.faults shelf.new)) }
     ensures later { S.faults shelf.old ≤ S.faults shelf.new }
     ensures same { S.told shelf.new ≡ S.told shelf.old }
     ensures others { (q : List ℕ) → q ≢ (entry_in entry.now).program → S.reach shelf.new q ≡ S.reach shelf.old q }
@@ -85,10 +89,13 @@ pub(crate) fn make_items<S: Shelf>(
 ) -> Result<Vec<ShareItem<16, 8>>, Answer>
     requires { length entries.now ≤ 8 }
     ensures ready { IfOk result (λ items. AreItemsOf (S.told shelf.old) (map entry_in entries.now) items.items) }
-    ensures refused { IfErr result (λ a. IsProgramRefusal (S.told shelf.old) (S.faults shelf.old) (S.faults shelf.new) 0 (map entry_in entries.now) a ⊎ (a ≡ Answer.Memory)) }
+    ensures refused { IfErr result
+        (λ a. IsProgramRefusal (S.told shelf.old) (S.faults shelf.old) (S.faults shelf.new) 0
+        (map entry_in entries.now) a ⊎ (a ≡ Answer.Memory)) }
     ensures later { S.faults shelf.old ≤ S.faults shelf.new }
     ensures same { S.told shelf.new ≡ S.told shelf.old }
-    ensures others { (q : List ℕ) → IsNoProgram (map entry_in entries.now) q → S.reach shelf.new q ≡ S.reach shelf.old q }
+    ensures others { (q : List ℕ) → IsNoProgram (map entry_in entries.now) q
+        → S.reach shelf.new q ≡ S.reach shelf.old q }
 {
     let mut items = Vec::new(alloc);
     for number in 0..entries.len() {

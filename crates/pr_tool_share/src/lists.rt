@@ -17,7 +17,8 @@ pub(crate) fn load_list<S: Shelf>(
     list: &str,
 ) -> Result<Vec<Entry>, Answer>
     ensures list { IfOk result (λ entries. HasList (S.told shelf.old) list.now (map entry_in entries.items)) }
-    ensures refused { IfErr result (IsListRefusal (S.told shelf.old) list.now (S.faults shelf.old) (S.faults shelf.new)) }
+    ensures refused { IfErr result
+        (IsListRefusal (S.told shelf.old) list.now (S.faults shelf.old) (S.faults shelf.new)) }
     ensures later { S.faults shelf.old ≤ S.faults shelf.new }
     ensures same { S.told shelf.new ≡ S.told shelf.old }
     ensures others { (q : List ℕ) → q ≢ list.now → S.reach shelf.new q ≡ S.reach shelf.old q }

@@ -59,7 +59,8 @@ fn take_turns<S: Shelf, K: Sink>(
 ) -> Answer
     requires few { length items.old ≤ 8 }
     requires ready { AreReady items.old }
-    ensures taken { HaveTaken items.old items.new (world (S.told shelf.old) (S.faults shelf.old) (K.told out.old)) (world (S.told shelf.new) (S.faults shelf.new) (K.told out.new))
+    ensures taken { HaveTaken items.old items.new (world (S.told shelf.old) (S.faults shelf.old)
+        (K.told out.old)) (world (S.told shelf.new) (S.faults shelf.new) (K.told out.new))
         (K.faults out.old) (K.faults out.new) result }
     ensures told { S.told shelf.new ≡ S.told shelf.old }
     ensures others { (q : List ℕ) → IsNoneOf (names_of items.old) q → S.reach shelf.new q ≡ S.reach shelf.old q }
@@ -86,12 +87,14 @@ pub fn share_list<S: Shelf, K: Sink>(
 ) -> Answer
     // What it came to: a refusal before the turns, or the turns.
     ensures shared { IsSharedBy sharing.now.list.now sharing.now.stripes (call
-        (view (S.told shelf.old) (S.reach shelf.old) (S.faults shelf.old)) (view (S.told shelf.new) (S.reach shelf.new) (S.faults shelf.new))
+        (view (S.told shelf.old) (S.reach shelf.old) (S.faults shelf.old))
+        (view (S.told shelf.new) (S.reach shelf.new) (S.faults shelf.new))
         (K.told out.old) (K.told out.new) (K.faults out.old) (K.faults out.new)) result }
 
     ensures told { S.told shelf.new ≡ S.told shelf.old }
     // Only the list is read, and the files that it names.
-    ensures others { (q : List ℕ) → IsUnlisted (S.told shelf.old) sharing.now.list.now q → S.reach shelf.new q ≡ S.reach shelf.old q }
+    ensures others { (q : List ℕ) → IsUnlisted (S.told shelf.old) sharing.now.list.now q
+        → S.reach shelf.new q ≡ S.reach shelf.old q }
     ensures shelf_later { S.faults shelf.old ≤ S.faults shelf.new }
     ensures out_later { K.faults out.old ≤ K.faults out.new }
 {
