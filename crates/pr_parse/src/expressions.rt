@@ -4,7 +4,7 @@ ghost use Rattle.std.specs.Prelude.{IfOk, IfErr, map};
 ghost use Rattle.pr_lang.specs.Grammar.{rule, level, operand as operand_of, TheExpr, TheCompare, ThePrefix, ThePostfix, ThePrimary, ListOf, MaybeListOf, Exprs};
 ghost use Rattle.pr_lang.specs.Shape.{expr_shape, comma_listed};
 ghost use Rattle.pr_parse.specs.Reads.{IsRead, Fails};
-ghost use Rattle.pr_parse.specs.Levels.{level_seen, call_or_stream};
+ghost use Rattle.pr_parse.specs.Levels.{level_seen, paren_part, cat_part, call_or_stream};
 
 use crate::build;
 use crate::fault::Fault;
@@ -151,20 +151,46 @@ fn primary<'a>(
         return Ok((build::number(value), rest));
     }
     if is(tokens, Kind::Mark(Symbol::OpenRound)) {
-        let inside = take(tokens, Kind::Mark(Symbol::OpenRound))?;
-        let (inner, after) = expr(alloc, text, inside)?;
-        let held = build::boxed(alloc, inner)?;
-        let rest = take(after, Kind::Mark(Symbol::CloseRound))?;
-        return Ok((build::paren(held), rest));
+        return grouped(alloc, text, tokens);
     }
     if is(tokens, Kind::Word(Keyword::Cat)) {
-        let after = take(tokens, Kind::Word(Keyword::Cat))?;
-        let inside = take(after, Kind::Mark(Symbol::OpenRound))?;
-        let (parts, after) = exprs(alloc, text, inside)?;
-        let rest = take(after, Kind::Mark(Symbol::CloseRound))?;
-        return Ok((build::cat(parts), rest));
+        return concatenation(alloc, text, tokens);
     }
     named(alloc, text, tokens)
+}
+
+/// An expression in parentheses.
+#[cycle(expressions)]
+fn grouped<'a>(
+    alloc: Global,
+    text: &[u8],
+    tokens: &'a [Token],
+) -> Result<(Expr, &'a [Token]), Fault>
+    ensures ok { IfOk result (λ x. IsRead paren_part text.now tokens.now x.1.now (expr_shape x.0)) }
+    ensures err { IfErr result (λ e. Fails paren_part text.now tokens.now e) }
+{
+    let inside = take(tokens, Kind::Mark(Symbol::OpenRound))?;
+    let (inner, after) = expr(alloc, text, inside)?;
+    let held = build::boxed(alloc, inner)?;
+    let rest = take(after, Kind::Mark(Symbol::CloseRound))?;
+    Ok((build::paren(held), rest))
+}
+
+/// A concatenation.
+#[cycle(expressions)]
+fn concatenation<'a>(
+    alloc: Global,
+    text: &[u8],
+    tokens: &'a [Token],
+) -> Result<(Expr, &'a [Token]), Fault>
+    ensures ok { IfOk result (λ x. IsRead cat_part text.now tokens.now x.1.now (expr_shape x.0)) }
+    ensures err { IfErr result (λ e. Fails cat_part text.now tokens.now e) }
+{
+    let after = take(tokens, Kind::Word(Keyword::Cat))?;
+    let inside = take(after, Kind::Mark(Symbol::OpenRound))?;
+    let (parts, after) = exprs(alloc, text, inside)?;
+    let rest = take(after, Kind::Mark(Symbol::CloseRound))?;
+    Ok((build::cat(parts), rest))
 }
 
 /// A call, or a stream, perhaps some samples earlier.

@@ -107,32 +107,44 @@ postfix-returns-clause-ok t c = no_more (by_test (this_symbol OpenCurly) _ c.arg
 pub primary-returns-in-Ok-clause-ok : goal.primary-returns-in-Ok-clause-ok
 primary-returns-in-Ok-clause-ok t c = rw c.number-in-Ok.ensures (took (c.in-Ok.ensures.ok c.args.text.now) refl (first (by_one any_number (c.in-Ok.ensures.ok c.args.text.now) refl) (open_rule begun)))
 
-pub primary-returns-in_err-inside-clause-err : goal.primary-returns-in_err-inside-clause-err
-primary-returns-in_err-inside-clause-err t c = let p = err_from_is_err_and c.from_residual.result c.from_residual.ensures.1 in rw (p.1, p.2) (not_there c.in_err-inside.field-0.0 (c.in_err-inside.ensures.err c.args.text.now) (open_then (first (by_test (this_symbol OpenRound) _ c.args.text.now c.args.tokens.now (c.is.ensures c.args.text.now) c.if-is.true) (second (by_none_one any_number c.args.text.now c.args.tokens.now (c.in_default.ensures.err c.args.text.now).other) (open_rule begun)))))
-
-pub primary-returns-in_err-inner-clause-err : goal.primary-returns-in_err-inner-clause-err
-primary-returns-in_err-inner-clause-err t c = let p = err_from_is_err_and c.from_residual-in_err-inner.result c.from_residual-in_err-inner.ensures.1 in rw (p.1, p.2) (failed c.in_err-inner.field-0.0 c.in_err-inner.ensures.err (open_then (took (c.in_ok-inside.ensures.ok c.args.text.now) refl (open_then (first (by_test (this_symbol OpenRound) _ c.args.text.now c.args.tokens.now (c.is.ensures c.args.text.now) c.if-is.true) (second (by_none_one any_number c.args.text.now c.args.tokens.now (c.in_default.ensures.err c.args.text.now).other) (open_rule begun)))))))
-
-pub primary-returns-in_err-rest-clause-err : goal.primary-returns-in_err-rest-clause-err
-primary-returns-in_err-rest-clause-err t c = let p = err_from_is_err_and c.from_residual-in_err-rest.result c.from_residual-in_err-rest.ensures.1 in rw (p.1, p.2) (not_there c.in_err-rest.field-0.0 (c.in_err-rest.ensures.err c.args.text.now) (open_then (read c.in_ok-inner.ensures.ok (open_then (took (c.in_ok-inside.ensures.ok c.args.text.now) refl (open_then (first (by_test (this_symbol OpenRound) _ c.args.text.now c.args.tokens.now (c.is.ensures c.args.text.now) c.if-is.true) (second (by_none_one any_number c.args.text.now c.args.tokens.now (c.in_default.ensures.err c.args.text.now).other) (open_rule begun)))))))))
-
 pub primary-returns-then-is-clause-ok : goal.primary-returns-then-is-clause-ok
-primary-returns-then-is-clause-ok t c = rw (c.paren.ensures, c.in_ok-held.ensures.ok) (made _ (λ ts. refl) (took (c.in_ok-rest.ensures.ok c.args.text.now) refl (open_then (read c.in_ok-inner.ensures.ok (open_then (took (c.in_ok-inside.ensures.ok c.args.text.now) refl (open_then (first (by_test (this_symbol OpenRound) _ c.args.text.now c.args.tokens.now (c.is.ensures c.args.text.now) c.if-is.true) (second (by_none_one any_number c.args.text.now c.args.tokens.now (c.in_default.ensures.err c.args.text.now).other) (open_rule begun))))))))))
+primary-returns-then-is-clause-ok t c = IfOk-weaker _ _ _ (λ x r. read r (first (by_test (this_symbol OpenRound) _ c.args.text.now c.args.tokens.now (c.is.ensures c.args.text.now) c.if-is.true) (second (by_none_one any_number c.args.text.now c.args.tokens.now (c.in_default.ensures.err c.args.text.now).other) (open_rule begun)))) c.grouped.ensures.ok
 
-pub primary-returns-in_err-after-clause-err : goal.primary-returns-in_err-after-clause-err
-primary-returns-in_err-after-clause-err t c = let p = err_from_is_err_and c.from_residual-in_err-after.result c.from_residual-in_err-after.ensures.1 in rw (p.1, p.2) (not_there c.in_err-after.field-0.0 (c.in_err-after.ensures.err c.args.text.now) (open_then (first (by_test (this_keyword Cat) _ c.args.text.now c.args.tokens.now (c.is-2.ensures c.args.text.now) c.if-is-2.true) (second (by_test (this_symbol OpenRound) _ c.args.text.now c.args.tokens.now (c.is.ensures c.args.text.now) c.if-is.false) (second (by_none_one any_number c.args.text.now c.args.tokens.now (c.in_default.ensures.err c.args.text.now).other) (open_rule begun))))))
-
-pub primary-returns-in_err-inside-2-clause-err : goal.primary-returns-in_err-inside-2-clause-err
-primary-returns-in_err-inside-2-clause-err t c = let p = err_from_is_err_and c.from_residual-in_err-inside-2.result c.from_residual-in_err-inside-2.ensures.1 in rw (p.1, p.2) (not_there c.in_err-inside-2.field-0.0 (c.in_err-inside-2.ensures.err c.args.text.now) (open_then (took (c.in_ok-after.ensures.ok c.args.text.now) refl (open_then (first (by_test (this_keyword Cat) _ c.args.text.now c.args.tokens.now (c.is-2.ensures c.args.text.now) c.if-is-2.true) (second (by_test (this_symbol OpenRound) _ c.args.text.now c.args.tokens.now (c.is.ensures c.args.text.now) c.if-is.false) (second (by_none_one any_number c.args.text.now c.args.tokens.now (c.in_default.ensures.err c.args.text.now).other) (open_rule begun))))))))
-
-pub primary-returns-in_err-parts-clause-err : goal.primary-returns-in_err-parts-clause-err
-primary-returns-in_err-parts-clause-err t c = let p = err_from_is_err_and c.from_residual-in_err-parts.result c.from_residual-in_err-parts.ensures.1 in rw (p.1, p.2) (failed c.in_err-parts.field-0.0 c.in_err-parts.ensures.err (open_then (took (c.in_ok-inside-2.ensures.ok c.args.text.now) refl (open_then (took (c.in_ok-after.ensures.ok c.args.text.now) refl (open_then (first (by_test (this_keyword Cat) _ c.args.text.now c.args.tokens.now (c.is-2.ensures c.args.text.now) c.if-is-2.true) (second (by_test (this_symbol OpenRound) _ c.args.text.now c.args.tokens.now (c.is.ensures c.args.text.now) c.if-is.false) (second (by_none_one any_number c.args.text.now c.args.tokens.now (c.in_default.ensures.err c.args.text.now).other) (open_rule begun))))))))))
-
-pub primary-returns-in_err-rest-2-clause-err : goal.primary-returns-in_err-rest-2-clause-err
-primary-returns-in_err-rest-2-clause-err t c = let p = err_from_is_err_and c.from_residual-in_err-rest-2.result c.from_residual-in_err-rest-2.ensures.1 in rw (p.1, p.2) (not_there c.in_err-rest-2.field-0.0 (c.in_err-rest-2.ensures.err c.args.text.now) (open_then (read c.in_ok-parts.ensures.ok (open_then (took (c.in_ok-inside-2.ensures.ok c.args.text.now) refl (open_then (took (c.in_ok-after.ensures.ok c.args.text.now) refl (open_then (first (by_test (this_keyword Cat) _ c.args.text.now c.args.tokens.now (c.is-2.ensures c.args.text.now) c.if-is-2.true) (second (by_test (this_symbol OpenRound) _ c.args.text.now c.args.tokens.now (c.is.ensures c.args.text.now) c.if-is.false) (second (by_none_one any_number c.args.text.now c.args.tokens.now (c.in_default.ensures.err c.args.text.now).other) (open_rule begun))))))))))))
+pub primary-returns-then-is-clause-err : goal.primary-returns-then-is-clause-err
+primary-returns-then-is-clause-err t c = passed_on c.grouped.result (first (by_test (this_symbol OpenRound) _ c.args.text.now c.args.tokens.now (c.is.ensures c.args.text.now) c.if-is.true) (second (by_none_one any_number c.args.text.now c.args.tokens.now (c.in_default.ensures.err c.args.text.now).other) (open_rule begun))) c.grouped.ensures.err
 
 pub primary-returns-then-is-2-clause-ok : goal.primary-returns-then-is-2-clause-ok
-primary-returns-then-is-2-clause-ok t c = rw c.cat.ensures (made _ (λ ts. refl) (took (c.in_ok-rest-2.ensures.ok c.args.text.now) refl (open_then (read c.in_ok-parts.ensures.ok (open_then (took (c.in_ok-inside-2.ensures.ok c.args.text.now) refl (open_then (took (c.in_ok-after.ensures.ok c.args.text.now) refl (open_then (first (by_test (this_keyword Cat) _ c.args.text.now c.args.tokens.now (c.is-2.ensures c.args.text.now) c.if-is-2.true) (second (by_test (this_symbol OpenRound) _ c.args.text.now c.args.tokens.now (c.is.ensures c.args.text.now) c.if-is.false) (second (by_none_one any_number c.args.text.now c.args.tokens.now (c.in_default.ensures.err c.args.text.now).other) (open_rule begun)))))))))))))
+primary-returns-then-is-2-clause-ok t c = IfOk-weaker _ _ _ (λ x r. read r (first (by_test (this_keyword Cat) _ c.args.text.now c.args.tokens.now (c.is-2.ensures c.args.text.now) c.if-is-2.true) (second (by_test (this_symbol OpenRound) _ c.args.text.now c.args.tokens.now (c.is.ensures c.args.text.now) c.if-is.false) (second (by_none_one any_number c.args.text.now c.args.tokens.now (c.in_default.ensures.err c.args.text.now).other) (open_rule begun))))) c.concatenation.ensures.ok
+
+pub primary-returns-then-is-2-clause-err : goal.primary-returns-then-is-2-clause-err
+primary-returns-then-is-2-clause-err t c = passed_on c.concatenation.result (first (by_test (this_keyword Cat) _ c.args.text.now c.args.tokens.now (c.is-2.ensures c.args.text.now) c.if-is-2.true) (second (by_test (this_symbol OpenRound) _ c.args.text.now c.args.tokens.now (c.is.ensures c.args.text.now) c.if-is.false) (second (by_none_one any_number c.args.text.now c.args.tokens.now (c.in_default.ensures.err c.args.text.now).other) (open_rule begun)))) c.concatenation.ensures.err
+
+pub grouped-returns-in_err-inside-clause-err : goal.grouped-returns-in_err-inside-clause-err
+grouped-returns-in_err-inside-clause-err t c = let p = err_from_is_err_and c.from_residual.result c.from_residual.ensures.1 in rw (p.1, p.2) (not_there c.in_err-inside.field-0.0 (c.in_err-inside.ensures.err c.args.text.now) (open_then begun))
+
+pub grouped-returns-in_err-inner-clause-err : goal.grouped-returns-in_err-inner-clause-err
+grouped-returns-in_err-inner-clause-err t c = let p = err_from_is_err_and c.from_residual-in_err-inner.result c.from_residual-in_err-inner.ensures.1 in rw (p.1, p.2) (failed c.in_err-inner.field-0.0 c.in_err-inner.ensures.err (open_then (took (c.in_ok-inside.ensures.ok c.args.text.now) refl (open_then begun))))
+
+pub grouped-returns-in_err-rest-clause-err : goal.grouped-returns-in_err-rest-clause-err
+grouped-returns-in_err-rest-clause-err t c = let p = err_from_is_err_and c.from_residual-in_err-rest.result c.from_residual-in_err-rest.ensures.1 in rw (p.1, p.2) (not_there c.in_err-rest.field-0.0 (c.in_err-rest.ensures.err c.args.text.now) (open_then (read c.in_ok-inner.ensures.ok (open_then (took (c.in_ok-inside.ensures.ok c.args.text.now) refl (open_then begun))))))
+
+pub grouped-returns-clause-ok : goal.grouped-returns-clause-ok
+grouped-returns-clause-ok t c = rw (c.paren.ensures, c.in_ok-held.ensures.ok) (made _ (λ ts. refl) (took (c.in_ok-rest.ensures.ok c.args.text.now) refl (open_then (read c.in_ok-inner.ensures.ok (open_then (took (c.in_ok-inside.ensures.ok c.args.text.now) refl (open_then begun)))))))
+
+pub concatenation-returns-in_err-after-clause-err : goal.concatenation-returns-in_err-after-clause-err
+concatenation-returns-in_err-after-clause-err t c = let p = err_from_is_err_and c.from_residual.result c.from_residual.ensures.1 in rw (p.1, p.2) (not_there c.in_err-after.field-0.0 (c.in_err-after.ensures.err c.args.text.now) (open_then begun))
+
+pub concatenation-returns-in_err-inside-clause-err : goal.concatenation-returns-in_err-inside-clause-err
+concatenation-returns-in_err-inside-clause-err t c = let p = err_from_is_err_and c.from_residual-in_err-inside.result c.from_residual-in_err-inside.ensures.1 in rw (p.1, p.2) (not_there c.in_err-inside.field-0.0 (c.in_err-inside.ensures.err c.args.text.now) (open_then (took (c.in_ok-after.ensures.ok c.args.text.now) refl (open_then begun))))
+
+pub concatenation-returns-in_err-parts-clause-err : goal.concatenation-returns-in_err-parts-clause-err
+concatenation-returns-in_err-parts-clause-err t c = let p = err_from_is_err_and c.from_residual-in_err-parts.result c.from_residual-in_err-parts.ensures.1 in rw (p.1, p.2) (failed c.in_err-parts.field-0.0 c.in_err-parts.ensures.err (open_then (took (c.in_ok-inside.ensures.ok c.args.text.now) refl (open_then (took (c.in_ok-after.ensures.ok c.args.text.now) refl (open_then begun))))))
+
+pub concatenation-returns-in_err-rest-clause-err : goal.concatenation-returns-in_err-rest-clause-err
+concatenation-returns-in_err-rest-clause-err t c = let p = err_from_is_err_and c.from_residual-in_err-rest.result c.from_residual-in_err-rest.ensures.1 in rw (p.1, p.2) (not_there c.in_err-rest.field-0.0 (c.in_err-rest.ensures.err c.args.text.now) (open_then (read c.in_ok-parts.ensures.ok (open_then (took (c.in_ok-inside.ensures.ok c.args.text.now) refl (open_then (took (c.in_ok-after.ensures.ok c.args.text.now) refl (open_then begun))))))))
+
+pub concatenation-returns-clause-ok : goal.concatenation-returns-clause-ok
+concatenation-returns-clause-ok t c = rw c.cat.ensures (made _ (λ ts. refl) (took (c.in_ok-rest.ensures.ok c.args.text.now) refl (open_then (read c.in_ok-parts.ensures.ok (open_then (took (c.in_ok-inside.ensures.ok c.args.text.now) refl (open_then (took (c.in_ok-after.ensures.ok c.args.text.now) refl (open_then begun)))))))))
 
 pub primary-returns-clause-ok : goal.primary-returns-clause-ok
 primary-returns-clause-ok t c = IfOk-weaker _ _ _ (λ x r. read r (second (by_test (this_keyword Cat) _ c.args.text.now c.args.tokens.now (c.is-2.ensures c.args.text.now) c.if-is-2.false) (second (by_test (this_symbol OpenRound) _ c.args.text.now c.args.tokens.now (c.is.ensures c.args.text.now) c.if-is.false) (second (by_none_one any_number c.args.text.now c.args.tokens.now (c.in_default.ensures.err c.args.text.now).other) (open_rule begun))))) c.named.ensures.ok
