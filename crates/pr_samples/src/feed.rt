@@ -353,6 +353,3 @@ impl Feed {
         Ok(self.place > self.limit)
     }
 }
-
-#[cfg(test)]
-mod tests;
