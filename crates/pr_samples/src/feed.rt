@@ -359,6 +359,3 @@ impl Feed {
         Ok(self.place > self.limit)
     }
 }
-
-#[cfg(test)]
-mod tests;

@@ -1,65 +1,36 @@
-//! Files and streams that are interrupted, slow and full.
+//! Files and streams of the system that are interrupted, slow and full.
 
-use crate::opened::read_once;
-use crate::{FileShelf, Gathered, Gathering, OutSink};
+use crate::interrupted::{SlowFiles, SlowStream};
 use pr_edge::{ReadAll, Shelf, read_all, write_all};
+use pr_system::{FileShelf, Gathered, Gathering, OutSink};
 use std::cell::RefCell;
 use std::fs;
-use std::io::{self, ErrorKind, Read, Write};
 use std::test::Fail;
 
-/// A stream that is interrupted at first, and then gives or takes one byte a call, as many as there is room for.
-#[derive(Drop)]
-struct Slow {
-    interrupts: u8,
-    taken: Vec<u8>,
-    room: usize,
-}
-
-impl Read for Slow {
-    fn read(&mut self, buf: &mut [u8]) -> io::Result<usize> {
-        if self.interrupts > 0 {
-            self.interrupts -= 1;
-            return Err(io::Error::from(ErrorKind::Interrupted));
-        }
-        Ok(buf.len().min(1))
-    }
-}
-
-impl Write for Slow {
-    fn write(&mut self, bytes: &[u8]) -> io::Result<usize> {
-        if self.interrupts > 0 {
-            self.interrupts -= 1;
-            return Err(io::Error::from(ErrorKind::Interrupted));
-        }
-        let Some(first) = bytes.first() else {
-            return Ok(0);
-        };
-        if self.taken.len() >= self.room {
-            return Ok(0);
-        }
-        self.taken.push(*first)?;
-        Ok(1)
-    }
-
-    fn flush(&mut self) -> io::Result<()> {
-        Ok(())
-    }
+/// How many bytes a read of the file `slow` gives that is interrupted so many times, and none where it fails.
+fn count_after(rt: &HostRuntime, interrupts: u8) -> Result<Option<usize>, Fail> {
+    let results = RefCell::new(Gathering::new(rt.alloc(), Vec::new(rt.alloc()))?);
+    let files = SlowFiles { rt, interrupts };
+    let mut shelf = FileShelf::make(rt.alloc(), &files, &results)?;
+    Ok(shelf.read_at("slow", 0, &mut [0; 4]).ok())
 }
 
 #[test]
-fn interrupted_calls(rt: HostRuntime) -> Result<(), Fail> {
-    let mut slow = Slow {
+fn interrupted_reads(rt: HostRuntime) -> Result<(), Fail> {
+    fs::write(&rt, "slow", b"bytes")?;
+    assert_eq!(rt; count_after(&rt, 15)?, Some(1));
+    assert_eq!(rt; count_after(&rt, 16)?, None);
+    fs::remove_file(&rt, "slow")?;
+    Ok(())
+}
+
+#[test]
+fn interrupted_writes(rt: HostRuntime) -> Result<(), Fail> {
+    let mut sink = OutSink::new(SlowStream {
         interrupts: 15,
         taken: Vec::new(rt.alloc()),
         room: 5,
-    };
-    let mut part = [0; 4];
-    assert!(rt; matches!(read_once(&mut slow, &mut part), Ok(1)));
-    slow.interrupts = 16;
-    assert!(rt; read_once(&mut slow, &mut part).is_err());
-    slow.interrupts = 15;
-    let mut sink = OutSink::new(slow);
+    });
     assert!(rt; write_all(&mut sink, b"bytes").is_ok());
     assert!(rt; write_all(&mut sink, b"!").is_err());
     Ok(())
