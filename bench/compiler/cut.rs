@@ -21,7 +21,10 @@ pub enum Wire {
     /// What a cell keeps.
     State(u32),
     /// What a hold unit keeps, in the body of a recurrence whose hold units are not made yet.
-    Past { by: u16, byte: u8 },
+    Past {
+        by: u16,
+        byte: u8,
+    },
     Bus(u8),
 }
 
@@ -203,7 +206,11 @@ fn top_mask(width: u32) -> u8 {
 
 /// The mask of a value's slice: the highest shows just the bits of the width.
 fn mask(slice: usize, width: u32) -> u8 {
-    if slice + 1 == slices_of(width) { top_mask(width) } else { 255 }
+    if slice + 1 == slices_of(width) {
+        top_mask(width)
+    } else {
+        255
+    }
 }
 
 /// An operand with its slices.
@@ -245,7 +252,8 @@ impl Given<'_> {
 }
 
 pub fn cut(flat: &Flat, widths: &[u32], fabric: Fabric) -> Cut<Net> {
-    let inputs: Vec<u32> = flat.equations.iter().zip(widths).filter(|(e, _)| e.op == Op::Input).map(|(_, w)| *w).collect();
+    let inputs: Vec<u32> =
+        flat.equations.iter().zip(widths).filter(|(e, _)| e.op == Op::Input).map(|(_, w)| *w).collect();
     let bytes: usize = inputs.iter().map(|width| slices_of(*width)).sum();
     if bytes > fabric.columns {
         return Err(Refusal::Limit("input-bytes", fabric.columns));
@@ -316,7 +324,8 @@ impl<'f> Cutter<'f> {
         for (place, _) in self.flat.equations.iter().enumerate().filter(|(_, e)| e.op == Op::Input) {
             let width = self.widths[place];
             let count = slices_of(width);
-            let cells = (0..count).map(|i| Cell { a: Wire::Bus((offset + i) as u8), table: A, mask: mask(i, width), ..PLAIN });
+            let cells =
+                (0..count).map(|i| Cell { a: Wire::Bus((offset + i) as u8), table: A, mask: mask(i, width), ..PLAIN });
             self.values[place] = self.net.unit(cells)?;
             offset += count;
         }
@@ -489,7 +498,11 @@ fn widen<'v>(net: &mut Net, given: Given<'v>, bits: u32) -> Cut<Given<'v>> {
     let above = Wire::Const(255 - top_mask(given.width));
     let unit = net.unit((kept..slices_of(bits)).map(|i| {
         let cell = Cell { c: given.sign(), table: C, mask: mask(i, bits), ..PLAIN };
-        if i == split { Cell { a: given.byte(i), hi: above, table: A_OR_B_AND_C, ..cell } } else { cell }
+        if i == split {
+            Cell { a: given.byte(i), hi: above, table: A_OR_B_AND_C, ..cell }
+        } else {
+            cell
+        }
     }))?;
     let mut slices = given.slices.into_owned();
     slices.truncate(kept);
@@ -585,7 +598,8 @@ fn shifted(net: &mut Net, is_up: bool, signed: bool, a: Given, by: &Given, bits:
     let mut row = if turns { flip(net, &a, sign)? } else { a };
     for step in 0..by.width {
         let c = Third::Bit(by.byte((step / 8) as usize), (step % 8) as u8);
-        let distance = Some(step).filter(|step| *step <= 6).map(|step| 1 << step).filter(|distance| *distance < row.width);
+        let distance =
+            Some(step).filter(|step| *step <= 6).map(|step| 1 << step).filter(|distance| *distance < row.width);
         let slices = net.unit((0..slices_of(row.width)).map(|i| {
             let cell = Cell { a: row.byte(i), c, table: C_THEN_B_ELSE_A, mask: mask(i, row.width), ..PLAIN };
             match distance {

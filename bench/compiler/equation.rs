@@ -7,7 +7,10 @@ pub enum Operand {
     Const(u64),
     Eq(u32),
     /// The recurrence's number so many samples ago.
-    Past { rec: u32, by: u16 },
+    Past {
+        rec: u32,
+        by: u16,
+    },
 }
 
 /// An operand, and whether it is read as signed.

@@ -2,6 +2,7 @@
 //! which its configuration files are compared. `bench/compile.py` builds it and runs both.
 //!
 //!     plaincompile PROGRAM [--fabric base|wide] [--narrow] > CONFIGURATION
+//!     plaincompile PROGRAM --units [--fabric base|wide] [--narrow]      how many units there are
 
 mod cut;
 mod equation;
@@ -15,6 +16,7 @@ mod token;
 mod tree;
 mod width;
 
+use std::ffi::{OsStr, OsString};
 use std::io::Write;
 use std::process::ExitCode;
 
@@ -72,45 +74,67 @@ impl Refusal {
     }
 }
 
-/// The configuration file of a program's text.
-fn compile(text: &[u8], fabric: Fabric, narrowed: bool) -> Result<Vec<u8>, Refusal> {
+/// What the command line asks for.
+struct Call {
+    path: OsString,
+    fabric: Fabric,
+    narrowed: bool,
+    counts_units: bool,
+}
+
+impl Call {
+    fn read(mut words: impl Iterator<Item = OsString>) -> Option<Call> {
+        let mut path = None;
+        let mut call = Call { path: OsString::new(), fabric: BASE, narrowed: false, counts_units: false };
+        while let Some(word) = words.next() {
+            match word.to_str() {
+                Some("--narrow") => call.narrowed = true,
+                Some("--units") => call.counts_units = true,
+                Some("--fabric") => call.fabric = fabric_of(&words.next()?)?,
+                _ if path.is_none() => path = Some(word),
+                _ => return None,
+            }
+        }
+        Some(Call { path: path?, ..call })
+    }
+}
+
+fn fabric_of(name: &OsStr) -> Option<Fabric> {
+    match name.to_str()? {
+        "base" => Some(BASE),
+        "wide" => Some(WIDE),
+        _ => None,
+    }
+}
+
+/// The net of a program's text.
+fn net(text: &[u8], call: &Call) -> Result<cut::Net, Refusal> {
     let tokens = token::read(text);
     let program = parse::program(&tokens)?;
     let statics = scope::check(&program)?;
     let mut flat = expand::expand(&program, &statics)?;
     let mut widths = width::solve(&flat)?;
-    if narrowed {
+    if call.narrowed {
         flat = narrow::narrow(flat, &widths);
         widths = width::solve(&flat)?;
     }
-    let net = cut::cut(&flat, &widths, fabric)?;
-    let placement = place::place(&net, fabric)?;
-    Ok(route::file(&net, &placement, fabric))
+    cut::cut(&flat, &widths, call.fabric)
 }
 
 fn run() -> Result<(), Refusal> {
-    let mut fabric = BASE;
-    let mut narrowed = false;
-    let mut path = None;
-    let mut words = std::env::args_os().skip(1);
-    while let Some(word) = words.next() {
-        match word.to_str() {
-            Some("--narrow") => narrowed = true,
-            Some("--fabric") => match words.next().as_deref().and_then(|value| value.to_str()) {
-                Some("base") => fabric = BASE,
-                Some("wide") => fabric = WIDE,
-                _ => return Err(Refusal::Usage),
-            },
-            _ if path.is_none() => path = Some(word),
-            _ => return Err(Refusal::Usage),
-        }
-    }
-    let text = std::fs::read(path.ok_or(Refusal::Usage)?).map_err(|_| Refusal::ReadFault)?;
+    let call = Call::read(std::env::args_os().skip(1)).ok_or(Refusal::Usage)?;
+    let text = std::fs::read(&call.path).map_err(|_| Refusal::ReadFault)?;
     if text.len() > PROGRAM_BYTES {
         return Err(Refusal::Limit("program-bytes", PROGRAM_BYTES));
     }
-    let file = compile(&text, fabric, narrowed)?;
-    std::io::stdout().write_all(&file).map_err(|_| Refusal::WriteFault)
+    let net = net(&text, &call)?;
+    let answer = if call.counts_units {
+        format!("{}\n", net.units()).into_bytes()
+    } else {
+        let placement = place::place(&net, call.fabric)?;
+        route::file(&net, &placement, call.fabric)
+    };
+    std::io::stdout().write_all(&answer).map_err(|_| Refusal::WriteFault)
 }
 
 fn main() -> ExitCode {

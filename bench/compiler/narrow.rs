@@ -51,7 +51,11 @@ fn constant(number: u64, width: u32) -> Equation {
 }
 
 fn low_bits(number: u128, width: u32) -> u128 {
-    if width >= GREATEST { number } else { number & ((1 << width) - 1) }
+    if width >= GREATEST {
+        number
+    } else {
+        number & ((1 << width) - 1)
+    }
 }
 
 /// Puts each known number in the place of its equation.
@@ -102,7 +106,11 @@ impl Read {
     fn value(&self) -> i128 {
         let number = i128::from(self.number);
         let is_negative = self.signed && self.width <= u64::BITS && self.number >> (self.width - 1) == 1;
-        if is_negative { number - (1 << self.width) } else { number }
+        if is_negative {
+            number - (1 << self.width)
+        } else {
+            number
+        }
     }
 }
 
@@ -181,7 +189,13 @@ fn asked_of(equation: &Equation, number: usize, demand: u32, width_of: impl Fn(O
         (Op::Choose, 0) => 1,
         (Op::Left(by), _) => demand.saturating_sub(by),
         (Op::Right(by), _) if by < whole => demand + by,
-        (Op::Right(_), _) => if arg.signed { whole } else { 1 },
+        (Op::Right(_), _) => {
+            if arg.signed {
+                whole
+            } else {
+                1
+            }
+        }
         (Op::Slice { low, .. }, _) => demand + low as u32,
         (Op::Cat, 0) => demand.saturating_sub(width_of(equation.args()[1].operand)),
         _ => demand,

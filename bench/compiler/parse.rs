@@ -165,7 +165,11 @@ impl Parser<'_> {
     }
 
     fn width(&mut self) -> Parsed<Option<u64>> {
-        if self.takes(Token::Colon) { Ok(Some(self.number()?)) } else { Ok(None) }
+        if self.takes(Token::Colon) {
+            Ok(Some(self.number()?))
+        } else {
+            Ok(None)
+        }
     }
 
     fn assigned(&mut self) -> Parsed<Expr> {

@@ -110,7 +110,8 @@ impl Groups {
             }
         }
         let readers = Lists::new(units, edges.iter().copied());
-        let mut groups = Groups { cells, readers, waits, uses, class_of: Vec::with_capacity(units), classes: Vec::new() };
+        let mut groups =
+            Groups { cells, readers, waits, uses, class_of: Vec::with_capacity(units), classes: Vec::new() };
         groups.classify(units);
         groups
     }
@@ -120,7 +121,8 @@ impl Groups {
         for group in 0..units as u32 {
             let cells = self.cells.of(group);
             let needs = cells.iter().take(64).enumerate().filter(|(_, cell)| self.uses[**cell as usize] > 0);
-            let class = Class { cells: cells.len() as u32, registers: needs.fold(0, |bits, (place, _)| bits | 1 << place) };
+            let class =
+                Class { cells: cells.len() as u32, registers: needs.fold(0, |bits, (place, _)| bits | 1 << place) };
             let number = *numbers.entry(class).or_insert(self.classes.len());
             if number == self.classes.len() {
                 self.classes.push(class);
@@ -220,7 +222,8 @@ impl Placer<'_> {
             self.ready[self.groups.class_of[group as usize]].insert(group);
         }
         self.columns.free = (1 << self.columns.fabric.columns) - 1;
-        let firsts = self.ready.iter().enumerate().filter_map(|(class, groups)| Some(Reverse((*groups.first()?, class))));
+        let firsts =
+            self.ready.iter().enumerate().filter_map(|(class, groups)| Some(Reverse((*groups.first()?, class))));
         let mut turns: BinaryHeap<_> = firsts.collect();
         let mut placed = Vec::new();
         let mut passed = Vec::new();

@@ -110,7 +110,11 @@ impl File<'_> {
             self.source(number, cell.a) << 16 | self.source(number, cell.hi),
             self.source(number, cell.lo) << 16 | third,
             table << 24 | mask << 16 | init << 8 | kind << 4 | bit,
-            write << 16 | (cell.next as u32) << 12 | (cell.carry as u32) << 8 | (cell.mode as u32) << 4 | u32::from(cell.shift),
+            write << 16
+                | (cell.next as u32) << 12
+                | (cell.carry as u32) << 8
+                | (cell.mode as u32) << 4
+                | u32::from(cell.shift),
         ]
     }
 }

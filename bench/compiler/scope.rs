@@ -198,7 +198,11 @@ struct Walk<'p> {
 }
 
 fn holds(rule: u8, is_kept: bool) -> Check {
-    if is_kept { Ok(()) } else { Err(Offence::Rule(rule)) }
+    if is_kept {
+        Ok(())
+    } else {
+        Err(Offence::Rule(rule))
+    }
 }
 
 fn declared(width: Option<u64>) -> Check {
@@ -208,7 +212,11 @@ fn declared(width: Option<u64>) -> Check {
 impl<'p> Walk<'p> {
     fn count(&mut self, more: u32) -> Check {
         self.frame.turns += more;
-        if self.frame.turns > TURNS { Err(Offence::Turns) } else { Ok(()) }
+        if self.frame.turns > TURNS {
+            Err(Offence::Turns)
+        } else {
+            Ok(())
+        }
     }
 
     fn fixed(&self, fixed: &Fixed) -> Check<u64> {

@@ -216,8 +216,8 @@ impl Load {
             Comma | Semicolon | Input | Output | Const | Fn | Return | Let | Rec | For => {
                 self.now = self.outer.last().map_or(0, |top| top + 1);
             }
-            Colon | At | Question | Plus | Minus | Star | Slash | Percent | And | Or | Xor | Not | ShiftLeft | ShiftRight
-            | Equal | NotEqual | Less | LessEqual | Greater | GreaterEqual => self.now += 1,
+            Colon | At | Question | Plus | Minus | Star | Slash | Percent | And | Or | Xor | Not | ShiftLeft
+            | ShiftRight | Equal | NotEqual | Less | LessEqual | Greater | GreaterEqual => self.now += 1,
             Name(_) | Number(_) | By | In | Cat | Assign | Dots | Bad | Deep | End => {}
         }
     }

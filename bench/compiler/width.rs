@@ -37,10 +37,11 @@ pub fn natural(equation: &Equation, width_of: impl Fn(Operand) -> u32) -> Option
 /// The widths of all equations, or the first equation without one.
 pub fn solve(flat: &Flat) -> Result<Vec<u32>, Refusal> {
     let mut solver = Solver { equations: &flat.equations, widths: Vec::with_capacity(flat.equations.len()) };
-    let mut free = flat.equations.iter().enumerate().filter_map(|(rec, equation)| match (equation.op, equation.declared) {
-        (Op::Rec { initial, first }, None) => Some((rec, initial, first as usize)),
-        _ => None,
-    });
+    let mut free =
+        flat.equations.iter().enumerate().filter_map(|(rec, equation)| match (equation.op, equation.declared) {
+            (Op::Rec { initial, first }, None) => Some((rec, initial, first as usize)),
+            _ => None,
+        });
     let mut next = free.next();
     while solver.widths.len() < flat.equations.len() {
         let place = solver.widths.len();
