@@ -136,8 +136,7 @@ fn makes(
     scoped: &Scoped,
     samples: &[Sample],
     wanted: &[Sample],
-) -> Result<bool, AllocError>
-{
+) -> Result<bool, AllocError> {
     let Some(flat) = equations_of(alloc, scoped)? else {
         return Ok(false);
     };
