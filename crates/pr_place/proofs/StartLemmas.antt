@@ -10,7 +10,7 @@ use Rattle.pr_net.proofs.Lists.{in_none}
 use Rattle.pr_place.specs.declared.lookups.Tables.{Tables}
 use Rattle.pr_place.specs.declared.plans.Plan.{Plan}
 use Rattle.pr_place.specs.Beginning.{nothing_put}
-use Rattle.pr_place.specs.Candidates.{IsCovered}
+use Rattle.pr_place.specs.Candidates.{HasSets, IsCovered}
 use Rattle.pr_place.specs.Greedy.{spots_of}
 use Rattle.pr_place.specs.Registers.{row_of}
 use Rattle.pr_place.specs.Tables.{AreTables, reads_in}
@@ -95,7 +95,7 @@ first_offers N P net t waits ready h waits_is is =
 
 pub first_filling : (N P : ℕ) (net : NetShape) (t : Tables) (waits ready summary : List ℕ) → AreTables N P net t → 2 ≤ P → ((g : ℕ) → g < length net.groups → get_or waits g 0 ≡ waits_of t.cells.owner.items [] (reads_in t g))
     → length ready ≡ length net.groups → ((g : ℕ) → g < length net.groups → get_or ready g 0 ≡ (if get_or waits g 0 == 0 then get_or t.class.items g 0 else 255))
-    → length ready < 128 * length summary → IsCovered ready summary
+    → HasSets ready summary → IsCovered ready summary
     → Filling N P net t.cells.first.items t.cells.kept.items t.plans.items t.class.items summary ready (nothing_put N P t.cells.uses.items) 0 (2 ^ 64 - 1) 0 []
 first_filling N P net t waits ready summary h two waits_is long is blocks covered = record {
   uses_long = sym (length-replicate (length t.cells.uses.items) (0, 0));

@@ -9,7 +9,7 @@ use Rattle.pr_place.specs.Tables.{readers_in}
 use Rattle.pr_place.specs.Waits.{waits_of}
 use Rattle.pr_place.specs.Greedy.{Seat, is_placed}
 use Rattle.pr_place.specs.Registers.{Progress, count_of}
-use Rattle.pr_place.specs.Candidates.{IsCovered}
+use Rattle.pr_place.specs.Candidates.{HasSets, IsCovered}
 use Rattle.pr_place.specs.Tracking.{Tracks, ops_of, uses_of}
 
 -- how often a group reads another: for each reading of a cell the group of that cell is counted
@@ -50,7 +50,7 @@ pub record Received (net : NetShape) (class : List ℕ) (stage : ℕ) (start pla
 pub record Opening (N P : ℕ) (net : NetShape) (tables : Tables) (s : Progress) (ready summary waits : List ℕ) (stages : List (Option ℕ)) (stage : ℕ) (placed : List Seat) : Type 0 where
   pub uses_long : length s.table.uses ≡ length s.spots
   pub ready_long : length ready ≡ length net.groups
-  pub blocks : length ready < 128 * length summary
+  pub blocks : HasSets ready summary
   pub covered : IsCovered ready summary
   pub tracks : Tracks N P net tables.cells.first.items tables.cells.kept.items (ops_of tables.plans.items) stage placed s
   pub candidates : AreReady net tables.class.items waits placed ready
@@ -71,7 +71,7 @@ pub record AreLists (class waits : List ℕ) (candidates : Candidates) : Type 0 
   pub ready : length candidates.ready.items ≡ length waits
   pub classes : length class ≡ length waits
   pub small : (g : ℕ) → slice_index class g < 64
-  pub blocks : length candidates.ready.items < 128 * length candidates.summary.items
+  pub blocks : HasSets candidates.ready.items candidates.summary.items
   pub covered : IsCovered candidates.ready.items candidates.summary.items
 
 -- groups wait for less than before: those that wait for nothing now and did before are candidates, the others as they were

@@ -8,9 +8,9 @@ ghost use Rattle.pr_place.specs.Registers.{count_of};
 ghost use Rattle.pr_place.specs.Tables.{AreCells};
 ghost use Rattle.pr_place.specs.Tracking.{IsCellOf, uses_of};
 
-use crate::numbering::{Numbering, group_cells, number_cells};
+use crate::numbering::{Numbering, list_cells, number_cells};
 use crate::outputs::mark_outputs;
-use crate::readings::group_reads;
+use crate::readings::list_reads;
 use pr_net::Net;
 use std::alloc::{AllocError, Global};
 
@@ -50,9 +50,10 @@ fn owners<const N: usize>(
         → slice_index owner.items (slice_index numbering.now.first.items u + i) ≡ g) }
 {
     let mut owner = vec![in alloc; 0; numbering.cells]?;
+    let mut cells = Vec::new(alloc);
     for group in 0..net.groups.len() {
         let members = &net.groups[group];
-        let cells = group_cells(alloc, &net.units, &numbering.first, &members.units)?;
+        list_cells(&mut cells, &net.units, &numbering.first, &members.units)?;
         own(&mut owner, &cells, group as u32);
     }
     Ok(owner)
@@ -85,10 +86,11 @@ fn uses<const N: usize>(
         ≡ uses_of (reads_from net.now.units.items first.now owner.now 0 net.now.groups.items) [] x) }
 {
     let mut uses = vec![in alloc; 0; owner.len()]?;
+    let mut reads = Vec::new(alloc);
     for group in 0..net.groups.len() {
         let members = &net.groups[group];
-        let reads = group_reads(
-            alloc,
+        list_reads(
+            &mut reads,
             &net.units,
             first,
             owner,

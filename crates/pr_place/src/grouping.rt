@@ -10,9 +10,9 @@ ghost use Rattle.pr_place.specs.Tracking.{needs_at, ops_of};
 
 use crate::candidates::OTHERS;
 use crate::celltables::CellTables;
-use crate::numbering::group_cells;
+use crate::numbering::list_cells;
 use crate::plans::Plan;
-use crate::readings::group_reads;
+use crate::readings::list_reads;
 use pr_net::Net;
 use std::alloc::{AllocError, Global};
 
@@ -34,12 +34,14 @@ fn needs_of(
     Ok(needs)
 }
 
-/// The plan of a group.
+/// The plan of a group. The two lists are only used on the way.
 fn plan_of<const N: usize>(
     alloc: Global,
     net: &Net,
     tables: &CellTables,
     group: usize,
+    cells: &mut Vec<u32>,
+    reads: &mut Vec<u32>,
 ) -> Result<Plan, AllocError>
     requires net { IsNet N (shape_of net.now) }
     requires tables { AreCells (shape_of net.now) tables.now }
@@ -52,20 +54,20 @@ fn plan_of<const N: usize>(
         ≡ reads_by tables.now net.now.units.items group (slice_index_or net.now.groups.items group [])) }
 {
     let members = &net.groups[group];
-    let cells = group_cells(alloc, &net.units, &tables.first, &members.units)?;
-    let reads = group_reads(
-        alloc,
+    list_cells(cells, &net.units, &tables.first, &members.units)?;
+    list_reads(
+        reads,
         &net.units,
         &tables.first,
         &tables.owner,
         group as u32,
         &members.units,
     )?;
-    let needs = needs_of(alloc, &tables.kept, &tables.uses, &cells)?;
+    let needs = needs_of(alloc, &tables.kept, &tables.uses, cells)?;
     Ok(Plan {
         needs,
-        cells,
-        reads,
+        cells: Vec::from_slice(alloc, cells)?,
+        reads: Vec::from_slice(alloc, reads)?,
     })
 }
 
@@ -85,8 +87,10 @@ pub fn plans<const N: usize>(
         ≡ reads_from net.now.units.items tables.now.first.items tables.now.owner.items 0 net.now.groups.items) }
 {
     let mut plans = Vec::with_capacity(alloc, net.groups.len())?;
+    let mut cells = Vec::new(alloc);
+    let mut reads = Vec::new(alloc);
     for group in 0..net.groups.len() {
-        plans.push(plan_of::<N>(alloc, net, tables, group)?)?;
+        plans.push(plan_of::<N>(alloc, net, tables, group, &mut cells, &mut reads)?)?;
     }
     Ok(plans)
 }

@@ -47,20 +47,20 @@ fn push_numbers(numbers: &mut Vec<u32>, from: u32, count: usize) -> Result<(), A
     Ok(())
 }
 
-/// The numbers of the cells of these units.
-pub fn group_cells(
-    alloc: Global,
+/// Makes a list that of the numbers of the cells of these units.
+pub fn list_cells(
+    numbers: &mut Vec<u32>,
     units: &[Unit],
     first: &[u32],
     group: &[u32],
-) -> Result<Vec<u32>, AllocError>
+) -> Result<(), AllocError>
     requires { CanNumber units.now first.now group.now }
-    ensures { IfOk result (λ numbers. numbers.items ≡ group_numbers units.now first.now group.now) }
+    ensures { OnOk result (numbers.new.items ≡ group_numbers units.now first.now group.now) }
 {
-    let mut numbers = Vec::new(alloc);
+    numbers.clear();
     for &unit in group {
         let members = &units[unit as usize];
-        push_numbers(&mut numbers, first[unit as usize], members.cells.len())?;
+        push_numbers(numbers, first[unit as usize], members.cells.len())?;
     }
-    Ok(numbers)
+    Ok(())
 }

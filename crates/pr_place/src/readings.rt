@@ -1,11 +1,11 @@
 //! What groups read of other groups.
 
-ghost use Rattle.std.specs.Prelude.{◌≡◌, ◌<◌, ◌≤◌, ◌^◌, ℕ, [], ◌++◌, IfOk, OnOk, length, slice_index, slice_index_or};
+ghost use Rattle.std.specs.Prelude.{◌≡◌, ◌<◌, ◌≤◌, ◌^◌, ℕ, [], ◌++◌, OnOk, length, slice_index, slice_index_or};
 ghost use Rattle.pr_net.specs.declared.cells.Cell.{Cell};
 ghost use Rattle.pr_place.specs.Numbering.{IsWireBelow, IsCellBelow, CanRead, wire_numbers, cell_numbers, unit_reads_of, group_reads_of};
 
 use pr_net::{Cell, Unit, Wire, WireBit};
-use std::alloc::{AllocError, Global};
+use std::alloc::AllocError;
 
 /// Appends the cell that a wire reads, if it is of another group.
 fn push_wire(
@@ -67,22 +67,22 @@ fn push_unit(
     Ok(())
 }
 
-/// The cells of other groups that these units read, each as often as they do.
-pub fn group_reads(
-    alloc: Global,
+/// Makes a list that of the cells of other groups that these units read, each as often as they do.
+pub fn list_reads(
+    reads: &mut Vec<u32>,
     units: &[Unit],
     first: &[u32],
     owner: &[u32],
     group: u32,
     members: &[u32],
-) -> Result<Vec<u32>, AllocError>
+) -> Result<(), AllocError>
     requires { CanRead units.now first.now (length owner.now) members.now }
-    ensures { IfOk result (λ reads. reads.items ≡ group_reads_of units.now first.now owner.now group members.now) }
+    ensures { OnOk result (reads.new.items ≡ group_reads_of units.now first.now owner.now group members.now) }
 {
-    let mut reads = Vec::new(alloc);
+    reads.clear();
     for &member in members {
         let unit = &units[member as usize];
-        push_unit(&mut reads, first, owner, group, &unit.cells)?;
+        push_unit(reads, first, owner, group, &unit.cells)?;
     }
-    Ok(reads)
+    Ok(())
 }

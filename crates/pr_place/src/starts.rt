@@ -2,11 +2,11 @@
 
 ghost use Rattle.std.specs.Prelude.{◌≡◌, ◌≤◌, ◌<◌, ◌*◌, ◌^◌, ℕ, IfOk, if◌then◌else◌, ◌==◌, length, map, replicate, slice_index};
 ghost use Rattle.pr_net.specs.Whole.{shape_of};
-ghost use Rattle.pr_place.specs.Candidates.{IsCovered};
+ghost use Rattle.pr_place.specs.Candidates.{HasSets, IsCovered};
 ghost use Rattle.pr_place.specs.Tables.{AreTables, IsStart};
 ghost use Rattle.pr_place.specs.Tracking.{ops_of};
 
-use crate::candidates::{BLOCK, NONE, with};
+use crate::candidates::{NONE, PART, SETS, note_class};
 use crate::lookups::Tables;
 use crate::plans::Plan;
 use crate::progress::Progress;
@@ -22,7 +22,7 @@ pub struct Start {
     pub waits: Vec<usize>,
     /// The class of each candidate, and 255 for other groups.
     pub ready: Vec<u8>,
-    /// For each block of groups a set of classes that has those of its candidates.
+    /// For each part of the groups, and each block in it, a set of classes that has those of its candidates.
     pub summary: Vec<u64>,
 }
 
@@ -56,16 +56,16 @@ fn candidates(alloc: Global, waits: &[usize], class: &[u8]) -> Result<Vec<u8>, A
     Ok(ready)
 }
 
-/// For each block of groups the classes of its candidates.
+/// For each part of the groups and each block in it the classes of its candidates.
 fn summary(alloc: Global, ready: &[u8]) -> Result<Vec<u64>, AllocError>
     requires { length ready.now < 2 ^ 32 }
-    ensures blocks { IfOk result (λ summary. length ready.now < 128 * length summary.items) }
+    ensures blocks { IfOk result (λ summary. HasSets ready.now summary.items) }
     ensures covered { IfOk result (λ summary. IsCovered ready.now summary.items) }
 {
-    let mut summary = vec![in alloc; 0; ready.len() / BLOCK + 1]?;
+    let mut summary = vec![in alloc; 0; ready.len() / PART * SETS + SETS]?;
     for group in 0..ready.len() {
         if ready[group] < 64 {
-            summary[group / BLOCK] = with(summary[group / BLOCK], ready[group]);
+            note_class(&mut summary, group, ready[group]);
         }
     }
     Ok(summary)

@@ -9,14 +9,14 @@ use Rattle.pr_place.proofs.NumberLemmas.{numbers_below}
 use Rattle.pr_place.proofs.ReadLemmas.{can_number, can_read}
 use Rattle.pr_place.proofs.grouping.plan_of.Goals as goal
 
-pub group_cells-requires : goal.group_cells-requires
-group_cells-requires g c =
+pub list_cells-requires : goal.list_cells-requires
+list_cells-requires g c =
     let net = shape_of c.args.net.now in
     moved3 CanNumber _ _ _ _ _ _ c.deref.ensures.value c.deref-2.ensures.value (c.deref-3.ensures.value ∙ c.members.view_is ∙ list_at net.groups c.args.group _ c.requires.there c.index-members.ensures)
     (can_number g.row.N net c.args.tables.now.first.items (length c.args.tables.now.owner.items) c.args.group c.requires.net c.requires.tables.numbered c.requires.there)
 
-pub group_reads-requires : goal.group_reads-requires
-group_reads-requires g c =
+pub list_reads-requires : goal.list_reads-requires
+list_reads-requires g c =
     let net = shape_of c.args.net.now in
     let members = c.deref-7.ensures.value ∙ c.members.view_is ∙ list_at net.groups c.args.group _ c.requires.there c.index-members.ensures in
     let first = c.args.tables.now.first.items in
@@ -31,7 +31,7 @@ needs_of-requires-clause-kept g c =
     let cells = length c.args.tables.now.owner.items in
     let members = c.deref-3.ensures.value ∙ c.members.view_is ∙ list_at net.groups c.args.group _ c.requires.there c.index-members.ensures in
     let can = can_number g.row.N net first cells c.args.group c.requires.net c.requires.tables.numbered c.requires.there in
-    let numbers = c.deref-10.ensures.value ∙ c.in_ok-cells.ensures ∙ ap (λ us. group_numbers us c.deref-2.result.now c.deref-3.result.now) c.deref.ensures.value ∙ ap₂ (λ (f us : List ℕ). group_numbers net.units f us) c.deref-2.ensures.value members in
+    let numbers = c.deref-10.ensures.value ∙ c.in_ok-list_cells.ensures ∙ ap (λ us. group_numbers us c.deref-2.result.now c.deref-3.result.now) c.deref.ensures.value ∙ ap₂ (λ (f us : List ℕ). group_numbers net.units f us) c.deref-2.ensures.value members in
     below_moved _ _ cells _ numbers (ap length (c.deref-8.ensures.value ∙ c.requires.tables.kept) ∙ outputs_long first _ net.outputs ∙ length-replicate cells _) (numbers_below net.units first cells (units_of net c.args.group) c.requires.tables.numbered can.there)
 
 pub needs_of-requires-clause-uses : goal.needs_of-requires-clause-uses
@@ -41,5 +41,5 @@ needs_of-requires-clause-uses g c =
     let cells = length c.args.tables.now.owner.items in
     let members = c.deref-3.ensures.value ∙ c.members.view_is ∙ list_at net.groups c.args.group _ c.requires.there c.index-members.ensures in
     let can = can_number g.row.N net first cells c.args.group c.requires.net c.requires.tables.numbered c.requires.there in
-    let numbers = c.deref-10.ensures.value ∙ c.in_ok-cells.ensures ∙ ap (λ us. group_numbers us c.deref-2.result.now c.deref-3.result.now) c.deref.ensures.value ∙ ap₂ (λ (f us : List ℕ). group_numbers net.units f us) c.deref-2.ensures.value members in
+    let numbers = c.deref-10.ensures.value ∙ c.in_ok-list_cells.ensures ∙ ap (λ us. group_numbers us c.deref-2.result.now c.deref-3.result.now) c.deref.ensures.value ∙ ap₂ (λ (f us : List ℕ). group_numbers net.units f us) c.deref-2.ensures.value members in
     below_moved _ _ cells _ numbers (ap length c.deref-9.ensures.value ∙ c.requires.tables.uses_long) (numbers_below net.units first cells (units_of net c.args.group) c.requires.tables.numbered can.there)

@@ -3,7 +3,7 @@ use Rattle.std.proofs.lemmas.List.{length-map, length-replicate}
 use Rattle.pr_net.specs.Whole.{shape_of}
 use Rattle.pr_place.specs.declared.plans.Plan.{Plan}
 use Rattle.pr_place.specs.Beginning.{nothing_put}
-use Rattle.pr_place.specs.Candidates.{IsCovered}
+use Rattle.pr_place.specs.Candidates.{HasSets, IsCovered}
 use Rattle.pr_place.specs.Registers.{Progress}
 use Rattle.pr_place.specs.Tables.{reads_in}
 use Rattle.pr_place.specs.Tracking.{Filling, ops_of}
@@ -29,7 +29,7 @@ returns g c =
     let ready_long : length c.in_ok-ready.ready.items ≡ length net.groups = c.in_ok-ready.ensures.long ∙ same in
     let ready_is : (k : ℕ) → k < length net.groups → get_or c.in_ok-ready.ready.items k 0 ≡ (if get_or c.in_ok-waits.waits.items k 0 == 0 then get_or t.class.items k 0 else 255) =
     λ k l. c.in_ok-ready.ensures.ready k (omega (arith, l, same)) ∙ ap₂ (λ (ws cl : List ℕ). if get_or ws k 0 == 0 then get_or cl k 0 else 255) c.deref-3.ensures.value c.deref-4.ensures.value in
-    let blocks : length c.in_ok-ready.ready.items < 128 * length c.in_ok-summary.summary.items = subst (λ (rs : List ℕ). length rs < 128 * length c.in_ok-summary.summary.items) c.deref-5.ensures.value c.in_ok-summary.ensures.blocks in
+    let blocks : HasSets c.in_ok-ready.ready.items c.in_ok-summary.summary.items = subst (λ (rs : List ℕ). HasSets rs c.in_ok-summary.summary.items) c.deref-5.ensures.value c.in_ok-summary.ensures.blocks in
     let covered : IsCovered c.in_ok-ready.ready.items c.in_ok-summary.summary.items = subst (λ (rs : List ℕ). IsCovered rs c.in_ok-summary.summary.items) c.deref-5.ensures.value c.in_ok-summary.ensures.covered in
     record {
       spots = ap (λ (p : Progress). length p.spots) start ∙ length-replicate (length t.cells.uses.items) (0, 0) ∙ h.uses_long;
