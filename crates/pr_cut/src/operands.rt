@@ -22,8 +22,9 @@ use std::alloc::{AllocError, Global};
 fn number_slices(alloc: Global, c: u64) -> Result<Vec<Slice>, AllocError>
     ensures { IfOk result (λ s. s.items ≡ number_slices c) }
 {
-    let mut all = Vec::new(alloc);
-    for i in 0..slices(number_width(c).get()) {
+    let count = slices(number_width(c).get());
+    let mut all = Vec::with_capacity(alloc, count)?;
+    for i in 0..count {
         all.push(Slice::Const(byte_of(u128::from(c), i)))?;
     }
     Ok(all)
@@ -87,7 +88,7 @@ pub fn arguments(
     ensures { IfOk result (λ all. arguments_of all.items ≡
         arguments (plan_in source.now) values.now equation.now.args.items equation.now.kinds.items) }
 {
-    let mut all = Vec::new(alloc);
+    let mut all = Vec::with_capacity(alloc, equation.args.len())?;
     for i in 0..equation.args.len() {
         all.push(argument(alloc, source, values, equation.args[i], equation.kinds[i])?)?;
     }
