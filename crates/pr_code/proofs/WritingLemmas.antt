@@ -92,12 +92,19 @@ others : (b : Bool) (n : ℕ) → (cond b 1 0 + 2 * n) / 2 ≡ n
 others true n = omega arith
 others false n = omega arith
 
-pub marks_less : (pes : List Pe) (i : ℕ) (d : Pe) (m : ℕ) → i < length pes → m ≡ number_of_flags (map is_set (drop i pes)) → ((m % 2 == 1) ≡ is_set (get_or pes i d)) × (m / 2 ≡ number_of_flags (map is_set (drop (i + 1) pes)))
+marks_less : (pes : List Pe) (i : ℕ) (d : Pe) (m : ℕ) → i < length pes → m ≡ number_of_flags (map is_set (drop i pes)) → ((m % 2 == 1) ≡ is_set (get_or pes i d)) × (m / 2 ≡ number_of_flags (map is_set (drop (i + 1) pes)))
 marks_less pes i d m lt h =
     let flag = is_set (get_or pes i d) in
     let rest = number_of_flags (map is_set (drop (i + 1) pes)) in
     let whole : m ≡ cond flag 1 0 + 2 * rest = h ∙ drop_step (λ t. number_of_flags (map is_set t)) pes i (get_or pes i d) d lt refl in
     (ap (λ k. k % 2 == 1) whole ∙ lowest flag rest, ap (λ k. k / 2) whole ∙ others flag rest)
+
+pub marks_first : (pes : List Pe) (i : ℕ) (d : Pe) (m : ℕ) → i < length pes → m ≡ number_of_flags (map is_set (drop i pes)) → (m % 2 == 1) ≡ is_set (get_or pes i d)
+marks_first pes i d m lt h = (marks_less pes i d m lt h).0
+
+pub marks_rest : (pes : List Pe) (i m : ℕ) → i < length pes → m ≡ number_of_flags (map is_set (drop i pes)) → m / 2 ≡ number_of_flags (map is_set (drop (i + 1) pes))
+marks_rest [] i m lt h = absurd (omega arith)
+marks_rest (pe ∷ pes) i m lt h = (marks_less (pe ∷ pes) i pe m lt h).1
 
 -- what an element passes, and all after it
 pub all_before : (p : Pe → Bool) (pes : List Pe) (i : ℕ) (d : Pe) → 0 < i → i ≤ length pes → p (get_or pes (i - 1) d) ≡ true → list_all p (drop i pes) ≡ true → list_all p (drop (i - 1) pes) ≡ true

@@ -120,9 +120,9 @@ fn put_stage<const N: usize>(out: &mut Vec<u8>, stage: &Stage<N>) -> Result<(), 
     ensures words { OnOk result (out.new.items ≡ out.old.items ++ bytes_of_words (stage_words true N stage.now.pes.items)) }
     ensures bytes { OnOk result (list_all has_pe_bytes stage.now.pes.items ≡ true) }
 {
-    let marks = marks(&stage.pes);
-    put_map::<N>(out, marks)?;
-    put_set(out, &stage.pes, marks)?;
+    let map = marks(&stage.pes);
+    put_map::<N>(out, map)?;
+    put_set(out, &stage.pes, map)?;
     Ok(())
 }
 
