@@ -1,8 +1,9 @@
 //! Equations that are made one after the other.
-ghost use Rattle.std.specs.Prelude.{◌≡◌, ◌++◌, [], ◌∷◌, false, IfErr, IfOk, Some, None, length};
+ghost use Rattle.std.specs.Prelude.{◌≡◌, ◌++◌, [], ◌∷◌, false, IfErr, IfOk, Some, None, length, option_map};
 ghost use Rattle.pr_flat.specs.Shape.{equation_shape};
-ghost use Rattle.pr_expand_spec.specs.Making.{declare_last, fitted, is_signed, kinds_read, made, with_equation};
+ghost use Rattle.pr_expand_spec.specs.Making.{declare_last, delay_step, fitted, is_signed, kinds_read, made, with_equation};
 ghost use Rattle.pr_expand.specs.Code.{IsPast, made_of, shapes_in};
+ghost use Rattle.pr_expand.specs.Keys.{delay_key, key_in};
 
 use crate::keys::{key_of, noted};
 use crate::ledgers::{Ledger, Made};
@@ -12,8 +13,14 @@ use pr_expand_spec::Given;
 use pr_flat::{Equation, Op, Operand};
 use std::alloc::{AllocError, Global};
 
-/// One equation more.
-fn push(alloc: Global, ledger: Ledger, equation: Equation, signed: bool) -> Result<Made, Stop>
+/// One equation more, with its key if it is a delay.
+fn push_keyed(
+    ledger: Ledger,
+    equation: Equation,
+    key: Option<Vec<u64>>,
+    signed: bool,
+) -> Result<Made, Stop>
+    requires { option_map (λ v. v.items) key ≡ key_in equation.op equation.args.items }
     ensures value { IfOk result (λ m. made_of m ≡ made (shapes_in ledger ++ equation_shape equation ∷ []) (Operand.Eq (length (shapes_in ledger))) signed) }
     ensures limit { IfErr result (λ s. IsPast s (shapes_in ledger ++ equation_shape equation ∷ [])) }
 {
@@ -25,7 +32,6 @@ fn push(alloc: Global, ledger: Ledger, equation: Equation, signed: bool) -> Resu
     if number >= Cap::MOST_EQUATIONS {
         return Err(Stop::Limit);
     }
-    let key = key_of(alloc, &equation)?;
     let delays = noted(delays, key, number as u32)?;
     match equations.push(equation) {
         Err(failed) => Err(Stop::Memory(failed.into())),
@@ -37,6 +43,15 @@ fn push(alloc: Global, ledger: Ledger, equation: Equation, signed: bool) -> Resu
             },
         }),
     }
+}
+
+/// One equation more.
+fn push(alloc: Global, ledger: Ledger, equation: Equation, signed: bool) -> Result<Made, Stop>
+    ensures value { IfOk result (λ m. made_of m ≡ made (shapes_in ledger ++ equation_shape equation ∷ []) (Operand.Eq (length (shapes_in ledger))) signed) }
+    ensures limit { IfErr result (λ s. IsPast s (shapes_in ledger ++ equation_shape equation ∷ [])) }
+{
+    let key = key_of(alloc, &equation)?;
+    push_keyed(ledger, equation, key, signed)
 }
 
 /// An equation on one operand.
@@ -187,6 +202,22 @@ pub fn one(
     let kind = kind_of_one(op, a.signed);
     let equation = on_one(alloc, op, a.operand, declared, kind)?;
     push(alloc, ledger, equation, signed_of_one(op, kind))
+}
+
+/// A delay of an operand after a number, of which this is the key.
+pub fn delay_of(
+    alloc: Global,
+    ledger: Ledger,
+    operand: Operand,
+    init: u64,
+    key: Vec<u64>,
+) -> Result<Made, Stop>
+    requires { key.items ≡ delay_key operand init }
+    ensures value { IfOk result (λ m. made_of m ≡ delay_step None operand init (shapes_in ledger)) }
+    ensures limit { IfErr result (λ s. IsPast s (delay_step None operand init (shapes_in ledger)).equations) }
+{
+    let equation = on_one(alloc, Op::Delay(init), operand, None, false)?;
+    push_keyed(ledger, equation, Some(key), false)
 }
 
 /// How an operation reads its two operands.
