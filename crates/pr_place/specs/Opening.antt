@@ -1,5 +1,5 @@
 -- What the tables hold as a stripe opens: which groups wait for others, which may be placed, and in which stage each one stands.
-use Rattle.std.specs.Prelude.{◌≡◌, ◌≢◌, ℕ, ◌+◌, ◌*◌, ◌<◌, ◌≤◌, ◌⊎◌, ◌==◌, ◌&&◌, true, false, not, nat_lt, List, [], ◌∷◌, length, map, Option, None, Some, slice_index, slice_index_or, slice_set, replicate}
+use Rattle.std.specs.Prelude.{◌≡◌, ◌≢◌, ℕ, ◌+◌, ◌<◌, ◌≤◌, ◌⊎◌, ◌==◌, ◌&&◌, true, false, not, nat_lt, List, [], ◌∷◌, length, map, Option, None, Some, slice_index, slice_index_or, slice_set, replicate}
 use Rattle.std.specs.List.{Contains, fold, sum_by}
 use Rattle.std.specs.Option.{is_some}
 use Rattle.pr_net.specs.Shape.{NetShape}

@@ -1,4 +1,4 @@
-use Rattle.std.proofs.Common.{sym, ◌∙◌, ◌≤◌, length, arith}
+use Rattle.std.proofs.Common.{sym, ◌∙◌, ◌≤◌, arith}
 use Rattle.pr_place.specs.Candidates.{is_allowed}
 use Rattle.pr_place.proofs.Searches.{split_some, split_none}
 use Rattle.pr_place.proofs.candidates.next_in_blocks.Goals as goal

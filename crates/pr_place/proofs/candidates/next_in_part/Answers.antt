@@ -1,4 +1,4 @@
-use Rattle.std.proofs.Common.{◌≡◌, ◌≤◌, ◌∙◌, ℕ, get_or, bit_and, sym, ap, arith}
+use Rattle.std.proofs.Common.{◌≤◌, ◌∙◌, ℕ, get_or, bit_and, sym, ap, arith}
 use Rattle.pr_place.proofs.Sets.{part_none}
 use Rattle.pr_place.proofs.candidates.next_in_part.Goals as goal
 

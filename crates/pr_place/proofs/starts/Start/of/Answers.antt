@@ -1,4 +1,4 @@
-use Rattle.std.proofs.Common.{◌≡◌, ◌<◌, ◌==◌, ◌*◌, ◌-◌, ◌^◌, ℕ, List, [], length, get_or, map, if◌then◌else◌, arith, ap, ap₂, sym, ◌∙◌, subst}
+use Rattle.std.proofs.Common.{◌≡◌, ◌<◌, ◌==◌, ◌-◌, ◌^◌, ℕ, List, [], length, get_or, map, if◌then◌else◌, arith, ap, ap₂, sym, ◌∙◌, subst}
 use Rattle.std.proofs.lemmas.List.{length-map, length-replicate}
 use Rattle.pr_net.specs.Whole.{shape_of}
 use Rattle.pr_place.specs.declared.plans.Plan.{Plan}
