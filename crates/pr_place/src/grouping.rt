@@ -165,13 +165,39 @@ fn add_reader(
     Ok(())
 }
 
-/// So many empty lists.
-fn lists(alloc: Global, count: usize) -> Result<Vec<Vec<u32>>, AllocError>
-    ensures { IfOk result (λ lists. numbers_of lists.items ≡ replicate count []) }
+/// Counts these readings at the groups that they read.
+fn count_readings(counts: &mut [usize], owner: &[u32], reads: &[u32])
+    requires cells { All (λ x. x < length owner.now) reads.now }
+    requires groups { All (λ x. slice_index owner.now x < length counts.old) reads.now }
+    ensures { length counts.new ≡ length counts.old }
 {
-    let mut lists = Vec::with_capacity(alloc, count)?;
-    for made in 0..count {
-        lists.push(Vec::new(alloc))?;
+    for &cell in reads {
+        let group = owner[cell as usize] as usize;
+        counts[group] = counts[group].saturating_add(1);
+    }
+}
+
+/// How often each group is read.
+fn counts(alloc: Global, owner: &[u32], plans: &[Plan]) -> Result<Vec<usize>, AllocError>
+    requires cells { All (All (λ x. x < length owner.now)) (ops_of plans.now) }
+    requires groups { All (All (λ x. slice_index owner.now x < length plans.now)) (ops_of plans.now) }
+    ensures { IfOk result (λ counts. length counts.items ≡ length plans.now) }
+{
+    let mut counts = vec![in alloc; 0; plans.len()]?;
+    for group in 0..plans.len() {
+        let plan = &plans[group];
+        count_readings(&mut counts, owner, &plan.reads);
+    }
+    Ok(counts)
+}
+
+/// An empty list for each count, with room for so many numbers.
+fn lists(alloc: Global, counts: &[usize]) -> Result<Vec<Vec<u32>>, AllocError>
+    ensures { IfOk result (λ lists. numbers_of lists.items ≡ replicate (length counts.now) []) }
+{
+    let mut lists = Vec::with_capacity(alloc, counts.len())?;
+    for &count in counts {
+        lists.push(Vec::with_capacity(alloc, count)?)?;
     }
     Ok(lists)
 }
@@ -185,7 +211,8 @@ pub fn readers(alloc: Global, owner: &[u32], plans: &[Plan]) -> Result<Vec<Vec<u
     ensures readers { IfOk result (λ readers. (g : ℕ) → g < length plans.now
         → slice_index_or (numbers_of readers.items) g [] ≡ readers_from owner.now g 0 (ops_of plans.now)) }
 {
-    let mut readers = lists(alloc, plans.len())?;
+    let counts = counts(alloc, owner, plans)?;
+    let mut readers = lists(alloc, &counts)?;
     for group in 0..plans.len() {
         let plan = &plans[group];
         add_reader(&mut readers, owner, &plan.reads, group as u32)?;
