@@ -1,5 +1,5 @@
 -- Words that are appended one part after another.
-use Rattle.std.proofs.Common.{◌≡◌, ℕ, ◌+◌, ◌-◌, ◌*◌, ◌/◌, ◌%◌, ◌^◌, ◌<◌, zero, suc, add-one, ◌≤◌, ◌&&◌, Bool, true, false, List, [], ◌∷◌, ◌++◌, length, map, drop, get_or, refl, sym, ap, ◌∙◌, append_assoc, arith, cond, lit<, fold, ◌==◌, nat_lt, nat_le}
+use Rattle.std.proofs.Common.{◌≡◌, ℕ, ◌+◌, ◌-◌, ◌*◌, ◌^◌, ◌<◌, zero, suc, add-one, ◌≤◌, ◌&&◌, Bool, true, false, List, [], ◌∷◌, ◌++◌, length, map, drop, get_or, refl, sym, ap, ◌∙◌, append_assoc, arith, cond, lit<, fold, ◌==◌, nat_lt, nat_le}
 use Rattle.std.specs.List.{list_all}
 use Rattle.std.specs.Int.{w32, to_be_bytes}
 use Rattle.std.proofs.lemmas.List.{append-nil, at_drop_more, at_drop_all, length-map}
@@ -82,33 +82,6 @@ marks_more pes (suc i) d r b m some within set byte h =
     let one : i + 1 ≡ suc i = add-one i in
     let value : b ≡ cond (is_set (get_or pes i d)) 1 0 = byte ∙ (bool_byte_is r ∙ ap (λ v. cond v 1 0) set') in
     rw less (sym (step ∙ rw (one, ← h, ← value) (omega arith)))
-
--- the flags from an element on, of which its own is the lowest
-lowest : (b : Bool) (n : ℕ) → ((cond b 1 0 + 2 * n) % 2 == 1) ≡ b
-lowest true n = let odd : (1 + 2 * n) % 2 ≡ 1 = omega arith in rw odd refl
-lowest false n = let even : (0 + 2 * n) % 2 ≡ 0 = omega arith in rw even refl
-
-others : (b : Bool) (n : ℕ) → (cond b 1 0 + 2 * n) / 2 ≡ n
-others true n = omega arith
-others false n = omega arith
-
-pub marks_less : (pes : List Pe) (i : ℕ) (d : Pe) (m : ℕ) → i < length pes → m ≡ number_of_flags (map is_set (drop i pes)) → ((m % 2 == 1) ≡ is_set (get_or pes i d)) × (m / 2 ≡ number_of_flags (map is_set (drop (i + 1) pes)))
-marks_less pes i d m lt h =
-    let flag = is_set (get_or pes i d) in
-    let rest = number_of_flags (map is_set (drop (i + 1) pes)) in
-    let whole : m ≡ cond flag 1 0 + 2 * rest = h ∙ drop_step (λ t. number_of_flags (map is_set t)) pes i (get_or pes i d) d lt refl in
-    (ap (λ k. k % 2 == 1) whole ∙ lowest flag rest, ap (λ k. k / 2) whole ∙ others flag rest)
-
--- what an element passes, and all after it
-pub all_before : (p : Pe → Bool) (pes : List Pe) (i : ℕ) (d : Pe) → 0 < i → i ≤ length pes → p (get_or pes (i - 1) d) ≡ true → list_all p (drop i pes) ≡ true → list_all p (drop (i - 1) pes) ≡ true
-all_before p pes zero d some within here rest = absurd (omega arith)
-all_before p pes (suc i) d some within here rest =
-    let less : suc i - 1 ≡ i = omega arith in
-    let lt : i < length pes = omega arith in
-    let step : list_all p (drop i pes) ≡ (p (get_or pes i d) && list_all p (drop (i + 1) pes)) = drop_step (list_all p) pes i (get_or pes i d) d lt refl in
-    let first : p (get_or pes i d) ≡ true = rw less at here in
-    let more : list_all p (drop (i + 1) pes) ≡ true = ap (λ k. list_all p (drop k pes)) (add-one i) ∙ rest in
-    rw less (step ∙ rw (first, more) refl)
 
 pub marks_fit : (n i : ℕ) (r : Bool) (b m : ℕ) → 0 < i → i ≤ n → b ≡ bool_byte r → m < 2 ^ (n - i) → 2 * m + b < 2 ^ (n - (i - 1))
 marks_fit n i r b m some within byte h =

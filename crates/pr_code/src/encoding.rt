@@ -15,7 +15,8 @@ use std::alloc::{AllocError, Global};
 /// Appends the words of a processing element.
 fn put_pe(out: &mut Vec<u8>, pe: &Pe) -> Result<(), AllocError>
     requires { has_small_choice pe.now ≡ true }
-    ensures { OnOk result (out.new.items ≡ out.old.items ++ bytes_of_words (pe_words pe.now)) }
+    ensures words { OnOk result (out.new.items ≡ out.old.items ++ bytes_of_words (pe_words pe.now)) }
+    ensures bytes { has_pe_bytes pe.now ≡ true }
 {
     put_words(out, &pe_words(pe))
 }
@@ -25,7 +26,6 @@ fn marks(pes: &[Pe]) -> u64
     requires few { length pes.now ≤ 64 }
     requires choices { list_all has_small_choice pes.now ≡ true }
     ensures marks { result ≡ number_of_flags (map is_set pes.now) }
-    ensures bytes { list_all has_pe_bytes pes.now ≡ true }
 {
     let mut marks = 0;
     let mut i = pes.len();
@@ -49,27 +49,25 @@ fn put_map<const N: usize>(out: &mut Vec<u8>, marks: u64) -> Result<(), AllocErr
 }
 
 /// Appends the words of a processing element that is set.
-fn put_if_set(out: &mut Vec<u8>, pe: &Pe, set: bool) -> Result<(), AllocError>
-    requires choice { has_small_choice pe.now ≡ true }
-    requires set { set ≡ is_set pe.now }
-    ensures { OnOk result (out.new.items ≡ out.old.items ++ bytes_of_words (set_words pe.now)) }
+fn put_if_set(out: &mut Vec<u8>, pe: &Pe) -> Result<(), AllocError>
+    requires { has_small_choice pe.now ≡ true }
+    ensures words { OnOk result (out.new.items ≡ out.old.items ++ bytes_of_words (set_words pe.now)) }
+    ensures bytes { has_pe_bytes pe.now ≡ true }
 {
-    if !set {
+    if !is_set(pe) {
         return Ok(());
     }
     put_pe(out, pe)
 }
 
-/// Appends the words of those processing elements of a stage that are set, as these marks say.
-fn put_set(out: &mut Vec<u8>, pes: &[Pe], marks: u64) -> Result<(), AllocError>
-    requires choices { list_all has_small_choice pes.now ≡ true }
-    requires marks { marks ≡ number_of_flags (map is_set pes.now) }
-    ensures { OnOk result (out.new.items ≡ out.old.items ++ bytes_of_words (flat_map set_words pes.now)) }
+/// Appends the words of those processing elements of a stage that are set.
+fn put_set(out: &mut Vec<u8>, pes: &[Pe]) -> Result<(), AllocError>
+    requires { list_all has_small_choice pes.now ≡ true }
+    ensures words { OnOk result (out.new.items ≡ out.old.items ++ bytes_of_words (flat_map set_words pes.now)) }
+    ensures bytes { OnOk result (list_all has_pe_bytes pes.now ≡ true) }
 {
-    let mut rest = marks;
     for pe in pes {
-        put_if_set(out, pe, rest % 2 == 1)?;
-        rest /= 2;
+        put_if_set(out, pe)?;
     }
     Ok(())
 }
@@ -120,9 +118,8 @@ fn put_stage<const N: usize>(out: &mut Vec<u8>, stage: &Stage<N>) -> Result<(), 
     ensures words { OnOk result (out.new.items ≡ out.old.items ++ bytes_of_words (stage_words true N stage.now.pes.items)) }
     ensures bytes { OnOk result (list_all has_pe_bytes stage.now.pes.items ≡ true) }
 {
-    let marks = marks(&stage.pes);
-    put_map::<N>(out, marks)?;
-    put_set(out, &stage.pes, marks)?;
+    put_map::<N>(out, marks(&stage.pes))?;
+    put_set(out, &stage.pes)?;
     Ok(())
 }
 

@@ -1,6 +1,5 @@
 use Rattle.std.proofs.Common.{length, arith}
-use Rattle.pr_code.specs.Spelling.{has_pe_bytes}
-use Rattle.pr_code.proofs.WritingLemmas.{marks_more, marks_fit, all_before}
+use Rattle.pr_code.proofs.WritingLemmas.{marks_more, marks_fit}
 use Rattle.pr_code.proofs.encoding.marks.Goals as goal
 
 pub loop-i-preserved : goal.loop-i-preserved
@@ -8,5 +7,4 @@ loop-i-preserved c = record {
   within = omega arith;
   marks = marks_more c.args.pes.now c.loop-i.i _ c.is_set.result c.from.result c.loop-i.marks c.loop-i-test.true c.loop-i.invariant.within c.is_set.ensures.set c.from.ensures c.loop-i.invariant.marks;
   fits = marks_fit (length c.args.pes.now) c.loop-i.i c.is_set.result c.from.result c.loop-i.marks c.loop-i-test.true c.loop-i.invariant.within c.from.ensures c.loop-i.invariant.fits;
-  bytes = all_before has_pe_bytes c.args.pes.now c.loop-i.i _ c.loop-i-test.true c.loop-i.invariant.within c.is_set.ensures.bytes c.loop-i.invariant.bytes;
 }
