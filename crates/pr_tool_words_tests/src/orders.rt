@@ -1,17 +1,8 @@
 //! Command lines and what they ask for.
 
-use super::*;
-use std::alloc::{AllocError, Global};
+use pr_tool_files::command_line;
+use pr_tool_words::{Fabric, GenSize, Mode, Options, Words, WordsFault, read_words};
 use std::test::Fail;
-
-/// The words as the system gives them.
-fn command_line(alloc: Global, words: &[&str]) -> Result<Vec<String>, AllocError> {
-    let mut line = vec![in alloc; String::from_str(alloc, "piperench")?]?;
-    for word in words {
-        line.push(String::from_str(alloc, word)?)?;
-    }
-    Ok(line)
-}
 
 /// The options that stand where none is given.
 fn usual<'a>() -> Options<'a> {
