@@ -1,0 +1,20 @@
+-- How many samples go through in how many cycles, for v stages on p stripes.
+use Rattle.std.specs.Prelude.{ℕ, ◌-◌, ◌≡◌, ◌≤◌, ◌&&◌, Bool, nat_le, if◌then◌else◌, List, [], ◌∷◌}
+use Rattle.pr_control.specs.Counts.{cycles_of}
+use Rattle.pr_lens_cost.specs.declared.cycles.Rate.{Rate}
+use Rattle.pr_lens_cost.specs.declared.cycles.Row.{Row}
+
+abbrev pub rate_of : ℕ → ℕ → Rate
+rate_of v p = if nat_le v p then record { samples = 1; cycles = 1 } else record { samples = p - 1; cycles = v }
+
+-- a machine may have so many stripes
+abbrev pub may_be_stripes : ℕ → Bool
+may_be_stripes p = nat_le 2 p && nat_le p 256
+
+-- the line of so many stripes, for n samples
+abbrev pub row_of : ℕ → ℕ → ℕ → Row
+row_of v n p = record { stripes = p; rate = rate_of v p; cycles = cycles_of v p n }
+
+-- the stripes that are told of
+abbrev pub told_stripes : List ℕ
+told_stripes = 2 ∷ 3 ∷ 4 ∷ 7 ∷ 8 ∷ 16 ∷ 32 ∷ 64 ∷ 128 ∷ 256 ∷ []

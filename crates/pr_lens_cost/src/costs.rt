@@ -1,0 +1,55 @@
+//! The cost of a program.
+
+ghost use Rattle.std.specs.Prelude.{◌≡◌, ◌≤◌, length, vec_len, IfOk, IfErr};
+ghost use Rattle.pr_compile.specs.Refusals.{IsCompileAnswer};
+ghost use Rattle.pr_lens_cost.specs.Costs.{HasEquationCount, IsCost};
+
+use crate::counts::{StageCost, stage_costs};
+use pr_compile::{CompileFault, compile_counted};
+use pr_compile_front::read_program;
+use std::alloc::{AllocError, Global};
+
+/// What a program costs.
+#[derive(Debug, Drop)]
+pub struct Cost {
+    pub equations: usize,
+    pub units: usize,
+    pub stages: Vec<StageCost>,
+    pub ghost few: { vec_len stages ≤ 32768 },
+}
+
+/// How many equations the program of a text has.
+fn equations_of(alloc: Global, text: &[u8]) -> Result<usize, AllocError>
+    requires { length text.now ≤ 1048576 }
+    ensures { IfOk result (HasEquationCount text.now) }
+{
+    match read_program(alloc, text) {
+        Ok(front) => Ok(front.flat.equations.len()),
+        Err(_) => Err(AllocError),
+    }
+}
+
+/// What the program of a text costs on N columns and P registers, with its equations narrowed where that is asked for; else why
+/// it has no configuration there.
+pub fn cost_of<const N: usize, const P: usize>(
+    alloc: Global,
+    text: &[u8],
+    narrowed: bool,
+) -> Result<Cost, CompileFault>
+    requires short { length text.now ≤ 1048576 }
+    requires columns { 1 ≤ N }
+    requires most_columns { N ≤ 64 }
+    requires registers { 2 ≤ P }
+    requires most_registers { P ≤ 16 }
+    ensures cost { IfOk result (IsCost N P narrowed text.now) }
+    ensures refused { IfErr result (IsCompileAnswer N P narrowed text.now) }
+{
+    let compiled = compile_counted::<N, P>(alloc, text, narrowed)?;
+    let stages = stage_costs(alloc, &compiled.conf.stages)?;
+    let equations = equations_of(alloc, text)?;
+    Ok(Cost {
+        equations,
+        units: compiled.units,
+        stages,
+    })
+}
