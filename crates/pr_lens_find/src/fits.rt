@@ -113,7 +113,7 @@ pub struct Unfit {
 }
 
 /// The equation of a unit, and what is known of its group, in the net of equations on so many columns.
-fn unfit(
+fn group_of(
     alloc: Global,
     flat: &Flat,
     widths: &Widths,
@@ -152,7 +152,7 @@ pub fn find_unfit(
     let Some((flat, widths)) = ready(alloc, source.text, narrowed)? else {
         return Ok(nothing);
     };
-    match unfit(alloc, &flat, &widths, columns, unit) {
+    match group_of(alloc, &flat, &widths, columns, unit) {
         Err(CutFault::Memory(error)) => Err(error),
         Err(CutFault::Limit(_)) => Ok(nothing),
         Ok((equation, found)) => Ok(Unfit {

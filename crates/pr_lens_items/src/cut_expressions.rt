@@ -20,18 +20,19 @@ fn binary(alloc: Global, op: BinOp, one: Expr, other: Expr) -> Result<Expr, Allo
     Ok(Expr::Binary(op, one, other))
 }
 
-/// An expression in which both of these are walked, and that has a width where they have.
+/// An expression in which both of these are walked, one after the other, and that has a width where they have.
 fn both(alloc: Global, one: Expr, other: Expr) -> Result<Expr, AllocError> {
-    let one = low_bit(alloc, one)?;
-    let other = low_bit(alloc, other)?;
-    binary(alloc, BinOp::And, one, other)
+    binary(alloc, BinOp::Equal, one, other)
 }
 
-/// An expression in which all of these are walked, and that has a width where they have.
+/// The same of all of these.
 fn all_of(alloc: Global, parts: Vec<Expr>) -> Result<Expr, AllocError> {
+    let mut parts = parts;
     let mut all = NOTHING;
-    for part in parts {
-        all = both(alloc, all, part)?;
+    for _ in 0..parts.len() {
+        if let Some(part) = parts.pop() {
+            all = both(alloc, part, all)?;
+        }
     }
     Ok(all)
 }
