@@ -10,7 +10,7 @@ use pr_compile_front::read_program;
 use std::alloc::{AllocError, Global};
 
 /// What a program costs.
-#[derive(Debug, Drop)]
+#[derive(Drop)]
 pub struct Cost {
     pub equations: usize,
     pub units: usize,

@@ -10,7 +10,7 @@ use pr_conf::{Next, Pe, Stage};
 use std::alloc::{AllocError, Global};
 
 /// What a stage has in use.
-#[derive(Clone, Copy, PartialEq, Eq, Debug)]
+#[derive(Clone, Copy)]
 pub struct StageCost {
     /// Processing elements that do anything.
     pub cells: usize,

@@ -8,7 +8,7 @@ ghost use Rattle.pr_lens_cost.specs.Rates as rates;
 use std::alloc::{AllocError, Global};
 
 /// How many samples go through in how many cycles, over and over.
-#[derive(Clone, Copy, PartialEq, Eq, Debug)]
+#[derive(Clone, Copy)]
 pub struct Rate {
     pub samples: u64,
     pub cycles: u64,
@@ -53,7 +53,7 @@ fn cycles_of(stages: u64, stripes: u64, samples: u64) -> u64
 }
 
 /// How long a run takes on so many stripes.
-#[derive(Clone, Copy, PartialEq, Eq, Debug)]
+#[derive(Clone, Copy)]
 pub struct Row {
     pub stripes: u64,
     /// The samples that go through in so many cycles.

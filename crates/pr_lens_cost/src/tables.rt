@@ -10,7 +10,7 @@ use pr_lens_text::{put, put_counted};
 use std::alloc::{AllocError, Global};
 
 /// Units and stages of the same program, compiled the other way.
-#[derive(Clone, Copy, PartialEq, Eq, Debug)]
+#[derive(Clone, Copy)]
 pub struct Savings {
     /// Whether that way is the one with narrowed equations.
     pub narrowed: bool,

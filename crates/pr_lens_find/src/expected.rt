@@ -57,7 +57,7 @@ const SYMBOLS: [Symbol; 30] = [
 ];
 
 /// What could stand at a place.
-#[derive(Debug, Drop)]
+#[derive(Drop)]
 pub struct Expected {
     pub name: bool,
     pub number: bool,

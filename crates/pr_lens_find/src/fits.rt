@@ -102,7 +102,7 @@ fn group_columns(net: &Net, unit: u32) -> usize {
 }
 
 /// A group of units that fits in no stripe.
-#[derive(Clone, Copy, PartialEq, Eq, Debug)]
+#[derive(Clone, Copy)]
 pub struct Unfit {
     /// The item that makes its last unit.
     pub item: usize,

@@ -34,7 +34,7 @@ fn breaks(alloc: Global, broken: &Broken, cut: Cut) -> Result<bool, AllocError>
 }
 
 /// What is cut at a count.
-#[derive(Clone, Copy, PartialEq, Eq, Debug)]
+#[derive(Clone, Copy)]
 enum By {
     /// The points of expressions, in so many frames.
     Values(u32),

@@ -7,7 +7,7 @@ use pr_lang::{Keyword, Kind, Symbol, Token};
 use std::alloc::{AllocError, Global};
 
 /// The first token of an item, and the last.
-#[derive(Clone, Copy, PartialEq, Eq, Debug)]
+#[derive(Clone, Copy)]
 pub struct Span {
     pub first: usize,
     pub last: usize,

@@ -43,7 +43,7 @@ fn first_count(alloc: Global, part: &Part, most: u32) -> Result<u32, AllocError>
 }
 
 /// How wide an operand is.
-#[derive(Clone, Copy, PartialEq, Eq, Debug)]
+#[derive(Clone, Copy)]
 pub enum Extent {
     Bits(u32),
     /// It is an earlier sample of the recurrence that is being made.
@@ -53,7 +53,7 @@ pub enum Extent {
 }
 
 /// An equation without a width.
-#[derive(Debug, Drop)]
+#[derive(Drop)]
 pub struct Missing {
     /// The token at which it is made.
     pub token: usize,

@@ -3,7 +3,7 @@
 ghost use Rattle.std.specs.Prelude.{◌≡◌, ◌<◌, ◌⊎◌, IsTrue};
 
 /// How much of an item is kept.
-#[derive(Clone, Copy, PartialEq, Eq, Debug)]
+#[derive(Clone, Copy)]
 pub struct Cut {
     /// Points of expressions.
     pub values: u32,
@@ -14,7 +14,7 @@ pub struct Cut {
 }
 
 /// How many points or frames are left to be kept, and whether one was not.
-#[derive(Clone, Copy, PartialEq, Eq, Debug)]
+#[derive(Clone, Copy)]
 pub struct Left {
     count: u32,
     missed: bool,
@@ -57,7 +57,7 @@ impl Left {
 }
 
 /// What is left while an item is copied.
-#[derive(Clone, Copy, PartialEq, Eq, Debug)]
+#[derive(Clone, Copy)]
 pub struct Rest {
     pub values: Left,
     pub frames: Left,

@@ -1,7 +1,7 @@
 //! Points and frames.
 
 /// What a statement or an item has beside its expressions, as tokens.
-#[derive(Debug, Drop)]
+#[derive(Drop)]
 pub struct Frame {
     /// The names that it introduces, its own first.
     pub names: Vec<u32>,
@@ -12,7 +12,7 @@ pub struct Frame {
 }
 
 /// The points of an item, as tokens.
-#[derive(Debug, Drop)]
+#[derive(Drop)]
 pub struct Points {
     /// The points of its expressions.
     pub values: Vec<u32>,

@@ -6,7 +6,7 @@ use pr_conf::Turn;
 use std::alloc::{AllocError, Global};
 
 /// The stage in each stripe, as cycles go by.
-#[derive(Debug, Drop)]
+#[derive(Drop)]
 pub struct Board {
     stages: Vec<Option<u32>>,
 }

@@ -8,7 +8,7 @@ use pr_conf::Turn;
 use pr_log::line;
 
 /// A cycle of a run, as its line tells it.
-#[derive(Clone, Copy, PartialEq, Eq, Debug)]
+#[derive(Clone, Copy)]
 pub struct Logged {
     pub turn: Turn,
     pub time: u64,
@@ -25,7 +25,7 @@ impl Logged {
 }
 
 /// A line of a log.
-#[derive(Clone, Copy, PartialEq, Eq, Debug)]
+#[derive(Clone, Copy)]
 pub enum LogLine {
     /// A cycle.
     Cycle(Logged),

@@ -6,7 +6,7 @@ use std::alloc::{AllocError, Global};
 use thiserror::Error;
 
 /// A log: its cycles in order, each with the results that were written before it.
-#[derive(Debug, Drop)]
+#[derive(Drop)]
 pub struct Log {
     pub cycles: Vec<Logged>,
     /// How many results were written before each cycle.

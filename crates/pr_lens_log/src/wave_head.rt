@@ -5,7 +5,7 @@ use pr_lens_text::{put, put_counted};
 use std::alloc::AllocError;
 
 /// What is shown of a cycle.
-#[derive(Clone, Copy, PartialEq, Eq, Debug)]
+#[derive(Clone, Copy)]
 pub enum Signal {
     Cycle,
     Stalled,

@@ -7,7 +7,7 @@ ghost use Rattle.pr_lens_tool.specs.Tasks.{task_named};
 use pr_code::Fabric;
 
 /// What is to be made of a file.
-#[derive(Clone, Copy, PartialEq, Eq, Debug)]
+#[derive(Clone, Copy)]
 pub enum Task {
     /// Why a program is refused.
     Why,
@@ -22,7 +22,7 @@ pub enum Task {
 }
 
 /// What the words of a command line ask for.
-#[derive(Clone, Copy, PartialEq, Eq, Debug)]
+#[derive(Clone, Copy)]
 pub struct Order<'a> {
     pub task: Task,
     /// The name of the file.

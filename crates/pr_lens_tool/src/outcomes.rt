@@ -9,7 +9,7 @@ use pr_tool::{Answer, Bounds, put_note};
 use std::alloc::AllocError;
 
 /// What a call comes to.
-#[derive(Clone, Copy, PartialEq, Eq, Debug)]
+#[derive(Clone, Copy, PartialEq, Eq)]
 pub enum Outcome {
     /// As `piperench` answers.
     Plain(Answer),

@@ -13,7 +13,7 @@ use pr_parse::tokens;
 use std::alloc::{AllocError, Global};
 
 /// Why a text is refused.
-#[derive(Debug, Drop)]
+#[derive(Drop)]
 pub struct Explanation {
     /// The compiler's answer.
     pub fault: CompileFault,
@@ -28,7 +28,7 @@ pub struct Explanation {
 }
 
 /// What the compiler says of a text.
-#[derive(Debug, Drop)]
+#[derive(Drop)]
 pub enum Verdict {
     Accepted,
     Refused(Explanation),

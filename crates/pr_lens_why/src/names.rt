@@ -7,7 +7,7 @@ use pr_lens_text::put;
 use std::alloc::AllocError;
 
 /// What a name stands for.
-#[derive(Clone, Copy, PartialEq, Eq, Debug)]
+#[derive(Clone, Copy)]
 pub enum Sort {
     Constant,
     Table,

@@ -7,7 +7,7 @@ use std::alloc::AllocError;
 
 /// Adds the widths of the operands, where all are known.
 fn put_operands(message: &mut Vec<u8>, widths: &[Extent]) -> Result<(), AllocError> {
-    if widths.is_empty() || widths.iter().any(|w| *w == Extent::Inside) {
+    if widths.is_empty() || widths.iter().any(|w| matches!(w, Extent::Inside)) {
         return Ok(());
     }
     put(message, "Widths of the operands: ")?;
