@@ -24,12 +24,14 @@ fn words_of<R: Env + AllocGlobal>(rt: &R) -> Result<Vec<String>, Outcome> {
 /// Runs the companion on the words, and says what it comes to.
 fn call<R: Files + Print + AllocGlobal>(rt: &R, words: &[String]) -> Result<Reply, Outcome> {
     let alloc = rt.alloc();
-    let gathering =
-        Gathering::new(alloc, io::writer(rt)).map_err(|_| Outcome::Plain(Answer::Memory))?;
+    let gathering = Gathering::new(alloc, io::writer(rt)).map_err(|_| Outcome::Plain(
+        Answer::Memory,
+    ))?;
     let results = RefCell::new(gathering);
     let reply = {
-        let mut shelf = FileShelf::make(alloc, rt, &results)
-            .map_err(|_| Outcome::Plain(Answer::Memory))?;
+        let mut shelf = FileShelf::make(alloc, rt, &results).map_err(|_| Outcome::Plain(
+            Answer::Memory,
+        ))?;
         let mut out = OutSink::new(Gathered { results: &results });
         pipelens(alloc, words, &mut shelf, &mut out)
     };

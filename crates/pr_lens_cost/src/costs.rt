@@ -29,8 +29,8 @@ fn equations_of(alloc: Global, text: &[u8]) -> Result<usize, AllocError>
     }
 }
 
-/// What the program of a text costs on N columns and P registers, with its equations narrowed where that is asked for; else why
-/// it has no configuration there.
+/// What the program of a text costs on N columns and P registers, with its equations narrowed where that is asked for;
+/// else why it has no configuration there.
 pub fn cost_of<const N: usize, const P: usize>(
     alloc: Global,
     text: &[u8],

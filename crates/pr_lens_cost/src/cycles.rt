@@ -1,6 +1,6 @@
 //! How long runs take: samples by cycles, and the cycles of so many samples.
 
-ghost use Rattle.std.specs.Prelude.{◌≡◌, ◌≤◌, ◌<◌, ◌+◌, ◌^◌, ℕ, true, length, map, IfOk};
+ghost use Rattle.std.specs.Prelude.{◌≡◌, ◌≤◌, ◌<◌, ◌^◌, ℕ, true, map, IfOk};
 ghost use Rattle.std.specs.List.{list_all};
 ghost use Rattle.pr_control.specs.Counts as counts;
 ghost use Rattle.pr_lens_cost.specs.Rates as rates;
@@ -14,8 +14,8 @@ pub struct Rate {
     pub cycles: u64,
 }
 
-/// The rate of so many stages on so many stripes: one sample a cycle where each stage has a stripe, and else one less than
-/// there are stripes in as many cycles as there are stages.
+/// The rate of so many stages on so many stripes: one sample a cycle where each stage has a stripe, and else one less
+/// than there are stripes in as many cycles as there are stages.
 fn rate_of(stages: u64, stripes: u64) -> Rate
     requires { 2 ≤ stripes }
     ensures { result ≡ rates.rate_of stages stripes }
@@ -105,5 +105,5 @@ pub fn rows_of(alloc: Global, stages: u64, samples: u64) -> Result<Vec<Row>, All
 
 /// The rate is that of the cycles: so many samples more take so many cycles more.
 pub fn rate_law()
-    ensures { (v p n : ℕ) → 2 ≤ p → 0 < n → counts.cycles_of v p (n + (rates.rate_of v p).samples) ≡ counts.cycles_of v p n + (rates.rate_of v p).cycles }
+    ensures { (v p n : ℕ) → 2 ≤ p → 0 < n → rates.TakesTheRate v p n }
 {}

@@ -187,7 +187,10 @@ fn longest_token(source: &Source) -> usize {
 }
 
 fn ends_target(kind: Kind) -> bool {
-    matches!(kind, Kind::Mark(Symbol::Colon) | Kind::Mark(Symbol::Assign) | Kind::End)
+    matches!(
+        kind,
+        Kind::Mark(Symbol::Colon) | Kind::Mark(Symbol::Assign) | Kind::End
+    )
 }
 
 /// The text of the target of an assignment or a recurrence; none of another item.

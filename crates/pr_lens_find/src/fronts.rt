@@ -100,10 +100,18 @@ fn add_output(alloc: Global, program: &mut Program) -> Result<(), AllocError> {
 
 /// The program with an input and an output more behind all that it has, where it has none.
 pub fn with_ends(alloc: Global, mut program: Program) -> Result<Program, AllocError> {
-    if !program.items.iter().any(|item| matches!(item, Item::Input { .. })) {
+    if !program
+        .items
+        .iter()
+        .any(|item| matches!(item, Item::Input { .. }))
+    {
         add_input(alloc, &mut program)?;
     }
-    if !program.items.iter().any(|item| matches!(item, Item::Output { .. })) {
+    if !program
+        .items
+        .iter()
+        .any(|item| matches!(item, Item::Output { .. }))
+    {
         add_output(alloc, &mut program)?;
     }
     Ok(program)

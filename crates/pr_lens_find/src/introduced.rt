@@ -55,8 +55,8 @@ fn is_closed(source: &Source, from: usize, at: usize) -> bool {
     false
 }
 
-/// Whether the name that is introduced at a token is visible no more at a later one: an index behind its loop, and what a
-/// function introduces behind the function.
+/// Whether the name that is introduced at a token is visible no more at a later one: an index behind its loop, and what
+/// a function introduces behind the function.
 fn is_over(source: &Source, introduced: usize, at: usize) -> bool {
     let word = source.kind(introduced.saturating_sub(1));
     if word == Kind::Word(Keyword::Fn) {

@@ -1,7 +1,8 @@
-//! Where a text is refused, closer than the answers of the passes say: by asking the passes again, of texts and programs that
-//! end earlier.
+//! Where a text is refused, closer than the answers of the passes say: by asking the passes again, of texts and
+//! programs that end earlier.
 //!
-//! So what is found is always a point of which the passes themselves say that the text is refused with it and not before it.
+//! So what is found is always a point of which the passes themselves say that the text is refused with it and not
+//! before it.
 #![tactic(auto)]
 
 mod equations;

@@ -63,7 +63,8 @@ fn cut_by(by: By, kept: u32) -> Cut {
     }
 }
 
-/// A count in 1..=most with which the rule is broken and with one less it is not, where `most` breaks it and 0 does not.
+/// A count in 1..=most with which the rule is broken and with one less it is not, where `most` breaks it and 0 does
+/// not.
 fn first_count(alloc: Global, broken: &Broken, by: By, most: u32) -> Result<u32, AllocError>
     requires { length broken.now.source.text.now ≤ 1048576 }
 {
@@ -145,8 +146,8 @@ fn in_values(
     Ok(numbered(&points.values, number))
 }
 
-/// The token at which the rule is broken, where some frame breaks it: an expression in the frames before the first such one can
-/// break it earlier.
+/// The token at which the rule is broken, where some frame breaks it: an expression in the frames before the first such
+/// one can break it earlier.
 fn among_frames(
     alloc: Global,
     broken: &Broken,
@@ -181,8 +182,8 @@ fn among_points(
 
 /// The token at which an item breaks a rule of scope; the item's first token where none is found.
 ///
-/// The rule is broken with the item cut off behind that point, and not with it cut off before. Where the item breaks the rule
-/// at several points, that is the first of them, but for loops that break it in other turns.
+/// The rule is broken with the item cut off behind that point, and not with it cut off before. Where the item breaks
+/// the rule at several points, that is the first of them, but for loops that break it in other turns.
 pub fn find_offence(
     alloc: Global,
     source: &Source,

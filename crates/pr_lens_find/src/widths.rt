@@ -172,8 +172,8 @@ fn missing_at(alloc: Global, part: &Part, token: usize, values: u32) -> Result<M
     })
 }
 
-/// Where the first equation without a width, which has this number, is made: the token of the first point with which it has
-/// none.
+/// Where the first equation without a width, which has this number, is made: the token of the first point with which it
+/// has none.
 pub fn find_missing(alloc: Global, source: &Source, equation: usize) -> Result<Missing, AllocError>
     requires { length source.now.text.now ≤ 1048576 }
 {

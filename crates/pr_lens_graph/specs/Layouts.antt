@@ -1,11 +1,14 @@
 -- The units of a program, and their stages.
 use Rattle.std.specs.Prelude.{ℕ, ◌≡◌, Bool, List, map}
 use Rattle.pr_lang.specs.declared.trees.Program.{Program}
+use Rattle.pr_flat.specs.declared.flat.Flat.{Flat}
+use Rattle.pr_flat.specs.Shape.{shapes_of}
 use Rattle.pr_net.specs.Shape.{NetShape}
 use Rattle.pr_net.specs.Whole.{shape_of}
 use Rattle.pr_place.specs.declared.placements.Home.{Home}
 use Rattle.pr_place.specs.Placements.{HomeShape, PlacementShape}
 use Rattle.pr_place.specs.Greedy.{IsGreedy}
+use Rattle.pr_cut_units.specs.Nets.{net_of}
 use Rattle.pr_compile_front.specs.Refusals.{HasWidths}
 use Rattle.pr_compile.specs.Configured.{OfReadyBy, net_by}
 use Rattle.pr_lens_graph.specs.declared.layouts.Layout.{Layout}
@@ -15,6 +18,10 @@ stage_of_home home = home.stage
 
 abbrev pub stage_of_shape : HomeShape → ℕ
 stage_of_shape home = home.stage
+
+-- the net of equations with these widths
+abbrev pub net_in : Flat → List ℕ → NetShape
+net_in flat widths = net_of (shapes_of flat.equations.items) widths flat.outputs.items
 
 -- the units are those of this net, and their stages those of its placement by the greedy rule
 pub record IsLaidOut (N P : ℕ) (net : NetShape) (layout : Layout) : Type 0 where

@@ -4,9 +4,8 @@ ghost use Rattle.std.specs.Prelude.{◌≡◌, ◌≤◌, length, map, IfOk};
 ghost use Rattle.pr_flat.specs.Shape.{shapes_of};
 ghost use Rattle.pr_flat.specs.Widths.{AreWidths};
 ghost use Rattle.pr_expand_spec.specs.Programs.{equations_of};
-ghost use Rattle.pr_cut_units.specs.Nets.{net_of};
 ghost use Rattle.pr_compile_front.specs.Passed.{HasEquations};
-ghost use Rattle.pr_lens_graph.specs.Layouts.{IsLayout, IsLayoutBy, IsLaidOut, stage_of_home};
+ghost use Rattle.pr_lens_graph.specs.Layouts.{IsLayout, IsLayoutBy, IsLaidOut, net_in, stage_of_home};
 
 use pr_compile::CompileFault;
 use pr_compile_front::{Front, read_program};
@@ -47,7 +46,7 @@ fn laid_out<const N: usize, const P: usize>(
     requires most_columns { N ≤ 64 }
     requires registers { 2 ≤ P }
     requires most_registers { P ≤ 16 }
-    ensures { IfOk result (IsLaidOut N P (net_of (shapes_of flat.now.equations.items) widths.now flat.now.outputs.items)) }
+    ensures { IfOk result (IsLaidOut N P (net_in flat.now widths.now)) }
 {
     let net = cut(alloc, flat, widths, N)?;
     let placement = place::<N, P>(alloc, &net)?;
@@ -76,8 +75,8 @@ fn layout_front<const N: usize, const P: usize>(
     laid_out::<N, P>(alloc, &flat, &widths)
 }
 
-/// The units of the program of a text on N columns, with its equations narrowed where that is asked for, and their stages by
-/// the greedy rule with P registers; else why it has none.
+/// The units of the program of a text on N columns, with its equations narrowed where that is asked for, and their
+/// stages by the greedy rule with P registers; else why it has none.
 pub fn layout_of<const N: usize, const P: usize>(
     alloc: Global,
     text: &[u8],

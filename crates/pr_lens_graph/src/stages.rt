@@ -1,7 +1,7 @@
 //! The stages with their units.
 
-use pr_lens_text::{put, put_counted};
 use pr_base::{Mode, Next};
+use pr_lens_text::{put, put_counted};
 use pr_net::{Cell, Net, Unit};
 use std::alloc::AllocError;
 

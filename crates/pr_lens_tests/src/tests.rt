@@ -1,5 +1,5 @@
-//! Calls of the companion: refused programs, with the place and the note of each and words of its explanation, costs, and
-//! logs; counted and chosen by hand.
+//! Calls of the companion: refused programs, with the place and the note of each and words of its explanation, costs,
+//! and logs; counted and chosen by hand.
 
 use pr_edge::{SureShelf, SureSink};
 use pr_lens_tool::pipelens;
@@ -66,9 +66,11 @@ fn is_explained(alloc: Global, case: Case) -> Result<bool, AllocError> {
     let (program, first, words) = case;
     let (status, told) = called(alloc, &["why", "p"], program)?;
     let told = told.bytes();
-    Ok(status == status_of(first)
-        && told.starts_with(first.as_bytes())
-        && has(told, words.as_bytes()))
+    Ok(
+        status == status_of(first)
+            && told.starts_with(first.as_bytes())
+            && has(told, words.as_bytes()),
+    )
 }
 
 /// The first case that is explained otherwise.
@@ -407,7 +409,8 @@ fn marks_below_a_line(rt: HostRuntime) -> Result<(), Fail> {
         "input x:8;\n\tlet y = x + nowhere;\noutput z = y;",
     )?;
     assert_eq!(rt; status, 3);
-    let wanted = b"p:2:14: scope: rule 2 item 1\n  2 | \tlet y = x + nowhere;\n    | \t            ^^^^^^^\n`nowhere` is used before it is assigned.\nAssign it in an item before this one, or see whether another name is meant.\nRule 2: an instance of a stream is assigned before it is used; in the body of a `rec` its own instance stands only before `@`.\n";
+    let wanted =
+        b"p:2:14: scope: rule 2 item 1\n  2 | \tlet y = x + nowhere;\n    | \t            ^^^^^^^\n`nowhere` is used before it is assigned.\nAssign it in an item before this one, or see whether another name is meant.\nRule 2: an instance of a stream is assigned before it is used; in the body of a `rec` its own instance stands only before `@`.\n";
     assert_eq!(rt; told.bytes(), wanted.as_slice());
     Ok(())
 }
@@ -436,8 +439,16 @@ fn accepted_programs(rt: HostRuntime) -> Result<(), Fail> {
     let calls: [Call; 7] = [
         (&["why", "p"], 0, "accepted\n"),
         (&["cost", "p"], 0, "equations 4\nunits 4\nstages 4\n"),
-        (&["cost", "p"], 0, "         2   0.250     1 in     4              4001\n"),
-        (&["cost", "p", "--samples", "10"], 0, "         3   0.500     2 in     4                22\n"),
+        (
+            &["cost", "p"],
+            0,
+            "         2   0.250     1 in     4              4001\n",
+        ),
+        (
+            &["cost", "p", "--samples", "10"],
+            0,
+            "         3   0.500     2 in     4                22\n",
+        ),
         (&["graph", "p"], 0, "  u1 -> u2;\n"),
         (&["graph", "nowhere"], 3, ""),
         (&["why", "p", "--stripes", "3"], 2, ""),
@@ -448,11 +459,24 @@ fn accepted_programs(rt: HostRuntime) -> Result<(), Fail> {
 
 #[test]
 fn logs(rt: HostRuntime) -> Result<(), Fail> {
-    let log = "cycle 0 conf 0@0 save - in 0 out -\nstall 1\ncycle 1 conf 1@1 save - in - out 0\n12\nend cycles 2 stalls 1 records 1\n";
+    let log =
+        "cycle 0 conf 0@0 save - in 0 out -\nstall 1\ncycle 1 conf 1@1 save - in - out 0\n12\nend cycles 2 stalls 1 records 1\n";
     let calls: [Call; 6] = [
-        (&["wave", "p"], 0, "$scope module stripe_1 $end\n$var wire 16 s8 stage $end\n"),
-        (&["wave", "p"], 0, "$enddefinitions $end\n#0\nb0 s6\n1s7\nbz s8\n0s9\nb0 s0\n0s1\nb0 s2\nbz s3\nb1 s4\nb0 s5\n#10\n0s7\nb1 s0\n1s1\nbz s2\n#20\n"),
-        (&["wave", "p"], 0, "#20\nb1 s8\n1s9\n0s1\nb0 s3\nb0 s4\nb1 s5\n#30\n"),
+        (
+            &["wave", "p"],
+            0,
+            "$scope module stripe_1 $end\n$var wire 16 s8 stage $end\n",
+        ),
+        (
+            &["wave", "p"],
+            0,
+            "$enddefinitions $end\n#0\nb0 s6\n1s7\nbz s8\n0s9\nb0 s0\n0s1\nb0 s2\nbz s3\nb1 s4\nb0 s5\n#10\n0s7\nb1 s0\n1s1\nbz s2\n#20\n",
+        ),
+        (
+            &["wave", "p"],
+            0,
+            "#20\nb1 s8\n1s9\n0s1\nb0 s3\nb0 s4\nb1 s5\n#30\n",
+        ),
         (&["chart", "p"], 0, "fill=\"#bbb\""),
         (&["chart", "p"], 0, "</svg>\n"),
         (&["chart", "nowhere"], 0, "</svg>\n"),

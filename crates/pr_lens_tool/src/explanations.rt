@@ -101,8 +101,8 @@ fn put_answer(
     told.extend_from_slice(note.bytes())
 }
 
-/// The text of an explanation of the text of a file of this name: its place with the compiler's note, the line with marks, and
-/// the message.
+/// The text of an explanation of the text of a file of this name: its place with the compiler's note, the line with
+/// marks, and the message.
 pub fn put_explanation(
     alloc: Global,
     name: &str,

@@ -101,8 +101,8 @@ fn refused<const N: usize, const P: usize>(
     Ok(Verdict::Refused(explanation))
 }
 
-/// What the compiler says of a text on N columns and P registers, with narrowed equations or without, and an explanation where
-/// it is refused.
+/// What the compiler says of a text on N columns and P registers, with narrowed equations or without, and an
+/// explanation where it is refused.
 pub fn explain<const N: usize, const P: usize>(
     alloc: Global,
     text: &[u8],

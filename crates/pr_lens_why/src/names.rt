@@ -80,7 +80,11 @@ pub fn parts_in(source: &Source, open: usize) -> usize {
         let kind = source.kind(at);
         depth = depth_after(depth, kind);
         if depth == 0 {
-            return if at <= open.saturating_add(1) { 0 } else { commas.saturating_add(1) };
+            return if at <= open.saturating_add(1) {
+                0
+            } else {
+                commas.saturating_add(1)
+            };
         }
         if depth == 1 && kind == Kind::Mark(Symbol::Comma) {
             commas = commas.saturating_add(1);

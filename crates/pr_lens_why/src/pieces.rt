@@ -6,11 +6,7 @@ use pr_lens_text::{place_at, put, put_counted};
 use std::alloc::AllocError;
 
 /// Adds a token as it is written, in quotes.
-pub fn put_quoted(
-    message: &mut Vec<u8>,
-    source: &Source,
-    token: usize,
-) -> Result<(), AllocError> {
+pub fn put_quoted(message: &mut Vec<u8>, source: &Source, token: usize) -> Result<(), AllocError> {
     if source.kind(token) == Kind::End {
         return put(message, "the end of the text");
     }

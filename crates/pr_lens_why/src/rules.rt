@@ -75,11 +75,7 @@ fn is_own_name(source: &Source, token: usize) -> bool {
     }
 }
 
-fn used_too_early(
-    message: &mut Vec<u8>,
-    source: &Source,
-    token: usize,
-) -> Result<(), AllocError> {
+fn used_too_early(message: &mut Vec<u8>, source: &Source, token: usize) -> Result<(), AllocError> {
     put_quoted(message, source, token)?;
     put(message, " is used before it is assigned.\n")?;
     if is_own_name(source, token) {
@@ -109,20 +105,18 @@ fn usage(sort: Option<Sort>, next: Kind) -> &'static str {
         return "Only a stream has earlier samples, so only a stream stands before `@`.\n";
     }
     match sort {
-        None => "It is to be a constant, a table, an index or a function, and none of that name is visible here.\n",
+        None =>
+            "It is to be a constant, a table, an index or a function, and none of that name is visible here.\n",
         Some(Sort::Table) => "A table has an index behind it, as in `c[0]`.\n",
         Some(Sort::Function) => "A function is called, with its arguments in brackets.\n",
-        Some(Sort::Constant) | Some(Sort::Index) => "A constant or an index has no index behind it.\n",
+        Some(Sort::Constant) | Some(Sort::Index) =>
+            "A constant or an index has no index behind it.\n",
         Some(Sort::Stream) | Some(Sort::Parameter) =>
             "Delays, places of bits, bounds of loops, tables and indices are built from numbers, constants, entries of tables and indices alone.\n",
     }
 }
 
-fn of_another_kind(
-    message: &mut Vec<u8>,
-    source: &Source,
-    token: usize,
-) -> Result<(), AllocError> {
+fn of_another_kind(message: &mut Vec<u8>, source: &Source, token: usize) -> Result<(), AllocError> {
     let sort = put_introduced(message, source, token)?;
     if sort.is_none() {
         put_quoted(message, source, token)?;
@@ -225,10 +219,7 @@ fn wrong_recurrence(
 
 /// Whether the program has an input.
 fn has_input(source: &Source) -> bool {
-    source
-        .spans
-        .iter()
-        .any(|span| source.kind(span.first) == Kind::Word(Keyword::Input))
+    source.spans.iter().any(|span| source.kind(span.first) == Kind::Word(Keyword::Input))
 }
 
 fn no_ends(message: &mut Vec<u8>, source: &Source) -> Result<(), AllocError> {

@@ -3,9 +3,9 @@
 ghost use Rattle.std.specs.Prelude.{◌≤◌, length};
 
 use crate::pieces::put_quoted;
-use pr_lens_text::put;
 use pr_lang::{Kind, Symbol};
 use pr_lens_find::{Expected, Source, expected_at};
+use pr_lens_text::put;
 use std::alloc::{AllocError, Global};
 
 /// Whether all of these symbols may stand.
@@ -113,11 +113,13 @@ fn put_bad(message: &mut Vec<u8>, source: &Source, token: usize) -> Result<(), A
                 return put(message, "Behind `0x` a hexadecimal digit has to follow.\n");
             }
             if is_number {
-                return put(message, 
+                return put(
+                    message,
                     "This is no number: a letter follows its digits directly, or it is above 18446744073709551615.\n",
                 );
             }
-            put(message, 
+            put(
+                message,
                 "No token begins with this byte. Beside blanks and comments, which begin with `//`, a text has names, numbers, words and symbols in ASCII alone.\n",
             )
         }
@@ -127,10 +129,16 @@ fn put_bad(message: &mut Vec<u8>, source: &Source, token: usize) -> Result<(), A
 /// Whether what is meant is a token that is missing before this one.
 fn put_advice(message: &mut Vec<u8>, expected: &Expected, kind: Kind) -> Result<(), AllocError> {
     if has(expected, Symbol::Semi) && kind != Kind::Mark(Symbol::Assign) {
-        return put(message, "Perhaps a `;` or an operator is missing before it.\n");
+        return put(
+            message,
+            "Perhaps a `;` or an operator is missing before it.\n",
+        );
     }
     if matches!(kind, Kind::Word(_)) && expected.name {
-        return put(message, "A word of the language is no name: choose another one.\n");
+        return put(
+            message,
+            "A word of the language is no name: choose another one.\n",
+        );
     }
     Ok(())
 }
