@@ -1,5 +1,5 @@
 -- How many samples go through in how many cycles, for v stages on p stripes.
-use Rattle.std.specs.Prelude.{ℕ, ◌+◌, ◌-◌, ◌≡◌, ◌≤◌, ◌&&◌, Bool, nat_le, if◌then◌else◌, List, [], ◌∷◌}
+use Rattle.std.specs.Prelude.{ℕ, ◌+◌, ◌-◌, ◌≡◌, nat_le, if◌then◌else◌, List, [], ◌∷◌}
 use Rattle.pr_control.specs.Counts.{cycles_of}
 use Rattle.pr_lens_cost.specs.declared.cycles.Rate.{Rate}
 use Rattle.pr_lens_cost.specs.declared.cycles.Row.{Row}
@@ -10,10 +10,6 @@ rate_of v p = if nat_le v p then record { samples = 1; cycles = 1 } else record 
 -- as many samples more as the rate says take as many cycles more
 abbrev pub TakesTheRate : ℕ → ℕ → ℕ → Type 0
 TakesTheRate v p n = cycles_of v p (n + (rate_of v p).samples) ≡ cycles_of v p n + (rate_of v p).cycles
-
--- a machine may have so many stripes
-abbrev pub may_be_stripes : ℕ → Bool
-may_be_stripes p = nat_le 2 p && nat_le p 256
 
 -- the line of so many stripes, for n samples
 abbrev pub row_of : ℕ → ℕ → ℕ → Row

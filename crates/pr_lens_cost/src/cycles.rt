@@ -1,7 +1,6 @@
 //! How long runs take: samples by cycles, and the cycles of so many samples.
 
-ghost use Rattle.std.specs.Prelude.{◌≡◌, ◌≤◌, ◌<◌, ◌^◌, ℕ, true, map, IfOk};
-ghost use Rattle.std.specs.List.{list_all};
+ghost use Rattle.std.specs.Prelude.{◌≡◌, ◌≤◌, ◌<◌, ◌^◌, ℕ, map, IfOk};
 ghost use Rattle.pr_control.specs.Counts as counts;
 ghost use Rattle.pr_lens_cost.specs.Rates as rates;
 
@@ -65,7 +64,8 @@ pub struct Row {
 fn row_of(stages: u64, samples: u64, stripes: u64) -> Row
     requires stages { stages ≤ 32768 }
     requires samples { samples ≤ 2 ^ 40 }
-    requires stripes { rates.may_be_stripes stripes ≡ true }
+    requires least { 2 ≤ stripes }
+    requires greatest { stripes ≤ 256 }
     ensures { result ≡ rates.row_of stages samples stripes }
 {
     Row {
@@ -75,32 +75,24 @@ fn row_of(stages: u64, samples: u64, stripes: u64) -> Row
     }
 }
 
-fn rows_on(
-    alloc: Global,
-    stages: u64,
-    samples: u64,
-    stripes: &[u64],
-) -> Result<Vec<Row>, AllocError>
-    requires stages { stages ≤ 32768 }
-    requires samples { samples ≤ 2 ^ 40 }
-    requires stripes { list_all rates.may_be_stripes stripes.now ≡ true }
-    ensures { IfOk result (λ rows. rows.items ≡ map (rates.row_of stages samples) stripes.now) }
-{
-    let mut rows = Vec::new(alloc);
-    for count in stripes {
-        rows.push(row_of(stages, samples, *count))?;
-    }
-    Ok(rows)
-}
-
 /// How long a run of so many samples through so many stages takes, by stripes.
 pub fn rows_of(alloc: Global, stages: u64, samples: u64) -> Result<Vec<Row>, AllocError>
     requires stages { stages ≤ 32768 }
     requires samples { samples ≤ 2 ^ 40 }
     ensures { IfOk result (λ rows. rows.items ≡ map (rates.row_of stages samples) rates.told_stripes) }
 {
-    let stripes: [u64; 10] = [2, 3, 4, 7, 8, 16, 32, 64, 128, 256];
-    rows_on(alloc, stages, samples, &stripes)
+    vec![in alloc;
+        row_of(stages, samples, 2),
+        row_of(stages, samples, 3),
+        row_of(stages, samples, 4),
+        row_of(stages, samples, 7),
+        row_of(stages, samples, 8),
+        row_of(stages, samples, 16),
+        row_of(stages, samples, 32),
+        row_of(stages, samples, 64),
+        row_of(stages, samples, 128),
+        row_of(stages, samples, 256),
+    ]
 }
 
 /// The rate is that of the cycles: so many samples more take so many cycles more.

@@ -1,8 +1,5 @@
 -- What an explanation says.
-use Rattle.std.specs.Prelude.{ℕ, ◌≡◌, ◌≤◌, Bool, List, length, min, max, ⊤}
-use Rattle.std.specs.List.{slice_get}
-use Rattle.std.specs.Option.{option_map_or}
-use Rattle.pr_lang.specs.declared.tokens.Token.{Token}
+use Rattle.std.specs.Prelude.{ℕ, ◌≡◌, ◌≤◌, Bool, List, length, max, ⊤}
 use Rattle.pr_lang.specs.Tokens.{tokens_of}
 use Rattle.pr_conf.specs.Shape.{Shape}
 use Rattle.pr_compile.specs.Configured.{IsCompiled}

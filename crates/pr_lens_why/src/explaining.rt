@@ -1,8 +1,7 @@
 //! Explanations of refusals.
 
-ghost use Rattle.std.specs.Prelude.{◌≡◌, ◌≤◌, ℕ, length, IfOk};
+ghost use Rattle.std.specs.Prelude.{◌≡◌, ◌≤◌, length, IfOk};
 ghost use Rattle.pr_lang.specs.Tokens.{tokens_of};
-ghost use Rattle.pr_compile.specs.declared.faults.CompileFault.{CompileFault};
 ghost use Rattle.pr_compile.specs.Refusals.{IsCompileAnswer};
 ghost use Rattle.pr_lens_why.specs.Verdicts.{IsVerdict, IsPointing, PointsRight};
 
