@@ -81,7 +81,7 @@ pub fn rows_of(alloc: Global, stages: u64, samples: u64) -> Result<Vec<Row>, All
     requires samples { samples ≤ 2 ^ 40 }
     ensures { IfOk result (λ rows. rows.items ≡ map (rates.row_of stages samples) rates.told_stripes) }
 {
-    vec![in alloc;
+    let rows = vec![in alloc;
         row_of(stages, samples, 2),
         row_of(stages, samples, 3),
         row_of(stages, samples, 4),
@@ -92,7 +92,8 @@ pub fn rows_of(alloc: Global, stages: u64, samples: u64) -> Result<Vec<Row>, All
         row_of(stages, samples, 64),
         row_of(stages, samples, 128),
         row_of(stages, samples, 256),
-    ]
+    ]?;
+    Ok(rows)
 }
 
 /// The rate is that of the cycles: so many samples more take so many cycles more.
