@@ -37,8 +37,8 @@ fn all_of(alloc: Global, parts: Vec<Expr>) -> Result<Expr, AllocError> {
     Ok(all)
 }
 
-/// An expression in which a constant expression is walked, and nothing else: bit 0 of 0, so that it has a width whatever the
-/// number is.
+/// An expression in which a constant expression is walked, and nothing else: bit 0 of 0, so that it has a width
+/// whatever the number is.
 fn holding(alloc: Global, value: Fixed) -> Result<Expr, AllocError> {
     let zero = Box::new(alloc, NOTHING)?;
     let high = times(alloc, value, Fixed::Number(0))?;
@@ -200,8 +200,8 @@ fn exprs(alloc: Global, left: &mut Left, parts: &[Expr]) -> Result<Vec<Expr>, Al
     Ok(kept)
 }
 
-/// As much as is left of the expression that a statement or an item assigns. Of one that is not kept whole it is the lowest
-/// bit, so that a declared width is not that of an operator inside.
+/// As much as is left of the expression that a statement or an item assigns. Of one that is not kept whole it is the
+/// lowest bit, so that a declared width is not that of an operator inside.
 pub fn assigned(alloc: Global, left: &mut Left, value: &Expr) -> Result<Expr, AllocError> {
     if left.is_out() {
         return Ok(NOTHING);

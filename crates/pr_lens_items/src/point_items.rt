@@ -1,8 +1,8 @@
 //! The points of items.
 
 use crate::point_expressions::{expr, fixed, later};
-use crate::points::Points;
 use crate::point_statements::{frame, stmt, stmts, width};
+use crate::points::Points;
 use pr_lang::{Expr, Fixed, Item, Param, Stmt};
 use std::alloc::{AllocError, Global};
 
