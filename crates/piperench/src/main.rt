@@ -1,7 +1,7 @@
 //! The program: the system's words, files and streams, put through the tool.
 #![tactic(auto)]
 
-ghost use Rattle.std.specs.Prelude.{◌≡◌, MatchResult, IfOk, Some, []};
+ghost use Rattle.std.specs.Prelude.{◌≡◌, MatchResult, IfOk, None, Some, []};
 ghost use Rattle.pr_edge.specs.SureSink.{bytes_of, told_of};
 ghost use Rattle.pr_tool.specs.Noted.{GainsNote};
 ghost use Rattle.pr_tool.specs.Notes.{note_of};
@@ -35,7 +35,9 @@ fn call<R: Files + Print + AllocGlobal>(
     words: &[String],
 ) -> Result<(Answer, SureSink), Answer>
     // The note that is held back is the line of the answer.
-    ensures { IfOk result (λ r. GainsNote (record { bytes = Some []; keeps = 128 }) (told_of r.1) 0 0 (note_of (bounds_in (asked_by words.now)) r.0)) }
+    ensures { IfOk result
+        (λ r. GainsNote (record { bytes = Some []; keeps = 128 }) (told_of r.1) 0 0
+        (note_of (bounds_in (asked_by words.now)) r.0)) }
 {
     let alloc = rt.alloc();
     let Ok(mut note) = SureSink::make(alloc, NOTE) else {
@@ -61,8 +63,10 @@ fn report<E: Sink>(called: Result<(Answer, SureSink), Answer>, stderr: &mut E) -
 
     // The line that was held back, or that of the answer, is written, up to a write that fails.
     ensures note { MatchResult called
-        (λ r. GainsNote (E.told stderr.old) (E.told stderr.new) (E.faults stderr.old) (E.faults stderr.new) (bytes_of r.1))
-        (λ a. GainsNote (E.told stderr.old) (E.told stderr.new) (E.faults stderr.old) (E.faults stderr.new) (note_of (record { input_bytes = 16; sample_bytes = 17592186044416 }) a)) }
+        (λ r. GainsNote (E.told stderr.old) (E.told stderr.new) (E.faults stderr.old) (E.faults stderr.new)
+        (bytes_of r.1))
+        (λ a. GainsNote (E.told stderr.old) (E.told stderr.new) (E.faults stderr.old) (E.faults stderr.new)
+        (note_of (bounds_in None) a)) }
 {
     match called {
         Ok((answer, note)) => {

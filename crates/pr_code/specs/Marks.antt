@@ -1,7 +1,8 @@
 -- Checkpoints: a count of samples before a configuration in format 2.
 use Rattle.std.specs.Prelude.{◌≡◌, ◌≤◌, ℕ, ◌+◌, ◌*◌, ◌/◌, ◌%◌, ◌^◌, ◌==◌, true, nat_le, List, [], ◌∷◌, ◌++◌, drop, slice_index, Option, None}
 use Rattle.pr_conf.specs.Shape.{Shape}
-use Rattle.pr_code.specs.Spelling.{format_2, bytes_of_words, words_of, are_widths_within}
+use Rattle.pr_conf.specs.Rules.{IsLawful}
+use Rattle.pr_code.specs.Spelling.{format_2, bytes_of_words, words_of, are_widths_within, has_bytes}
 use Rattle.pr_code.specs.Reading.{words_of_bytes, shape_in}
 use Rattle.pr_code.specs.Rules.{Rule, Broken, demand, first_broken, or_else, bad_from}
 
@@ -40,3 +41,7 @@ pub record IsMark (N P count : ℕ) (c : Shape) (bytes : List ℕ) : Type 0 wher
   pub count_fits : count ≤ 2 ^ 40
   pub widths : are_widths_within 128 c ≡ true
   pub spelled : bytes ≡ mark_of N P count c
+
+-- a file of some checkpoint
+abbrev pub IsSomeMark : ℕ → ℕ → List ℕ → Type 0
+IsSomeMark N P bytes = (n : ℕ) × ((c : Shape) × IsLawful N P c × (has_bytes c ≡ true) × IsMark N P n c bytes)

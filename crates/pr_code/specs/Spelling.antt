@@ -10,6 +10,7 @@ use Rattle.pr_conf.specs.declared.pes.Bit.{Bit}
 use Rattle.pr_conf.specs.declared.pes.Pe.{Pe}
 use Rattle.pr_conf.specs.declared.outputs.Tap.{Tap}
 use Rattle.pr_conf.specs.Shape.{OutputShape, Shape}
+use Rattle.pr_conf.specs.Rules.{IsLawful}
 use Rattle.pr_code.specs.declared.formats.Format.{Format}
 
 -- the bytes of words
@@ -172,6 +173,10 @@ have_tap_bytes output = list_all has_tap_byte output.taps
 -- what a shape of numbers keeps that is the shape of a configuration, whose constants are bytes
 abbrev pub has_bytes : Shape → Bool
 has_bytes c = list_all have_tap_bytes c.outputs && list_all (list_all has_pe_bytes) c.stages
+
+-- a file of some configuration
+abbrev pub IsSomeFile : ℕ → ℕ → List ℕ → Type 0
+IsSomeFile N P bytes = (c : Shape) × IsLawful N P c × (has_bytes c ≡ true) × IsFile N P c bytes
 
 -- the place of C's bit fits its field
 unfoldable pub has_small_choice : Pe → Bool

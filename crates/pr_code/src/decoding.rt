@@ -59,7 +59,8 @@ fn configuration_at<const N: usize, const P: usize>(
     requires most_columns { N ≤ 64 }
     requires registers { 2 ≤ P }
     requires most_registers { P ≤ 16 }
-    ensures { Reads result (bad_from format N P place bytes.now) (λ c. shape_of c ≡ shape_in format.packed N (drop place (words_of_bytes bytes.now))) }
+    ensures { Reads result (bad_from format N P place bytes.now)
+        (λ c. shape_of c ≡ shape_in format.packed N (drop place (words_of_bytes bytes.now))) }
 {
     let count = head_at::<N, P>(bytes, place, format)? as usize;
     let inputs = inputs_at(alloc, bytes, place + 3, format, N)?;

@@ -99,7 +99,8 @@ fn put_inputs(out: &mut Vec<u8>, widths: &[u8]) -> Result<(), AllocError>
 /// Appends the outputs, their number first.
 fn put_outputs(out: &mut Vec<u8>, outputs: &[Output]) -> Result<(), AllocError>
     requires { length outputs.now < 2 ^ 32 }
-    ensures words { OnOk result (out.new.items ≡ out.old.items ++ bytes_of_words (length outputs.now ∷ flat_map output_words (map output_shape outputs.now))) }
+    ensures words { OnOk result (out.new.items
+        ≡ out.old.items ++ bytes_of_words (length outputs.now ∷ flat_map output_words (map output_shape outputs.now))) }
     ensures bytes { OnOk result (list_all have_tap_bytes (map output_shape outputs.now) ≡ true) }
 {
     put_word(out, outputs.len() as u32)?;
@@ -126,7 +127,8 @@ fn put_stage<const N: usize>(out: &mut Vec<u8>, stage: &Stage<N>) -> Result<(), 
 fn put_stages<const N: usize>(out: &mut Vec<u8>, stages: &[Stage<N>]) -> Result<(), AllocError>
     requires few { N ≤ 64 }
     requires choices { list_all (list_all has_small_choice) (map pes_of stages.now) ≡ true }
-    ensures words { OnOk result (out.new.items ≡ out.old.items ++ bytes_of_words (flat_map (stage_words true N) (map pes_of stages.now))) }
+    ensures words { OnOk result (out.new.items
+        ≡ out.old.items ++ bytes_of_words (flat_map (stage_words true N) (map pes_of stages.now))) }
     ensures bytes { OnOk result (list_all (list_all has_pe_bytes) (map pes_of stages.now) ≡ true) }
 {
     for stage in stages {

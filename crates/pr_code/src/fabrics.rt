@@ -3,14 +3,7 @@
 ghost use Rattle.std.specs.Prelude.{◌≡◌, ◌↔◌};
 ghost use Rattle.pr_code.specs.Fabrics.{second_word, wide_word};
 
-/// A fabric of the product.
-#[derive(Clone, Copy, PartialEq, Eq, Debug)]
-pub enum Fabric {
-    /// 16 columns of 8 registers.
-    Base,
-    /// 32 columns of 16 registers.
-    Wide,
-}
+use pr_base::Fabric;
 
 /// The fabric that a file's second word names: the wide one where it says 32 columns and 16 registers, and else the
 /// base one.

@@ -12,13 +12,11 @@ mod parts;
 mod reading;
 mod spelled;
 mod stages;
-#[cfg(test)]
-mod tests;
 mod words;
 
 pub use decoding::{decode, read_mark};
 pub use encoding::encode;
-pub use fabrics::{Fabric, fabric_of};
+pub use fabrics::fabric_of;
 pub use faults::CodeFault;
 pub use laws::{files_law, marks_law};
 pub use marking::write_mark;

@@ -19,7 +19,8 @@ use std::alloc::Global;
 pub fn count_at(bytes: &[u8], place: usize, most: u32) -> Result<u32, CodeFault>
     requires { place < 2 ^ 30 }
     ensures { let words = drop place (words_of_bytes bytes.now) in
-        Reads result (first_broken (count_rule most ∷ []) place words) (λ n. (words ≡ n ∷ drop (place + 1) (words_of_bytes bytes.now)) × (n ≤ most)) }
+        Reads result (first_broken (count_rule most ∷ []) place words)
+        (λ n. (words ≡ n ∷ drop (place + 1) (words_of_bytes bytes.now)) × (n ≤ most)) }
 {
     let word = word_at(bytes, place)?;
     demand(0 < word && word <= most, 4, place)?;
@@ -40,7 +41,8 @@ fn widths_at(
     requires widest { widest ≤ 128 }
     requires columns { columns ≤ 64 }
     ensures { let words = drop place (words_of_bytes bytes.now) in
-        Reads result (first_broken (width_rules widest columns count 0 words) place words) (λ widths. (widths.items ≡ take count words) × (vec_len widths ≡ count)) }
+        Reads result (first_broken (width_rules widest columns count 0 words) place words)
+        (λ widths. (widths.items ≡ take count words) × (vec_len widths ≡ count)) }
 {
     let mut widths = Vec::new(alloc);
     let mut used = 0;
@@ -67,7 +69,8 @@ fn taps_at(
     requires place { place < 2 ^ 20 }
     requires count { count ≤ 16 }
     ensures { let words = drop place (words_of_bytes bytes.now) in
-        Reads result (first_broken (replicate count (tap_rule columns registers)) place words) (λ taps. (taps.items ≡ map tap_of (take count words)) × (vec_len taps ≡ count)) }
+        Reads result (first_broken (replicate count (tap_rule columns registers)) place words)
+        (λ taps. (taps.items ≡ map tap_of (take count words)) × (vec_len taps ≡ count)) }
 {
     let mut taps = Vec::new(alloc);
     let mut at = place;
@@ -80,22 +83,32 @@ fn taps_at(
     Ok(taps)
 }
 
-/// An output: its width, and a tap for each byte.
-fn output_at(
-    alloc: Global,
-    bytes: &[u8],
-    place: usize,
+/// The greatest width of an output, and the columns and registers that its taps can read.
+#[derive(Clone, Copy)]
+struct Bounds {
     widest: u32,
     columns: usize,
     registers: usize,
-) -> Result<Output, CodeFault>
+}
+
+/// An output: its width, and a tap for each byte.
+fn output_at(alloc: Global, bytes: &[u8], place: usize, bounds: Bounds) -> Result<Output, CodeFault>
     requires place { place < 2 ^ 19 }
-    requires widest { widest ≤ 128 }
+    requires widest { bounds.widest ≤ 128 }
     ensures { let words = drop place (words_of_bytes bytes.now) in
-        Reads result (first_broken (output_rules widest columns registers words) place words) (λ output. (output_shape output ≡ output_of words) × (1 + vec_len output.taps ≡ output_length words) × (vec_len output.taps ≤ 16)) }
+        Reads result (first_broken (output_rules bounds.widest bounds.columns bounds.registers words) place words)
+        (λ output. (output_shape output ≡ output_of words)
+        × (1 + vec_len output.taps ≡ output_length words) × (vec_len output.taps ≤ 16)) }
 {
-    let width = count_at(bytes, place, widest)? as u8;
-    let taps = taps_at(alloc, bytes, place + 1, slices(width), columns, registers)?;
+    let width = count_at(bytes, place, bounds.widest)? as u8;
+    let taps = taps_at(
+        alloc,
+        bytes,
+        place + 1,
+        slices(width),
+        bounds.columns,
+        bounds.registers,
+    )?;
     Ok(Output { width, taps })
 }
 
@@ -105,21 +118,20 @@ fn outputs_at(
     bytes: &[u8],
     place: usize,
     count: usize,
-    widest: u32,
-    columns: usize,
-    registers: usize,
+    bounds: Bounds,
 ) -> Result<(Vec<Output>, usize), CodeFault>
     requires place { place < 2 ^ 18 }
     requires count { count ≤ 64 }
-    requires widest { widest ≤ 128 }
+    requires widest { bounds.widest ≤ 128 }
     ensures { let words = drop place (words_of_bytes bytes.now) in
-        Reads result (first_broken (outputs_rules widest columns registers count words) place words)
-        (λ found. (map output_shape found.0.items ≡ outputs_of count words) × (found.1 ≡ place + outputs_length count words) × (found.1 ≤ place + 17 * count)) }
+        Reads result (first_broken (outputs_rules bounds.widest bounds.columns bounds.registers count words) place words)
+        (λ found. (map output_shape found.0.items ≡ outputs_of count words)
+        × (found.1 ≡ place + outputs_length count words) × (found.1 ≤ place + 17 * count)) }
 {
     let mut outputs = Vec::new(alloc);
     let mut at = place;
     for _ in 0..count {
-        let output = output_at(alloc, bytes, at, widest, columns, registers)?;
+        let output = output_at(alloc, bytes, at, bounds)?;
         at += 1 + output.taps.len();
         outputs.push(output)?;
     }
@@ -138,7 +150,9 @@ pub fn inputs_at(
     requires widest { format.widest ≤ 128 }
     requires columns { columns ≤ 64 }
     ensures { let words = drop place (words_of_bytes bytes.now) in
-        Reads result (first_broken (input_rules format columns words) place words) (λ widths. (widths.items ≡ take (slice_index words 0) (drop 1 words)) × (vec_len widths ≡ slice_index words 0) × (slice_index words 0 ≤ 64)) }
+        Reads result (first_broken (input_rules format columns words) place words)
+        (λ widths. (widths.items ≡ take (slice_index words 0) (drop 1 words))
+        × (vec_len widths ≡ slice_index words 0) × (slice_index words 0 ≤ 64)) }
 {
     let count = count_at(bytes, place, columns as u32)? as usize;
     widths_at(alloc, bytes, place + 1, count, format.widest, columns)
@@ -158,16 +172,14 @@ pub fn all_outputs_at(
     ensures { let words = drop place (words_of_bytes bytes.now) in
         let count = slice_index words 0 in
         Reads result (first_broken (all_output_rules format columns registers words) place words)
-        (λ found. (map output_shape found.0.items ≡ outputs_of count (drop 1 words)) × (found.1 ≡ place + (1 + outputs_length count (drop 1 words))) × (found.1 ≤ place + 1089)) }
+        (λ found. (map output_shape found.0.items ≡ outputs_of count (drop 1 words))
+        × (found.1 ≡ place + (1 + outputs_length count (drop 1 words))) × (found.1 ≤ place + 1089)) }
 {
     let count = count_at(bytes, place, 64)? as usize;
-    outputs_at(
-        alloc,
-        bytes,
-        place + 1,
-        count,
-        format.widest,
+    let bounds = Bounds {
+        widest: format.widest,
         columns,
         registers,
-    )
+    };
+    outputs_at(alloc, bytes, place + 1, count, bounds)
 }

@@ -17,7 +17,8 @@ use std::alloc::Global;
 fn sources_at(bytes: &[u8], place: usize, site: Site) -> Result<u32, CodeFault>
     requires { place < 2 ^ 31 }
     ensures { let words = drop place (words_of_bytes bytes.now) in
-        Reads result (first_broken (sources_rule site ∷ []) place words) (λ w. words ≡ w ∷ drop (place + 1) (words_of_bytes bytes.now)) }
+        Reads result (first_broken (sources_rule site ∷ []) place words)
+        (λ w. words ≡ w ∷ drop (place + 1) (words_of_bytes bytes.now)) }
 {
     let word = word_at(bytes, place)?;
     demand(are_sources(word, site), 6, place)?;
@@ -28,7 +29,8 @@ fn sources_at(bytes: &[u8], place: usize, site: Site) -> Result<u32, CodeFault>
 fn choice_at(bytes: &[u8], place: usize, second: u32) -> Result<u32, CodeFault>
     requires { place < 2 ^ 31 }
     ensures { let words = drop place (words_of_bytes bytes.now) in
-        Reads result (first_broken (choice_rule second ∷ []) place words) (λ w. words ≡ w ∷ drop (place + 1) (words_of_bytes bytes.now)) }
+        Reads result (first_broken (choice_rule second ∷ []) place words)
+        (λ w. words ≡ w ∷ drop (place + 1) (words_of_bytes bytes.now)) }
 {
     let word = word_at(bytes, place)?;
     demand(is_choice_of_c(second, word), 6, place)?;
@@ -45,7 +47,9 @@ fn last_at(
 ) -> Result<u32, CodeFault>
     requires { place < 2 ^ 31 }
     ensures { let words = drop place (words_of_bytes bytes.now) in
-        Reads result (first_broken (last_rule packed site (slice_index before 0) (slice_index before 1) (slice_index before 2) ∷ []) place words) (λ w. words ≡ w ∷ drop (place + 1) (words_of_bytes bytes.now)) }
+        let rule = last_rule packed site (slice_index before 0) (slice_index before 1) (slice_index before 2) in
+        Reads result (first_broken (rule ∷ []) place words)
+        (λ w. words ≡ w ∷ drop (place + 1) (words_of_bytes bytes.now)) }
 {
     let word = word_at(bytes, place)?;
     demand(are_choices(site, before[2], word), 6, place)?;
@@ -80,7 +84,8 @@ fn column_at(
 ) -> Result<(Pe, usize), CodeFault>
     requires { place < 2 ^ 30 }
     ensures { let words = drop place (words_of_bytes bytes.now) in
-        Reads result (first_broken (column_rules packed site stands words) place words) (λ found. (found.0 ≡ column_of stands words) × (found.1 ≡ place + column_length stands)) }
+        Reads result (first_broken (column_rules packed site stands words) place words)
+        (λ found. (found.0 ≡ column_of stands words) × (found.1 ≡ place + column_length stands)) }
 {
     if !stands {
         return Ok((pe_from(0, 0, 0, 0), place));
@@ -104,7 +109,8 @@ fn pes_at(
     ensures { let words = drop place (words_of_bytes bytes.now) in
         let flags = flags_of site.columns marks in
         Reads result (first_broken (pes_rules packed site flags words) place words)
-        (λ found. (found.0.items ≡ pes_from_words flags words) × (vec_len found.0 ≡ site.columns) × (found.1 ≡ place + pes_length flags) × (found.1 ≤ place + 4 * site.columns)) }
+        (λ found. (found.0.items ≡ pes_from_words flags words) × (vec_len found.0 ≡ site.columns)
+        × (found.1 ≡ place + pes_length flags) × (found.1 ≤ place + 4 * site.columns)) }
 {
     let mut pes = Vec::with_capacity(alloc, site.columns)?;
     let mut here = site;
@@ -159,7 +165,9 @@ fn marks_at(
     requires place { place < 2 ^ 29 }
     requires columns { columns ≤ 64 }
     ensures { let words = drop place (words_of_bytes bytes.now) in
-        Reads result (first_broken (before_rules packed columns) place words) (λ found. (flags_of columns found.0 ≡ stage_flags packed columns words) × (found.1 ≡ place + before_pes packed columns)) }
+        Reads result (first_broken (before_rules packed columns) place words)
+        (λ found. (flags_of columns found.0 ≡ stage_flags packed columns words)
+        × (found.1 ≡ place + before_pes packed columns)) }
 {
     if !packed {
         return Ok((u64::MAX, place));
@@ -183,7 +191,8 @@ fn stage_at<const N: usize>(
     requires col { site.col ≡ 0 }
     ensures { let words = drop place (words_of_bytes bytes.now) in
         Reads result (first_broken (stage_rules packed N site words) place words)
-        (λ found. (pes_of found.0 ≡ stage_of packed N words) × (found.1 ≡ place + stage_length packed N words) × (found.1 ≤ place + 258)) }
+        (λ found. (pes_of found.0 ≡ stage_of packed N words)
+        × (found.1 ≡ place + stage_length packed N words) × (found.1 ≤ place + 258)) }
 {
     let (marks, next) = marks_at(bytes, place, N, packed)?;
     let (pes, end) = pes_at(alloc, bytes, next, site, packed, marks)?;
@@ -204,7 +213,8 @@ pub fn stages_at<const N: usize, const P: usize>(
     requires columns { N ≤ 64 }
     ensures { let words = drop place (words_of_bytes bytes.now) in
         Reads result (first_broken (stages_rules packed N P bus 0 count words) place words)
-        (λ found. (map pes_of found.0.items ≡ stages_of packed N count words) × (vec_len found.0 ≡ count) × (found.1 ≡ place + stages_length packed N count words) × (found.1 < 2 ^ 30)) }
+        (λ found. (map pes_of found.0.items ≡ stages_of packed N count words) × (vec_len found.0 ≡ count)
+        × (found.1 ≡ place + stages_length packed N count words) × (found.1 < 2 ^ 30)) }
 {
     let mut stages = Vec::new(alloc);
     let mut at = place;

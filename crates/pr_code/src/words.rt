@@ -33,7 +33,9 @@ pub fn put_words(out: &mut Vec<u8>, words: &[u32]) -> Result<(), AllocError>
 /// The word at a place.
 pub fn word_at(bytes: &[u8], place: usize) -> Result<u32, CodeFault>
     requires { place < 2 ^ 31 }
-    ensures { MatchResult result (λ w. drop place (words_of_bytes bytes.now) ≡ w ∷ drop (place + 1) (words_of_bytes bytes.now)) (λ e. (drop place (words_of_bytes bytes.now) ≡ []) × (e ≡ BadConfig 1 place)) }
+    ensures { let words = drop place (words_of_bytes bytes.now) in
+        MatchResult result (λ w. words ≡ w ∷ drop (place + 1) (words_of_bytes bytes.now))
+        (λ e. (words ≡ []) × (e ≡ BadConfig 1 place)) }
 {
     let at = 4 * place;
     if bytes.len() < at + 4 {

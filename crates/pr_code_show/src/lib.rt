@@ -4,7 +4,5 @@
 mod counts;
 mod lines;
 mod summary;
-#[cfg(test)]
-mod tests;
 
 pub use summary::show;

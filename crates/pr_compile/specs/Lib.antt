@@ -2,3 +2,4 @@ pub mod Configured
 pub mod Refusals
 pub mod Faults
 pub mod Meant
+pub mod Laws

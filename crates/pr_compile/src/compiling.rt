@@ -42,9 +42,12 @@ pub fn configure<const N: usize, const P: usize>(
     requires most_columns { N ≤ 64 }
     requires registers { 2 ≤ P }
     requires most_registers { P ≤ 16 }
-    ensures configured { IfOk result (λ c. IsConfigured N P (shapes_of flat.now.equations.items) widths.now flat.now.outputs.items (shape_of c.conf)) }
-    ensures units { IfOk result (λ c. c.units ≡ length (net_of (shapes_of flat.now.equations.items) widths.now flat.now.outputs.items).units) }
-    ensures refused { IfErr result (IsNetAnswer N P (net_of (shapes_of flat.now.equations.items) widths.now flat.now.outputs.items)) }
+    ensures configured { let equations = shapes_of flat.now.equations.items in
+        IfOk result (λ c. IsConfigured N P equations widths.now flat.now.outputs.items (shape_of c.conf)) }
+    ensures units { let net = net_of (shapes_of flat.now.equations.items) widths.now flat.now.outputs.items in
+        IfOk result (λ c. c.units ≡ length net.units) }
+    ensures refused { let net = net_of (shapes_of flat.now.equations.items) widths.now flat.now.outputs.items in
+        IfErr result (IsNetAnswer N P net) }
 {
     let net = cut(alloc, flat, widths, N)?;
     let placement = place::<N, P>(alloc, &net)?;
@@ -68,7 +71,8 @@ pub fn compile_front<const N: usize, const P: usize>(
     requires most_columns { N ≤ 64 }
     requires registers { 2 ≤ P }
     requires most_registers { P ≤ 16 }
-    ensures configured { IfOk result (λ c. IsConfiguredBy N P narrowed front.now.scoped.program front.now.widths (shape_of c.conf)) }
+    ensures configured { let program = front.now.scoped.program in
+        IfOk result (λ c. IsConfiguredBy N P narrowed program front.now.widths (shape_of c.conf)) }
     ensures units { IfOk result (λ c. HasUnitsBy narrowed front.now.scoped.program front.now.widths c.units) }
     ensures refused { IfErr result (IsFrontAnswer N P narrowed front.now.scoped.program front.now.widths) }
 {

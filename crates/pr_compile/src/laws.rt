@@ -11,8 +11,8 @@ ghost use Rattle.pr_cut_units.specs.Nets.{net_of};
 ghost use Rattle.pr_conf.specs.Rules.{IsLawful};
 ghost use Rattle.pr_conf.specs.Shape.{Shape};
 ghost use Rattle.pr_compile_front.specs.Refusals.{HasWidths};
-ghost use Rattle.pr_compile.specs.declared.faults.CompileFault.{CompileFault};
 ghost use Rattle.pr_compile.specs.Configured.{AreReady, IsConfigured, IsConfiguredBy, HasUnitsBy, IsCompiled, HasUnits};
+ghost use Rattle.pr_compile.specs.Laws.{AtMostOne, NeverBoth};
 ghost use Rattle.pr_compile.specs.Meant.{IsMeant};
 ghost use Rattle.pr_compile.specs.Refusals.{IsNetRefusal, IsRefused};
 
@@ -21,10 +21,15 @@ ghost use Rattle.pr_compile.specs.Refusals.{IsNetRefusal, IsRefused};
 /// the program's, the outputs are as wide as its streams, and the results are its rows, as numbers and as bytes, for every
 /// list of lawful samples. Narrowed equations take no more units.
 pub fn meaning_law()
-    ensures lawful { (N P : ℕ) (equations : List EquationShape) (widths : List ℕ) (outputs : List Operand) (conf : Shape) → 1 ≤ N → N ≤ 64 → 2 ≤ P → P ≤ 16 → IsConfigured N P equations widths outputs conf → IsLawful N P conf }
-    ensures program { (N P : ℕ) (narrowed : Bool) (program : Program) (widths : List ℕ) (conf : Shape) → 2 ≤ P → offence program ≡ None → IsConfiguredBy N P narrowed program widths conf → IsMeant N P program conf }
-    ensures text { (N P : ℕ) (narrowed : Bool) (text : List ℕ) (program : Program) (widths : List ℕ) (conf : Shape) → 2 ≤ P → HasWidths text program widths → IsCompiled N P narrowed text conf → IsMeant N P program conf }
-    ensures units { (program : Program) (widths : List ℕ) (whole few : ℕ) → HasUnitsBy false program widths whole → HasUnitsBy true program widths few → few ≤ whole }
+    ensures lawful { (N P : ℕ) (equations : List EquationShape) (widths : List ℕ) (outputs : List Operand)
+        (conf : Shape) → 1 ≤ N → N ≤ 64 → 2 ≤ P → P ≤ 16 → IsConfigured N P equations widths outputs conf
+        → IsLawful N P conf }
+    ensures program { (N P : ℕ) (narrowed : Bool) (program : Program) (widths : List ℕ) (conf : Shape) → 2 ≤ P
+        → offence program ≡ None → IsConfiguredBy N P narrowed program widths conf → IsMeant N P program conf }
+    ensures text { (N P : ℕ) (narrowed : Bool) (text : List ℕ) (program : Program) (widths : List ℕ) (conf : Shape)
+        → 2 ≤ P → HasWidths text program widths → IsCompiled N P narrowed text conf → IsMeant N P program conf }
+    ensures units { (program : Program) (widths : List ℕ) (whole few : ℕ) → HasUnitsBy false program widths whole
+        → HasUnitsBy true program widths few → few ≤ whole }
     ensures fewer { (text : List ℕ) (whole few : ℕ) → HasUnits false text whole → HasUnits true text few → few ≤ whole }
 {}
 
@@ -32,12 +37,19 @@ pub fn meaning_law()
 /// configuration. The programs of a text have the same equations and widths, and one list of equations is ready in their
 /// place. So a text has one configuration at most, or one refusal, with its equations narrowed or as they are.
 pub fn answer_law()
-    ensures conf { (N P : ℕ) (equations : List EquationShape) (widths : List ℕ) (outputs : List Operand) (c d : Shape) → IsConfigured N P equations widths outputs c → IsConfigured N P equations widths outputs d → c ≡ d }
-    ensures net { (N P : ℕ) (net : NetShape) (e f : CompileFault) → IsNetRefusal N P net e → IsNetRefusal N P net f → e ≡ f }
-    ensures apart { (N P : ℕ) (equations : List EquationShape) (widths : List ℕ) (outputs : List Operand) (e : CompileFault) (conf : Shape) → IsNetRefusal N P (net_of equations widths outputs) e → IsConfigured N P equations widths outputs conf → ⊥ }
-    ensures same { (text : List ℕ) (p q : Program) (v w : List ℕ) → HasWidths text p v → HasWidths text q w → (equations_of p ≡ equations_of q) × (v ≡ w) }
-    ensures ready { (narrowed : Bool) (equations : List EquationShape) (outputs : List Operand) (widths : List ℕ) (es : List EquationShape) (v : List ℕ) (fs : List EquationShape) (w : List ℕ) → AreReady narrowed equations outputs widths es v → AreReady narrowed equations outputs widths fs w → (es ≡ fs) × (v ≡ w) }
-    ensures one { (N P : ℕ) (narrowed : Bool) (text : List ℕ) (e f : CompileFault) → IsRefused N P narrowed text e → IsRefused N P narrowed text f → e ≡ f }
-    ensures none { (N P : ℕ) (narrowed : Bool) (text : List ℕ) (e : CompileFault) (conf : Shape) → IsRefused N P narrowed text e → IsCompiled N P narrowed text conf → ⊥ }
-    ensures compiled { (N P : ℕ) (narrowed : Bool) (text : List ℕ) (c d : Shape) → IsCompiled N P narrowed text c → IsCompiled N P narrowed text d → c ≡ d }
+    ensures conf { (N P : ℕ) (equations : List EquationShape) (widths : List ℕ) (outputs : List Operand)
+        → AtMostOne (IsConfigured N P equations widths outputs) }
+    ensures net { (N P : ℕ) (net : NetShape) → AtMostOne (IsNetRefusal N P net) }
+    ensures apart { (N P : ℕ) (equations : List EquationShape) (widths : List ℕ) (outputs : List Operand)
+        → NeverBoth (IsNetRefusal N P (net_of equations widths outputs)) (IsConfigured N P equations widths outputs) }
+    ensures same { (text : List ℕ) (p q : Program) (v w : List ℕ) → HasWidths text p v → HasWidths text q w
+        → (equations_of p ≡ equations_of q) × (v ≡ w) }
+    ensures ready { (narrowed : Bool) (equations : List EquationShape) (outputs : List Operand) (widths : List ℕ)
+        (es : List EquationShape) (v : List ℕ) (fs : List EquationShape) (w : List ℕ)
+        → AreReady narrowed equations outputs widths es v → AreReady narrowed equations outputs widths fs w
+        → (es ≡ fs) × (v ≡ w) }
+    ensures one { (N P : ℕ) (narrowed : Bool) (text : List ℕ) → AtMostOne (IsRefused N P narrowed text) }
+    ensures none { (N P : ℕ) (narrowed : Bool) (text : List ℕ)
+        → NeverBoth (IsRefused N P narrowed text) (IsCompiled N P narrowed text) }
+    ensures compiled { (N P : ℕ) (narrowed : Bool) (text : List ℕ) → AtMostOne (IsCompiled N P narrowed text) }
 {}

@@ -9,7 +9,7 @@ use Rattle.pr_parse.specs.Outcomes.{IsRefused}
 use Rattle.pr_scope.specs.declared.checking.ScopeFault.{ScopeFault}
 use Rattle.pr_scope.specs.declared.checking.ScopeFault.TheVariants as scope
 use Rattle.pr_scope.specs.declared.checking.Scoped.{Scoped}
-use Rattle.pr_scope.specs.Walk.{IsRefusal as IsScopeRefusal, IsScoped, offence}
+use Rattle.pr_scope.specs.Walk.{IsRefusal as IsScopeRefusal, offence}
 use Rattle.pr_expand.specs.declared.flats.ExpandFault.{ExpandFault}
 use Rattle.pr_expand.specs.declared.flats.ExpandFault.TheVariants as expand
 use Rattle.pr_expand.specs.Worlds.{IsLimit as IsExpandLimit}
@@ -48,8 +48,8 @@ width_answer text program (width.Memory error) made is = tt
 pub at_exit : {T : Type 0} (text : List ℕ) (r : Result T FrontFault) (e : FrontFault) → (y : FrontFault) × (r ≡ Err y) × (y ≡ e) → IsAnswer text e → IfErr r (λ x. IsAnswer text x)
 at_exit text r e p is = rw (p.1, p.2) is
 
-pub kept_of : (text : List ℕ) (program : Program) (s : Scoped) → IsRead text program → IsScoped program s → IsKept text s.program
-kept_of text program s read scoped = subst (IsKept text) (sym scoped.1) (record { read = read; lawful = scoped.0 })
+pub kept_of : (text : List ℕ) (program : Program) (s : Scoped) → IsRead text program → s.program ≡ program → IsKept text s.program
+kept_of text program s read same = record { read = subst (IsRead text) (sym same) read; lawful = s.lawful }
 
 pub made_of : (text : List ℕ) (program : Program) (equations : List EquationShape) (outputs : List Operand) → IsKept text program → equations ≡ (equations_of program).equations → IsFlat equations outputs → IsMade text program
 made_of text program equations outputs kept same flat = record { kept = kept; few = omega (arith, flat.few, ap length same) }

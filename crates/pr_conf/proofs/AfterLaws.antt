@@ -1,11 +1,10 @@
 -- A configuration after some samples works on as the first one does.
-use Rattle.std.proofs.Common.{◌≡◌, ℕ, zero, suc, ◌+◌, ◌-◌, ◌<◌, ◌≤◌, Bool, true, false, ◌&&◌, ◌==◌, eqb, List, [], ◌∷◌, ◌++◌, length, get_or, map, take, refl, sym, ap, ap₂, ◌∙◌, subst, arith, if◌then◌else◌, length-append}
+use Rattle.std.proofs.Common.{◌≡◌, ℕ, zero, suc, ◌+◌, ◌-◌, ◌<◌, Bool, ◌&&◌, ◌==◌, eqb, List, [], ◌∷◌, ◌++◌, length, get_or, map, take, refl, sym, ap, ap₂, ◌∙◌, subst, arith, if◌then◌else◌, length-append}
 use Rattle.std.proofs.Math.ListN.{set}
-use Rattle.std.proofs.lemmas.Bool.{and_parts, eqb-true}
 use Rattle.std.proofs.lemmas.List.{length-map, get_or-map, map-set}
 use Rattle.std.specs.List.{flat_map}
 use Rattle.pr_base.specs.Pe.{Made, next_state}
-use Rattle.pr_conf_pipeline.specs.Rows.{Step, state_over, rows, state_after, through, resumed}
+use Rattle.pr_conf_pipeline.specs.Rows.{state_over, rows, state_after, resumed}
 use Rattle.pr_conf_pipeline.proofs.RowLaws.{state_first}
 use Rattle.pr_conf_pipeline.proofs.ResumeLaws.{rows_alike, state_alike, through-append, state_after-append}
 use Rattle.pr_conf.specs.declared.pes.Pe.{Pe}

@@ -1,5 +1,5 @@
 -- A configuration after some samples: the same stages, each beginning in the state in which these left it.
-use Rattle.std.specs.Prelude.{ℕ, ◌+◌, List, [], ◌∷◌, length}
+use Rattle.std.specs.Prelude.{ℕ, ◌+◌, List, [], ◌∷◌, length, slice_index_or, slice_set}
 use Rattle.pr_conf_pipeline.specs.Rows.{state_after}
 use Rattle.pr_conf.specs.declared.pes.Pe.{Pe}
 use Rattle.pr_conf.specs.Shape.{Shape}
@@ -10,6 +10,10 @@ abbrev pub begun : List Pe → List ℕ → List Pe
 begun [] state = []
 begun (pe ∷ pes) [] = pe ∷ pes
 begun (pe ∷ pes) (byte ∷ state) = record pe { init = byte } ∷ begun pes state
+
+-- the stages, of which this one begins in a state row
+abbrev pub with_begun : List (List Pe) → ℕ → List ℕ → List (List Pe)
+with_begun stages stage state = slice_set stages stage (begun (slice_index_or stages stage []) state)
 
 -- the stages from this number on, each beginning with its state row
 abbrev pub all_begun : (ℕ → List ℕ) → ℕ → List (List Pe) → List (List Pe)

@@ -31,6 +31,10 @@ state_after M s j xs = state_over (M s) (M s).init (take j (rows M s xs))
 abbrev pub through : {S R B : Type 0} → (ℕ → Step S R) → ℕ → (R → B) → List R → List B
 through M v tap xs = map tap (rows M v xs)
 
+-- a pipeline whose states and rows are lists of bytes
+abbrev pub BytePipeline : Type 0
+BytePipeline = ℕ → Step (List ℕ) (List ℕ)
+
 -- the same stages, each beginning where these samples left it
 abbrev pub resumed : {S R : Type 0} → (ℕ → Step S R) → List R → ℕ → Step S R
 resumed M xs s = record (M s) { init = state_after M s (length xs) xs }

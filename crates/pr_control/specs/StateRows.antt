@@ -1,5 +1,9 @@
 -- Rows of one length that lie one after the other in a list of bytes.
-use Rattle.std.specs.Prelude.{ℕ, zero, suc, ◌/◌, List, [], ◌∷◌, length, take, drop}
+use Rattle.std.specs.Prelude.{ℕ, zero, suc, ◌*◌, ◌/◌, List, [], ◌∷◌, length, take, drop}
+
+-- the n bytes of row `at`
+abbrev pub row_in : ℕ → List ℕ → ℕ → List ℕ
+row_in n bytes at = take n (drop (at * n) bytes)
 
 -- the first `count` rows of n bytes
 unfoldable pub rows_of : ℕ → ℕ → List ℕ → List (List ℕ)

@@ -1,7 +1,7 @@
 //! The states of all stages, one row of bytes for each.
 
-ghost use Rattle.std.specs.Prelude.{ℕ, ◌≡◌, ◌≢◌, ◌+◌, ◌*◌, ◌%◌, ◌<◌, ◌≤◌, IfOk, Some, List, length, take, drop, slice_get, slice_set};
-ghost use Rattle.pr_control.specs.StateRows.{rows_in};
+ghost use Rattle.std.specs.Prelude.{ℕ, ◌≡◌, ◌≢◌, ◌+◌, ◌*◌, ◌%◌, ◌<◌, ◌≤◌, IfOk, Some, List, length, slice_get, slice_set};
+ghost use Rattle.pr_control.specs.StateRows.{row_in, rows_in};
 
 use std::alloc::{AllocError, Global};
 use std::marker::Model;
@@ -9,7 +9,7 @@ use std::marker::Model;
 /// Row `at` of rows of `size` bytes.
 fn row_at(bytes: &[u8], size: usize, at: usize) -> &[u8]
     requires { (at + 1) * size ≤ length bytes.now }
-    ensures { result.now ≡ take size (drop (at * size) bytes.now) }
+    ensures { result.now ≡ row_in size bytes.now at }
 {
     let start = at * size;
     &bytes[start..start + size]
@@ -18,8 +18,8 @@ fn row_at(bytes: &[u8], size: usize, at: usize) -> &[u8]
 /// Puts row `at` of rows that are as long as this one.
 fn put_row(bytes: &mut [u8], at: usize, row: &[u8])
     requires { (at + 1) * length row.now ≤ length bytes.old }
-    ensures put { take (length row.now) (drop (at * length row.now) bytes.new) ≡ row.now }
-    ensures others { (k : ℕ) → k ≢ at → take (length row.now) (drop (k * length row.now) bytes.new) ≡ take (length row.now) (drop (k * length row.now) bytes.old) }
+    ensures put { row_in (length row.now) bytes.new at ≡ row.now }
+    ensures others { (k : ℕ) → k ≢ at → row_in (length row.now) bytes.new k ≡ row_in (length row.now) bytes.old k }
 {
     let start = at * row.len();
     bytes[start..start + row.len()].copy_from_slice(row);

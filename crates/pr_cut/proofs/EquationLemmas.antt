@@ -1,18 +1,17 @@
 -- What the units of an equation ask of it.
-use Rattle.std.proofs.Common.{◌≡◌, ◌<◌, ◌≤◌, ℕ, ◌+◌, ◌&&◌, Bool, true, false, not, cond, Option, Some, None, List, [], ◌∷◌, ◌++◌, length, map, get_or, subst, refl, sym, ap, ap₂, ◌∙◌, arith}
-use Rattle.std.specs.Prelude.{slice_index, count_by}
+use Rattle.std.proofs.Common.{◌≡◌, ◌≤◌, ℕ, ◌&&◌, Bool, true, false, not, cond, Option, Some, None, List, [], ◌∷◌, ◌++◌, length, get_or, refl, sym, ap, ap₂, ◌∙◌, arith}
+use Rattle.std.specs.Prelude.{slice_index}
 use Rattle.std.specs.Bool.{if◌then◌else◌}
 use Rattle.std.specs.Option.{is_some}
-use Rattle.std.specs.List.{slice_get, sum}
+use Rattle.std.specs.List.{slice_get}
 use Rattle.std.proofs.lemmas.Bool.{false≢true}
 use Rattle.std.proofs.lemmas.Option.{slice_get_within}
 use Rattle.pr_flat.specs.declared.equations.Operand.{Operand}
 use Rattle.pr_flat.specs.declared.equations.Op.{Op}
-use Rattle.pr_flat.specs.declared.forms.Form.{Form}
 use Rattle.pr_flat.specs.Shape.{EquationShape}
-use Rattle.pr_flat.specs.Facts.{IsFlat, is_rec, is_input, arity}
+use Rattle.pr_flat.specs.Facts.{IsFlat, is_rec, is_input}
 use Rattle.pr_flat.specs.Rows.{takes, natural_width}
-use Rattle.pr_flat.specs.Widths.{forms_in, settled_width, width_in, is_open, AreWidths}
+use Rattle.pr_flat.specs.Widths.{forms_in, settled_width, is_open, AreWidths}
 use Rattle.pr_net.specs.declared.cells.Slice.{Slice}
 use Rattle.pr_net.specs.declared.cells.Cell.{Cell}
 use Rattle.pr_cut_units.specs.Parts.{Making, kept}

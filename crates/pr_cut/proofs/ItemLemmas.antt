@@ -1,5 +1,5 @@
 -- Lists of one, two and three operands.
-use Rattle.std.proofs.Common.{◌≡◌, ℕ, List, [], ◌∷◌, length, get_or, refl, sym, ap, ap₂, ◌∙◌, arith}
+use Rattle.std.proofs.Common.{◌≡◌, List, [], ◌∷◌, length, get_or, refl, sym, ap, ap₂, ◌∙◌, arith}
 use Rattle.pr_flat.specs.declared.equations.Op.{Op}
 use Rattle.pr_flat.specs.Facts.{arity}
 use Rattle.pr_cut_cells.specs.declared.arguments.Argument.{Argument}

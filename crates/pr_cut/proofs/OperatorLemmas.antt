@@ -1,12 +1,12 @@
 -- What the units of an operator ask of it.
-use Rattle.std.proofs.Common.{◌≡◌, ◌<◌, ◌≤◌, ℕ, ◌+◌, ◌^◌, ◌++◌, Bool, true, false, nat_lt, nat_le, min, Option, Some, None, List, [], ◌∷◌, length, subst, refl, sym, ap, ◌∙◌, arith}
+use Rattle.std.proofs.Common.{◌≡◌, ◌≤◌, ℕ, ◌++◌, Bool, true, false, min, Option, Some, None, List, [], ◌∷◌, length, subst, refl, sym, ap, ◌∙◌, arith}
 use Rattle.std.specs.Prelude.{MatchOption}
 use Rattle.std.proofs.lemmas.Bool.{false≢true}
 use Rattle.pr_base.specs.Numbers.{slices_of}
 use Rattle.pr_flat.specs.declared.equations.Op.{Op}
 use Rattle.pr_flat.specs.declared.forms.Form.{Form}
-use Rattle.pr_flat.specs.Facts.{arity, is_input, is_rec, has_lawful_ends}
-use Rattle.pr_flat.specs.Rows.{takes, natural_form, natural_width, gives_signed}
+use Rattle.pr_flat.specs.Facts.{arity, is_input, is_rec}
+use Rattle.pr_flat.specs.Rows.{takes, natural_form, gives_signed}
 use Rattle.pr_net.specs.declared.cells.Slice.{Slice}
 use Rattle.pr_net.specs.declared.cells.Cell.{Cell}
 use Rattle.pr_cut_units.specs.Cells.{slice_at}
@@ -16,7 +16,7 @@ use Rattle.pr_cut_units.specs.Table.{operator_units, computed_bits, units_at, ar
 use Rattle.pr_cut_units.proofs.CountNets.{is_stated}
 use Rattle.pr_cut_units.proofs.WideNets.{natural_some}
 use Rattle.pr_cut_units.proofs.JoinLemmas.{then_slices}
-use Rattle.pr_cut_units.proofs.LongTable.{long_one, long_two, long_choice}
+use Rattle.pr_cut_units.proofs.LongTable.{long_one, long_two}
 use Rattle.pr_cut.specs.Operators.{is_operator}
 
 not_stated : (op : Op) → is_operator op ≡ true → is_stated op ≡ false

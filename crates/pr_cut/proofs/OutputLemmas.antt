@@ -1,14 +1,12 @@
 -- What outputs give is ready once all equations are cut.
-use Rattle.std.proofs.Common.{◌≡◌, ◌<◌, ◌≤◌, ℕ, zero, suc, ◌+◌, ◌&&◌, Bool, true, false, nat_lt, Some, List, [], ◌∷◌, ◌++◌, length, subst, refl, sym, ap, ◌∙◌, arith, length-append}
+use Rattle.std.proofs.Common.{◌≡◌, ◌<◌, ℕ, ◌+◌, true, nat_lt, List, [], ◌∷◌, length, subst, refl, sym, arith, length-append}
 use Rattle.std.specs.List.{list_any, list_all, Contains}
 use Rattle.std.proofs.lemmas.Bool.{and_parts, ltb-true, eq-eqb, false≢true}
 use Rattle.pr_flat.specs.declared.equations.Operand.{Operand}
 use Rattle.pr_flat.specs.Shape.{EquationShape}
 use Rattle.pr_flat.specs.Facts.{IsFlat, is_lawful_output, reads_equation}
 use Rattle.pr_flat.specs.Widths.{AreWidths}
-use Rattle.pr_net.specs.declared.cells.Slice.{Slice}
 use Rattle.pr_net.proofs.Lists.{any_here, at_head, in_tail}
-use Rattle.pr_width.specs.Reads.{is_within}
 use Rattle.pr_cut_units.specs.Equations.{Plan, plan_of, Cut, next_units, cut_next, cut_after, cut_start, cut_whole}
 use Rattle.pr_cut_units.proofs.WideNets.{are_counted}
 use Rattle.pr_cut_units.proofs.EndNets.{output_bounds, output_long}

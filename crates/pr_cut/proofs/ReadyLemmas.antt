@@ -1,8 +1,7 @@
 -- The operands of an equation that has units are ready, and what is made of the equations before it fits.
-use Rattle.std.proofs.Common.{◌≡◌, ◌<◌, ◌≤◌, ℕ, zero, suc, ◌+◌, ◌^◌, ◌&&◌, ◌||◌, Bool, true, false, nat_lt, nat_le, Some, List, [], ◌∷◌, ◌++◌, length, drop, get_or, subst, refl, sym, ap, ◌∙◌, arith, length-append, map, inl, inr}
-use Rattle.std.specs.Prelude.{slice_index, slice_index_or, count_by}
-use Rattle.std.specs.Bool.{if◌then◌else◌}
-use Rattle.std.specs.List.{slice_get, list_any, list_all, sum, Contains}
+use Rattle.std.proofs.Common.{◌≡◌, ◌<◌, ◌≤◌, ℕ, ◌+◌, ◌||◌, Bool, true, false, nat_le, Some, List, [], ◌∷◌, length, drop, get_or, subst, refl, sym, ap, ◌∙◌, arith, length-append, inl, inr}
+use Rattle.std.specs.Prelude.{slice_index}
+use Rattle.std.specs.List.{slice_get, list_any, list_all, Contains}
 use Rattle.std.proofs.lemmas.Bool.{cases_Bool, and_parts, or_right, leb-true, ltb-true, eq-eqb, false≢true}
 use Rattle.std.proofs.lemmas.Option.{slice_get_within}
 use Rattle.std.proofs.lemmas.List.{get_or_append_left, length-map}
@@ -13,24 +12,23 @@ use Rattle.pr_base.proofs.RowLemmas.{length-bytes_of}
 use Rattle.pr_flat.specs.declared.equations.Operand.{Operand}
 use Rattle.pr_flat.specs.declared.equations.Op.{Op}
 use Rattle.pr_flat.specs.Shape.{EquationShape}
-use Rattle.pr_flat.specs.Facts.{IsFlat, is_input, is_lawful_operand, is_lawful_output, reads_equation, is_in_body, op_at, arity}
-use Rattle.pr_flat.specs.Widths.{operand_width, AreWidths}
+use Rattle.pr_flat.specs.Facts.{IsFlat, is_input, is_lawful_operand, reads_equation, arity}
+use Rattle.pr_flat.specs.Widths.{AreWidths}
 use Rattle.pr_flat.proofs.WidthLemmas.{past_of, equation_at}
 use Rattle.pr_width.specs.Reads.{is_within}
 use Rattle.pr_width.proofs.SolverLemmas.{operands_within}
 use Rattle.pr_net.specs.declared.cells.Slice.{Slice}
 use Rattle.pr_net.specs.declared.cells.Cell.{Cell}
 use Rattle.pr_net.proofs.Lists.{any_here, at_head, in_tail}
-use Rattle.pr_cut_units.specs.Parts.{kept}
-use Rattle.pr_cut_units.specs.Reached.{reached, hold_count}
-use Rattle.pr_cut_units.specs.Equations.{Plan, plan_of, hold_unit, operand_slices, arguments, equation_units, has_units, Cut, next_units, cut_next, cut_after, cut_start, cut_whole}
-use Rattle.pr_cut_units.proofs.CountNets.{IsCounted, AreCounted, length-arguments, count_whole}
+use Rattle.pr_cut_units.specs.Reached.{reached}
+use Rattle.pr_cut_units.specs.Equations.{Plan, plan_of, hold_unit, has_units, Cut, cut_whole}
+use Rattle.pr_cut_units.proofs.CountNets.{count_whole}
 use Rattle.pr_cut_units.proofs.WideNets.{widths_some, are_counted}
 use Rattle.pr_cut_units.proofs.EndNets.{widths_most, output_bounds, value_long, values_added, values_are}
 use Rattle.pr_cut_units.proofs.FitNets.{added_after, added_is}
 use Rattle.pr_cut_units.proofs.ReachedLaws.{reached_by, past_held}
 use Rattle.pr_cut_units.proofs.TiedNets.{holds_end}
-use Rattle.pr_cut.specs.Sources.{IsCutTo, IsNamed, IsReady, AreReady}
+use Rattle.pr_cut.specs.Sources.{IsCutTo, IsReady, AreReady}
 
 -- ---- what is made so far
 -- the slices so far are those of the whole

@@ -1,10 +1,10 @@
 -- One more operand, one more equation, one more byte.
-use Rattle.std.proofs.Common.{◌≡◌, ◌<◌, ◌≤◌, ℕ, zero, suc, ◌+◌, ◌-◌, ◌*◌, ◌/◌, ◌%◌, ◌^◌, Bool, Some, List, [], ◌∷◌, ◌++◌, length, drop, take, get_or, map, subst, refl, sym, ap, ap₂, ◌∙◌, arith, append_assoc, append-nil, length-append, cond, unwrap_or, true, false}
+use Rattle.std.proofs.Common.{◌≡◌, ◌<◌, ◌≤◌, ℕ, zero, suc, ◌+◌, ◌*◌, ◌/◌, ◌^◌, Bool, Some, List, [], ◌∷◌, ◌++◌, length, drop, take, get_or, map, subst, refl, sym, ap, ap₂, ◌∙◌, arith, append_assoc, append-nil, length-append, cond, unwrap_or, true, false}
 use Rattle.std.specs.Prelude.{count_by}
 use Rattle.std.proofs.lemmas.List.Sums.{sum_by-cons}
 use Rattle.std.specs.List.{slice_get, range_with_len}
 use Rattle.std.proofs.Math.Nat.{div-div-eq-div-mul}
-use Rattle.pr_base.specs.Numbers.{byte_at, bytes_of, slices_of}
+use Rattle.pr_base.specs.Numbers.{byte_at, bytes_of}
 use Rattle.pr_flat.specs.declared.equations.Operand.{Operand}
 use Rattle.pr_flat.specs.Shape.{EquationShape}
 use Rattle.pr_flat.specs.Facts.{is_input}

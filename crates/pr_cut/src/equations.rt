@@ -1,15 +1,16 @@
 //! The units of one equation.
 
-ghost use Rattle.std.specs.Prelude.{ℕ, ◌≡◌, ◌≤◌, ◌<◌, ◌+◌, ◌^◌, ◌++◌, true, false, List, slice_index, length, IfOk};
+ghost use Rattle.std.specs.Prelude.{ℕ, ◌≡◌, ◌≤◌, ◌<◌, ◌+◌, ◌^◌, true, slice_index, length, IfOk};
 ghost use Rattle.pr_flat.specs.Facts.{arity, is_rec};
 ghost use Rattle.pr_flat.specs.Rows.{takes};
 ghost use Rattle.pr_flat.specs.Shape.{equation_shape};
+ghost use Rattle.pr_cut_units.specs.Parts.{units_after, slices_after};
 ghost use Rattle.pr_cut_units.specs.States.{held};
 ghost use Rattle.pr_cut_units.specs.Table.{argument_forms};
-ghost use Rattle.pr_cut_units.specs.Equations.{arguments, equation_units, has_units, next_units};
+ghost use Rattle.pr_cut_units.specs.Equations.{has_units};
 ghost use Rattle.pr_cut_cells.specs.Arguments.{argument_of};
 ghost use Rattle.pr_cut.specs.Operators.{arguments_of, is_operator};
-ghost use Rattle.pr_cut.specs.Sources.{plan_in, IsPlanned, IsTurn, IsCutTo};
+ghost use Rattle.pr_cut.specs.Sources.{plan_in, turn_units, turn_next, IsPlanned, IsTurn, IsCutTo};
 
 use crate::operands::arguments;
 use crate::operators::units_at;
@@ -33,8 +34,9 @@ fn held(
 ) -> Result<Vec<Slice>, AllocError>
     requires some { 1 ≤ k }
     requires fits { length units.old.items + k + 1 < 2 ^ 32 }
-    ensures units { IfOk result (λ s. units.new.items ≡ units.old.items ++ (held w init k (argument_of body.now) (length units.old.items)).units) }
-    ensures slices { IfOk result (λ s. s.items ≡ (held w init k (argument_of body.now) (length units.old.items)).slices) }
+    ensures units { IfOk result (λ s. units.new.items ≡
+        units_after units.old.items (held w init k (argument_of body.now))) }
+    ensures slices { IfOk result (λ s. s.items ≡ slices_after units.old.items (held w init k (argument_of body.now))) }
 {
     let x = widened(alloc, units, &body.slices, body.signed, body.width, w)?;
     let all = hold_units(alloc, units, w, init, k, &x)?;
@@ -52,11 +54,15 @@ fn equation_units(
     requires planned { IsPlanned source.now }
     requires turn { IsTurn source.now turn.now }
     requires count { length args.now ≡ arity turn.now.equation.now.op }
-    requires takes { is_operator turn.now.equation.now.op ≡ true → takes turn.now.equation.now.op (argument_forms (arguments_of args.now)) ≡ true }
-    requires holds { is_rec turn.now.equation.now.op ≡ true → slice_index source.now.plan.now.hold_counts.items turn.now.number ≤ 32768 }
+    requires takes { is_operator turn.now.equation.now.op ≡ true →
+        takes turn.now.equation.now.op (argument_forms (arguments_of args.now)) ≡ true }
+    requires holds { is_rec turn.now.equation.now.op ≡ true →
+        slice_index source.now.plan.now.hold_counts.items turn.now.number ≤ 32768 }
     requires few { length units.old.items ≤ 32768 }
-    ensures units { IfOk result (λ s. units.new.items ≡ units.old.items ++ (equation_units (plan_in source.now) turn.now.number turn.now.equation.now.op (arguments_of args.now) (length units.old.items)).units) }
-    ensures slices { IfOk result (λ s. s.items ≡ (equation_units (plan_in source.now) turn.now.number turn.now.equation.now.op (arguments_of args.now) (length units.old.items)).slices) }
+    ensures units { IfOk result (λ s. units.new.items ≡
+        units_after units.old.items (turn_units source.now turn.now (arguments_of args.now))) }
+    ensures slices { IfOk result (λ s. s.items ≡
+        slices_after units.old.items (turn_units source.now turn.now (arguments_of args.now))) }
 {
     let w = source.widths[turn.number];
     match turn.equation.op {
@@ -91,8 +97,10 @@ pub fn next_units(
     requires planned { IsPlanned source.now }
     requires turn { IsTurn source.now turn.now }
     requires cut { IsCutTo (plan_in source.now) turn.now.number units.old.items values.now }
-    ensures units { IfOk result (λ s. units.new.items ≡ units.old.items ++ (next_units (plan_in source.now) (record { units = units.old.items; values = values.now }) (equation_shape turn.now.equation.now) (length units.old.items)).units) }
-    ensures slices { IfOk result (λ s. s.items ≡ (next_units (plan_in source.now) (record { units = units.old.items; values = values.now }) (equation_shape turn.now.equation.now) (length units.old.items)).slices) }
+    ensures units { IfOk result (λ s. units.new.items ≡
+        units_after units.old.items (turn_next source.now turn.now units.old.items values.now)) }
+    ensures slices { IfOk result (λ s. s.items ≡
+        slices_after units.old.items (turn_next source.now turn.now units.old.items values.now)) }
 {
     if has_units(source, turn) {
         let args = arguments(alloc, source, values, turn.equation)?;

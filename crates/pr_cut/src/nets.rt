@@ -4,13 +4,14 @@ ghost use Rattle.std.specs.Prelude.{◌≡◌, ◌≤◌, None, Some, Err, cond,
 ghost use Rattle.std.specs.List.{sum_by};
 ghost use Rattle.pr_base.specs.Numbers.{slices_of};
 ghost use Rattle.pr_base.specs.declared.caps.Cap.{Cap};
-ghost use Rattle.pr_flat.specs.Shape.{shapes_of};
+ghost use Rattle.pr_flat.specs.Flats.{equations_of};
 ghost use Rattle.pr_flat.specs.Facts.{is_input};
 ghost use Rattle.pr_flat.specs.Values.{input_widths};
 ghost use Rattle.pr_flat.specs.Widths.{AreWidths};
 ghost use Rattle.pr_net.specs.Whole.{shape_of};
 ghost use Rattle.pr_cut_units.specs.Equations.{input_units, cut_whole};
-ghost use Rattle.pr_cut_units.specs.Nets.{output_of, net_of, limit_passed};
+ghost use Rattle.pr_cut_units.specs.Flats.{flat_net};
+ghost use Rattle.pr_cut_units.specs.Nets.{output_of, limit_passed};
 ghost use Rattle.pr_cut.specs.Sources.{plan_in, equations_in, IsPlanned, AreReady};
 
 use crate::equations::next_units;
@@ -33,7 +34,7 @@ struct Made {
 
 /// The width of each input.
 fn input_widths(alloc: Global, flat: &Flat) -> Result<Vec<u8>, AllocError>
-    ensures { IfOk result (λ all. all.items ≡ input_widths (shapes_of flat.now.equations.items)) }
+    ensures { IfOk result (λ all. all.items ≡ input_widths (equations_of flat.now)) }
 {
     let mut all = Vec::new(alloc);
     for equation in &flat.equations {
@@ -102,7 +103,8 @@ fn all_units(alloc: Global, source: &Source, inputs: &[u8]) -> Result<Made, Allo
 fn outputs(alloc: Global, source: &Source, values: &[Value]) -> Result<Vec<NetOutput>, AllocError>
     requires planned { IsPlanned source.now }
     requires ready { AreReady (plan_in source.now) values.now source.now.flat.now.outputs.items }
-    ensures { IfOk result (λ all. all.items ≡ map (output_of (plan_in source.now) values.now) source.now.flat.now.outputs.items) }
+    ensures { IfOk result (λ all. all.items ≡
+        map (output_of (plan_in source.now) values.now) source.now.flat.now.outputs.items) }
 {
     let mut all = Vec::new(alloc);
     for i in 0..source.flat.outputs.len() {
@@ -120,7 +122,7 @@ fn outputs(alloc: Global, source: &Source, values: &[Value]) -> Result<Vec<NetOu
 fn net_with(alloc: Global, source: &Source) -> Result<Net, AllocError>
     requires planned { IsPlanned source.now }
     requires room { sum_by slices_of (input_widths (equations_in source.now)) ≤ 64 }
-    ensures { IfOk result (λ net. shape_of net ≡ net_of (equations_in source.now) source.now.widths.now source.now.flat.now.outputs.items) }
+    ensures { IfOk result (λ net. shape_of net ≡ flat_net source.now.flat.now source.now.widths.now) }
 {
     let inputs = input_widths(alloc, source.flat)?;
     let made = all_units(alloc, source, &inputs)?;
@@ -142,11 +144,12 @@ fn net_with(alloc: Global, source: &Source) -> Result<Net, AllocError>
 ///
 /// `Limit` with the first limit that the net passes: bytes of inputs, outputs, units. `Memory` where memory is wanting.
 pub fn cut(alloc: Global, flat: &Flat, widths: &Widths, columns: usize) -> Result<Net, CutFault>
-    requires widths { AreWidths (shapes_of flat.now.equations.items) widths.now }
+    requires widths { AreWidths (equations_of flat.now) widths.now }
     requires columns { (1 ≤ columns) × (columns ≤ 64) }
-    ensures net { IfOk result (λ net. shape_of net ≡ net_of (shapes_of flat.now.equations.items) widths.now flat.now.outputs.items) }
-    ensures within { OnOk result (limit_passed columns (net_of (shapes_of flat.now.equations.items) widths.now flat.now.outputs.items) ≡ None) }
-    ensures refused { (cap : Cap) → result ≡ Err (CutFault.Limit cap) → limit_passed columns (net_of (shapes_of flat.now.equations.items) widths.now flat.now.outputs.items) ≡ Some cap }
+    ensures net { IfOk result (λ net. shape_of net ≡ flat_net flat.now widths.now) }
+    ensures within { OnOk result (limit_passed columns (flat_net flat.now widths.now) ≡ None) }
+    ensures refused { (cap : Cap) → result ≡ Err (CutFault.Limit cap) →
+        limit_passed columns (flat_net flat.now widths.now) ≡ Some cap }
 {
     let plan = plan_of(alloc, flat, widths, columns)?;
     let source = Source {

@@ -2,11 +2,10 @@
 
 ghost use Rattle.std.specs.Prelude.{◌≡◌, vec_len, IfOk};
 ghost use Rattle.pr_net.specs.declared.cells.Slice.{Slice};
-ghost use Rattle.pr_flat.specs.Widths.{operand_width};
 ghost use Rattle.pr_cut_units.specs.Equations.{number_slices, operand_slices, arguments};
 ghost use Rattle.pr_cut_cells.specs.Arguments.{argument_of};
 ghost use Rattle.pr_cut.specs.Operators.{arguments_of};
-ghost use Rattle.pr_cut.specs.Sources.{plan_in, IsPlanned, IsNamed, IsReady, AreReady};
+ghost use Rattle.pr_cut.specs.Sources.{plan_in, read_operand, IsPlanned, IsNamed, IsReady, AreReady};
 
 use crate::sources::{Source, Value};
 use pr_base::{byte_of, slices};
@@ -64,7 +63,7 @@ fn argument(
 ) -> Result<Argument, AllocError>
     requires planned { IsPlanned source.now }
     requires ready { IsReady (plan_in source.now) values.now a }
-    ensures { IfOk result (λ x. argument_of x ≡ record { slices = operand_slices (plan_in source.now) values.now a; form = record { signed = signed; width = operand_width (plan_in source.now).widths a } }) }
+    ensures { IfOk result (λ x. argument_of x ≡ read_operand source.now values.now a signed) }
 {
     let width = operand_width(a, source.widths);
     let slices = operand_slices(alloc, source, values, a)?;
@@ -85,7 +84,8 @@ pub fn arguments(
     requires planned { IsPlanned source.now }
     requires ready { AreReady (plan_in source.now) values.now equation.now.args.items }
     requires kinds { vec_len equation.now.args ≡ vec_len equation.now.kinds }
-    ensures { IfOk result (λ all. arguments_of all.items ≡ arguments (plan_in source.now) values.now equation.now.args.items equation.now.kinds.items) }
+    ensures { IfOk result (λ all. arguments_of all.items ≡
+        arguments (plan_in source.now) values.now equation.now.args.items equation.now.kinds.items) }
 {
     let mut all = Vec::new(alloc);
     for i in 0..equation.args.len() {

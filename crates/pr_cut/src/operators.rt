@@ -1,11 +1,12 @@
 //! Operators at their widths.
 
-ghost use Rattle.std.specs.Prelude.{ℕ, ◌≡◌, ◌≤◌, ◌<◌, ◌+◌, ◌^◌, ◌++◌, min, [], ◌∷◌, true, List, length, OnOk, IfOk};
+ghost use Rattle.std.specs.Prelude.{ℕ, ◌≡◌, ◌≤◌, ◌<◌, ◌+◌, ◌^◌, min, [], ◌∷◌, true, length, IfOk};
 ghost use Rattle.pr_flat.specs.Facts.{arity, has_lawful_ends};
 ghost use Rattle.pr_flat.specs.Rows.{takes};
 ghost use Rattle.pr_flat.specs.declared.equations.Op.{Op};
+ghost use Rattle.pr_cut_units.specs.Parts.{units_after, slices_after};
 ghost use Rattle.pr_cut_units.specs.Table.{argument_forms, units_at};
-ghost use Rattle.pr_cut_cells.specs.Arguments.{argument_of};
+ghost use Rattle.pr_cut_cells.specs.Arguments.{argument_of, pair_of, triple_of};
 ghost use Rattle.pr_cut.specs.Operators.{arguments_of, is_operator};
 
 use pr_cut_cells::Argument;
@@ -47,8 +48,10 @@ fn units_one(
     requires takes { takes op ((argument_of a.now).form ∷ []) ≡ true }
     requires ends { has_lawful_ends op ≡ true }
     requires fits { length units.old.items + 2 < 2 ^ 32 }
-    ensures units { IfOk result (λ s. units.new.items ≡ units.old.items ++ (units_at w op (argument_of a.now ∷ []) (length units.old.items)).units) }
-    ensures slices { IfOk result (λ s. s.items ≡ (units_at w op (argument_of a.now ∷ []) (length units.old.items)).slices) }
+    ensures units { IfOk result (λ s. units.new.items ≡
+        units_after units.old.items (units_at w op (argument_of a.now ∷ []))) }
+    ensures slices { IfOk result (λ s. s.items ≡
+        slices_after units.old.items (units_at w op (argument_of a.now ∷ []))) }
 {
     let natural = natural_one(op, form_of(a)).unwrap();
     let e = computed(natural, w);
@@ -70,8 +73,9 @@ fn units_two(
     requires few { w ≤ 128 }
     requires arity { arity op ≡ 2 }
     requires fits { length units.old.items + 20001 < 2 ^ 32 }
-    ensures units { IfOk result (λ s. units.new.items ≡ units.old.items ++ (units_at w op (argument_of a.now ∷ argument_of b.now ∷ []) (length units.old.items)).units) }
-    ensures slices { IfOk result (λ s. s.items ≡ (units_at w op (argument_of a.now ∷ argument_of b.now ∷ []) (length units.old.items)).slices) }
+    ensures units { IfOk result (λ s. units.new.items ≡
+        units_after units.old.items (units_at w op (pair_of a.now b.now))) }
+    ensures slices { IfOk result (λ s. s.items ≡ slices_after units.old.items (units_at w op (pair_of a.now b.now))) }
 {
     let natural = natural_two(op, form_of(a), form_of(b));
     let e = computed(natural, w);
@@ -91,10 +95,12 @@ fn units_choice(
 ) -> Result<Vec<Slice>, AllocError>
     requires some { 1 ≤ w }
     requires few { w ≤ 128 }
-    requires takes { takes Op.Choose ((argument_of c.now).form ∷ (argument_of a.now).form ∷ (argument_of b.now).form ∷ []) ≡ true }
+    requires takes { takes Op.Choose (argument_forms (triple_of c.now a.now b.now)) ≡ true }
     requires fits { length units.old.items + 4 < 2 ^ 32 }
-    ensures units { IfOk result (λ s. units.new.items ≡ units.old.items ++ (units_at w Op.Choose (argument_of c.now ∷ argument_of a.now ∷ argument_of b.now ∷ []) (length units.old.items)).units) }
-    ensures slices { IfOk result (λ s. s.items ≡ (units_at w Op.Choose (argument_of c.now ∷ argument_of a.now ∷ argument_of b.now ∷ []) (length units.old.items)).slices) }
+    ensures units { IfOk result (λ s. units.new.items ≡
+        units_after units.old.items (units_at w Op.Choose (triple_of c.now a.now b.now))) }
+    ensures slices { IfOk result (λ s. s.items ≡
+        slices_after units.old.items (units_at w Op.Choose (triple_of c.now a.now b.now))) }
 {
     let natural = natural_choice(form_of(c), form_of(a), form_of(b)).unwrap();
     let e = computed(natural, w);
@@ -119,8 +125,9 @@ pub fn units_at(
     requires takes { takes op (argument_forms (arguments_of args.now)) ≡ true }
     requires ends { has_lawful_ends op ≡ true }
     requires fits { length units.old.items + 20001 < 2 ^ 32 }
-    ensures units { IfOk result (λ s. units.new.items ≡ units.old.items ++ (units_at w op (arguments_of args.now) (length units.old.items)).units) }
-    ensures slices { IfOk result (λ s. s.items ≡ (units_at w op (arguments_of args.now) (length units.old.items)).slices) }
+    ensures units { IfOk result (λ s. units.new.items ≡
+        units_after units.old.items (units_at w op (arguments_of args.now))) }
+    ensures slices { IfOk result (λ s. s.items ≡ slices_after units.old.items (units_at w op (arguments_of args.now))) }
 {
     match args {
         [a] => {

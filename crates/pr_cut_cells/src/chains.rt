@@ -3,8 +3,10 @@
 ghost use Rattle.std.specs.Prelude.{ℕ, ◌≡◌, ◌≤◌, ◌<◌, ◌+◌, ◌-◌, ◌^◌, [], ◌∷◌, ◌++◌, List, length, vec_len, OnOk, OnErr, IfOk};
 ghost use Rattle.pr_net.specs.declared.cells.Cell.{Cell};
 ghost use Rattle.pr_cut_units.specs.declared.chains.Style.{Style};
-ghost use Rattle.pr_cut_units.specs.Chains.{linked, carried, entry_cell, entry_of, taking, segments, places, place_after, chain, closed_chain};
+ghost use Rattle.pr_cut_units.specs.Chains.{carried, entry_of, taking, places, place_after, chain, closed_chain};
+ghost use Rattle.pr_cut_units.specs.Parts.{units_after, slices_after};
 ghost use Rattle.pr_cut_cells.specs.Prefixes.{IsPrefix};
+ghost use Rattle.pr_cut_cells.specs.Chained.{with_segments, with_chain, slices_from, slice_behind};
 
 use crate::cells::plain;
 use pr_base::{Carry, Mode};
@@ -67,17 +69,19 @@ fn chain_step(
     alloc: Global,
     units: &mut Vec<Unit>,
     style: Style,
-    open: Open,
+    segment: Open,
     cell: Cell,
 ) -> Result<Open, AllocError>
     requires fits { length units.old.items + 1 < 2 ^ 32 }
-    requires short { vec_len open.cells + open.room ≤ 5 }
-    ensures whole { IfOk result (λ now. (close rest : List Cell) → units.new.items ++ segments style (length units.new.items) now.room now.cells.items close rest ≡ units.old.items ++ segments style (length units.old.items) open.room open.cells.items close (cell ∷ rest)) }
+    requires short { vec_len segment.cells + segment.room ≤ 5 }
+    ensures whole { IfOk result (λ now. (close rest : List Cell) →
+        with_segments style units.new.items now close rest ≡
+        with_segments style units.old.items segment close (cell ∷ rest)) }
     ensures short { IfOk result (λ now. vec_len now.cells + now.room ≤ 5) }
     ensures err { OnErr result (units.new.items ≡ units.old.items) }
     ensures grows { OnOk result (length units.new.items ≤ length units.old.items + 1) }
 {
-    let Open { mut cells, room } = open;
+    let Open { mut cells, room } = segment;
     if room == 0 {
         let wire = Wire::Of(units.len() as u32, cells.len() as u8);
         let next = begun(alloc, style, wire, cell)?;
@@ -107,8 +111,9 @@ fn append_chain(
 ) -> Result<(), AllocError>
     requires fits { length units.old.items + length cells.now + 1 < 2 ^ 32 }
     ensures grows { OnOk result (length units.new.items ≤ length units.old.items + length cells.now + 1) }
-    ensures units { OnOk result (units.new.items ≡ units.old.items ++ segments style (length units.old.items) 4 [] close.now (linked first cells.now)) }
-    ensures part { OnErr result (IsPrefix units.new.items (units.old.items ++ segments style (length units.old.items) 4 [] close.now (linked first cells.now))) }
+    ensures units { OnOk result (units.new.items ≡ with_chain style first units.old.items close.now cells.now) }
+    ensures part { OnErr result
+        (IsPrefix units.new.items (with_chain style first units.old.items close.now cells.now)) }
 {
     let mut open = Open {
         cells: Vec::new(alloc),
@@ -139,7 +144,7 @@ struct Place {
 /// The slice of the next cell.
 fn next_slice(style: Style, place: Place) -> Slice
     requires fits { place.unit + 1 < 2 ^ 32 }
-    ensures { (k : Cell) → places style place.unit place.room place.cell (k ∷ []) ≡ result ∷ [] }
+    ensures { (k : Cell) → slices_from style place (k ∷ []) ≡ result ∷ [] }
 {
     if place.room == 0 {
         return match style {
@@ -154,8 +159,10 @@ fn next_slice(style: Style, place: Place) -> Slice
 fn next_place(style: Style, place: Place) -> Place
     requires fits { place.unit + 1 < 2 ^ 32 }
     requires short { place.cell + place.room ≤ 5 }
-    ensures places { (k : Cell) (rest : List Cell) → places style place.unit place.room place.cell (k ∷ rest) ≡ places style place.unit place.room place.cell (k ∷ []) ++ places style result.unit result.room result.cell rest }
-    ensures after { (k : Cell) (rest : List Cell) → place_after style place.unit place.room place.cell (k ∷ rest) ≡ place_after style result.unit result.room result.cell rest }
+    ensures places { (k : Cell) (rest : List Cell) →
+        slices_from style place (k ∷ rest) ≡ slices_from style place (k ∷ []) ++ slices_from style result rest }
+    ensures after { (k : Cell) (rest : List Cell) →
+        slice_behind style place (k ∷ rest) ≡ slice_behind style result rest }
     ensures short { result.cell + result.room ≤ 5 }
     ensures near { result.unit ≤ place.unit + 1 }
 {
@@ -230,9 +237,9 @@ pub fn chain(
 ) -> Result<Vec<Slice>, AllocError>
     requires fits { length units.old.items + length cells.now + 1 < 2 ^ 32 }
     ensures grows { OnOk result (length units.new.items ≤ length units.old.items + length cells.now + 1) }
-    ensures units { OnOk result (units.new.items ≡ units.old.items ++ (chain style first cells.now (length units.old.items)).units) }
-    ensures part { OnErr result (IsPrefix units.new.items (units.old.items ++ (chain style first cells.now (length units.old.items)).units)) }
-    ensures slices { IfOk result (λ s. s.items ≡ (chain style first cells.now (length units.old.items)).slices) }
+    ensures units { OnOk result (units.new.items ≡ units_after units.old.items (chain style first cells.now)) }
+    ensures part { OnErr result (IsPrefix units.new.items (units_after units.old.items (chain style first cells.now))) }
+    ensures slices { IfOk result (λ s. s.items ≡ slices_after units.old.items (chain style first cells.now)) }
 {
     let slices = chain_slices(alloc, style, units.len() as u32, cells)?;
     append_chain(alloc, units, style, first, cells, &[])?;
@@ -249,8 +256,8 @@ pub fn closed_chain(
 ) -> Result<Vec<Slice>, AllocError>
     requires fits { length units.old.items + length cells.now + 1 < 2 ^ 32 }
     ensures grows { OnOk result (length units.new.items ≤ length units.old.items + length cells.now + 1) }
-    ensures units { OnOk result (units.new.items ≡ units.old.items ++ (closed_chain first table cells.now (length units.old.items)).units) }
-    ensures slices { IfOk result (λ s. s.items ≡ (closed_chain first table cells.now (length units.old.items)).slices) }
+    ensures units { OnOk result (units.new.items ≡ units_after units.old.items (closed_chain first table cells.now)) }
+    ensures slices { IfOk result (λ s. s.items ≡ slices_after units.old.items (closed_chain first table cells.now)) }
 {
     let mut slices = Vec::new(alloc);
     slices.push(closing_slice(units.len() as u32, cells))?;

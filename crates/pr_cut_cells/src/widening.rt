@@ -8,8 +8,8 @@ ghost use Rattle.pr_net.specs.declared.cells.Cell.{Cell};
 ghost use Rattle.pr_net.specs.declared.cells.Slice.{Slice};
 ghost use Rattle.pr_net.specs.declared.cells.Wire.{Wire};
 ghost use Rattle.pr_cut_units.specs.Cells.{plain, byte, top, bit_of, slice_at, slice_below, with_left, with_right, table_a, table_b, table_not_a};
-ghost use Rattle.pr_cut_units.specs.Parts.{each};
-ghost use Rattle.pr_cut_units.specs.Widening.{sign_of, widening_cell, widened, flipped};
+ghost use Rattle.pr_cut_units.specs.Parts.{each, units_after, slices_after};
+ghost use Rattle.pr_cut_units.specs.Widening.{read_as, widening_cell, widened, flipped_cell, flipped};
 
 use crate::cells::{bit_of, byte, plain, top};
 use crate::parts::{joined, push_unit, same};
@@ -21,7 +21,7 @@ use std::alloc::{AllocError, Global};
 fn widening_cell(a: &[Slice], w: u8, t: u8, i: usize) -> Cell
     requires some { 1 ≤ w }
     requires near { i < 64 }
-    ensures { result ≡ widening_cell (record { slices = a.now; form = record { signed = true; width = w } }) t i }
+    ensures { result ≡ widening_cell (read_as true w a.now) t i }
 {
     let sign = bit_of(a, usize::from(w) - 1);
     if i == usize::from(w) / 8 && 0 < w % 8 {
@@ -48,7 +48,8 @@ fn widening_cells(alloc: Global, a: &[Slice], w: u8, t: u8) -> Result<Vec<Cell>,
     requires some { 1 ≤ w }
     requires wider { w ≤ t }
     ensures count { IfOk result (λ all. vec_len all ≡ slices_of t - w / 8) }
-    ensures all { IfOk result (λ all. all.items ≡ each (slices_of t - w / 8) (λ i. widening_cell (record { slices = a.now; form = record { signed = true; width = w } }) t (w / 8 + i))) }
+    ensures all { IfOk result (λ all. all.items ≡
+        each (slices_of t - w / 8) (λ i. widening_cell (read_as true w a.now) t (w / 8 + i))) }
 {
     let mut all = Vec::new(alloc);
     for i in 0..slices(t) - usize::from(w) / 8 {
@@ -70,8 +71,8 @@ pub fn widened(
     requires whole { length a.now ≡ slices_of w }
     requires fits { length units.old.items < 2 ^ 32 }
     ensures grows { OnOk result (length units.new.items ≤ length units.old.items + 1) }
-    ensures units { OnOk result (units.new.items ≡ units.old.items ++ (widened (record { slices = a.now; form = record { signed = signed; width = w } }) t (length units.old.items)).units) }
-    ensures slices { IfOk result (λ s. s.items ≡ (widened (record { slices = a.now; form = record { signed = signed; width = w } }) t (length units.old.items)).slices) }
+    ensures units { OnOk result (units.new.items ≡ units_after units.old.items (widened (read_as signed w a.now) t)) }
+    ensures slices { IfOk result (λ s. s.items ≡ slices_after units.old.items (widened (read_as signed w a.now) t)) }
 {
     if !(signed && w < t) {
         return same(alloc, a);
@@ -86,7 +87,8 @@ pub fn widened(
 fn flipped_cells(alloc: Global, a: &[Slice], w: u8, x: &[Slice]) -> Result<Vec<Cell>, AllocError>
     requires { 1 ≤ w }
     ensures count { IfOk result (λ all. vec_len all ≡ slices_of w) }
-    ensures all { IfOk result (λ all. all.items ≡ each (slices_of w) (λ i. record plain { a = byte x.now i; c = bit_of a.now (w - 1); table = 90; mask = top w i })) }
+    ensures all { IfOk result (λ all. all.items ≡
+        each (slices_of w) (λ i. flipped_cell (read_as true w a.now) x.now i)) }
 {
     let mut all = Vec::new(alloc);
     for i in 0..slices(w) {
@@ -112,8 +114,8 @@ pub fn flipped(
     requires some { 1 ≤ w }
     requires fits { length units.old.items < 2 ^ 32 }
     ensures grows { OnOk result (length units.new.items ≤ length units.old.items + 1) }
-    ensures units { OnOk result (units.new.items ≡ units.old.items ++ (flipped (record { slices = a.now; form = record { signed = true; width = w } }) x.now (length units.old.items)).units) }
-    ensures slices { IfOk result (λ s. s.items ≡ (flipped (record { slices = a.now; form = record { signed = true; width = w } }) x.now (length units.old.items)).slices) }
+    ensures units { OnOk result (units.new.items ≡ units_after units.old.items (flipped (read_as true w a.now) x.now)) }
+    ensures slices { IfOk result (λ s. s.items ≡ slices_after units.old.items (flipped (read_as true w a.now) x.now)) }
 {
     let cells = flipped_cells(alloc, a, w, x)?;
     push_unit(alloc, units, cells)

@@ -20,7 +20,8 @@ use Rattle.pr_cut_laws.proofs.Histories.{history, row_at}
 use Rattle.pr_cut_laws.proofs.Whole.{const_is}
 use Rattle.pr_cut_units.proofs.WideNets.{are_counted}
 use Rattle.pr_cut_units.proofs.EndNets.{value_long}
-use Rattle.pr_cut_laws.specs.Laws.{AreSamples, IsShown}
+use Rattle.pr_flat.specs.Laws.{AreSamples}
+use Rattle.pr_cut_laws.specs.Laws.{IsShown}
 use Rattle.pr_cut_laws.proofs.Lawful.{all_wide, HasUnits}
 use Rattle.pr_cut_laws.proofs.Closed.{operand_counts, counts_at, or_left, or_right}
 use Rattle.pr_cut_laws.proofs.Meaning.{samples_small, lawful_cut_shows}

@@ -1,19 +1,13 @@
 //! Operators that widen their operands.
 
-ghost use Rattle.std.specs.Prelude.{ℕ, ◌≡◌, ◌≤◌, ◌<◌, ◌+◌, ◌^◌, ◌++◌, ◌||◌, List, length, max, OnOk, IfOk};
-ghost use Rattle.pr_base.specs.Numbers.{slices_of};
-ghost use Rattle.pr_base.specs.declared.choices.Carry.{Carry};
-ghost use Rattle.pr_base.specs.declared.choices.Mode.{Mode};
-ghost use Rattle.pr_cut_units.specs.Cells.{plain, byte};
-ghost use Rattle.pr_cut_units.specs.Chains.{closed_chain};
-ghost use Rattle.pr_flat.specs.Forms.{signed_width, wider, wider_signed};
+ghost use Rattle.std.specs.Prelude.{ℕ, ◌≡◌, ◌≤◌, ◌<◌, ◌+◌, ◌^◌, List, length, OnOk, IfOk};
+ghost use Rattle.pr_flat.specs.Forms.{signed_width};
 ghost use Rattle.pr_net.specs.declared.cells.Slice.{Slice};
-ghost use Rattle.pr_cut_units.specs.Parts.{Making, each, followed_by};
-ghost use Rattle.pr_cut_units.specs.Widening.{both_widened};
-ghost use Rattle.pr_cut_units.specs.Operators.{bitwise, chosen, added, subtracted, sign_unit, is_any_signed, unsigned_less, signed_less, less, greater_equal, compared_width, equal};
+ghost use Rattle.pr_cut_units.specs.Parts.{Making, units_after, slices_after};
+ghost use Rattle.pr_cut_units.specs.Operators.{bitwise, chosen, added, subtracted, difference_sign, is_any_signed, signed_less, less, greater_equal, compared_width, equal_at, equal};
 ghost use Rattle.pr_cut_units.specs.Products.{product};
-ghost use Rattle.pr_cut_units.specs.Table.{factor_width};
-ghost use Rattle.pr_cut_cells.specs.Arguments.{argument_of};
+ghost use Rattle.pr_cut_units.specs.Table.{factor_width, multiplied};
+ghost use Rattle.pr_cut_cells.specs.Arguments.{argument_of, both_at};
 
 use crate::operators::{bitwise, chosen};
 use crate::sums::{added, carried_equal, carried_less, sign_unit, subtracted};
@@ -39,8 +33,12 @@ pub fn both_widened(
 ) -> Result<Pair, AllocError>
     requires fits { length units.old.items + 2 < 2 ^ 32 }
     ensures grows { OnOk result (length units.new.items ≤ length units.old.items + 2) }
-    ensures units { IfOk result (λ p. (making : List Slice → List Slice → Making) → units.new.items ++ (making p.a.items p.b.items (length units.new.items)).units ≡ units.old.items ++ (both_widened t (argument_of a.now) (argument_of b.now) making (length units.old.items)).units) }
-    ensures slices { IfOk result (λ p. (making : List Slice → List Slice → Making) → (making p.a.items p.b.items (length units.new.items)).slices ≡ (both_widened t (argument_of a.now) (argument_of b.now) making (length units.old.items)).slices) }
+    ensures units { IfOk result (λ p. (making : List Slice → List Slice → Making) →
+        units_after units.new.items (making p.a.items p.b.items) ≡
+        units_after units.old.items (both_at t a.now b.now making)) }
+    ensures slices { IfOk result (λ p. (making : List Slice → List Slice → Making) →
+        slices_after units.new.items (making p.a.items p.b.items) ≡
+        slices_after units.old.items (both_at t a.now b.now making)) }
 {
     let x = widened(alloc, units, &a.slices, a.signed, a.width, t)?;
     let y = widened(alloc, units, &b.slices, b.signed, b.width, t)?;
@@ -87,8 +85,9 @@ fn sign_of_difference(
     requires few { m ≤ 129 }
     requires fits { length units.old.items + 48 < 2 ^ 32 }
     ensures grows { OnOk result (length units.new.items ≤ length units.old.items + 48) }
-    ensures units { IfOk result (λ s. units.new.items ≡ units.old.items ++ (followed_by (subtracted (m + 1) x.now y.now) (sign_unit m table) (length units.old.items)).units) }
-    ensures slices { IfOk result (λ s. s.items ≡ (followed_by (subtracted (m + 1) x.now y.now) (sign_unit m table) (length units.old.items)).slices) }
+    ensures units { IfOk result (λ s. units.new.items ≡
+        units_after units.old.items (difference_sign m table x.now y.now)) }
+    ensures slices { IfOk result (λ s. s.items ≡ slices_after units.old.items (difference_sign m table x.now y.now)) }
 {
     let difference = subtracted(alloc, units, m + 1, x, y)?;
     let bit = sign_unit(alloc, units, m, table, &difference)?;
@@ -106,8 +105,10 @@ pub fn both_bitwise(
 ) -> Result<Vec<Slice>, AllocError>
     requires fits { length units.old.items + 3 < 2 ^ 32 }
     ensures grows { OnOk result (length units.new.items ≤ length units.old.items + 3) }
-    ensures units { IfOk result (λ s. units.new.items ≡ units.old.items ++ (both_widened e (argument_of a.now) (argument_of b.now) (bitwise e table) (length units.old.items)).units) }
-    ensures slices { IfOk result (λ s. s.items ≡ (both_widened e (argument_of a.now) (argument_of b.now) (bitwise e table) (length units.old.items)).slices) }
+    ensures units { IfOk result (λ s. units.new.items ≡
+        units_after units.old.items (both_at e a.now b.now (bitwise e table))) }
+    ensures slices { IfOk result (λ s. s.items ≡
+        slices_after units.old.items (both_at e a.now b.now (bitwise e table))) }
 {
     let both = both_widened(alloc, units, e, a, b)?;
     let all = bitwise(alloc, units, e, table, &both.a, &both.b)?;
@@ -124,8 +125,8 @@ pub fn both_added(
 ) -> Result<Vec<Slice>, AllocError>
     requires fits { length units.old.items + 50 < 2 ^ 32 }
     ensures grows { OnOk result (length units.new.items ≤ length units.old.items + 50) }
-    ensures units { IfOk result (λ s. units.new.items ≡ units.old.items ++ (both_widened e (argument_of a.now) (argument_of b.now) (added e) (length units.old.items)).units) }
-    ensures slices { IfOk result (λ s. s.items ≡ (both_widened e (argument_of a.now) (argument_of b.now) (added e) (length units.old.items)).slices) }
+    ensures units { IfOk result (λ s. units.new.items ≡ units_after units.old.items (both_at e a.now b.now (added e))) }
+    ensures slices { IfOk result (λ s. s.items ≡ slices_after units.old.items (both_at e a.now b.now (added e))) }
 {
     let both = both_widened(alloc, units, e, a, b)?;
     let all = added(alloc, units, e, &both.a, &both.b)?;
@@ -142,8 +143,9 @@ pub fn both_subtracted(
 ) -> Result<Vec<Slice>, AllocError>
     requires fits { length units.old.items + 50 < 2 ^ 32 }
     ensures grows { OnOk result (length units.new.items ≤ length units.old.items + 50) }
-    ensures units { IfOk result (λ s. units.new.items ≡ units.old.items ++ (both_widened e (argument_of a.now) (argument_of b.now) (subtracted e) (length units.old.items)).units) }
-    ensures slices { IfOk result (λ s. s.items ≡ (both_widened e (argument_of a.now) (argument_of b.now) (subtracted e) (length units.old.items)).slices) }
+    ensures units { IfOk result (λ s. units.new.items ≡
+        units_after units.old.items (both_at e a.now b.now (subtracted e))) }
+    ensures slices { IfOk result (λ s. s.items ≡ slices_after units.old.items (both_at e a.now b.now (subtracted e))) }
 {
     let both = both_widened(alloc, units, e, a, b)?;
     let all = subtracted(alloc, units, e, &both.a, &both.b)?;
@@ -161,8 +163,10 @@ pub fn both_chosen(
 ) -> Result<Vec<Slice>, AllocError>
     requires fits { length units.old.items + 3 < 2 ^ 32 }
     ensures grows { OnOk result (length units.new.items ≤ length units.old.items + 3) }
-    ensures units { IfOk result (λ s. units.new.items ≡ units.old.items ++ (both_widened e (argument_of a.now) (argument_of b.now) (chosen e c.now) (length units.old.items)).units) }
-    ensures slices { IfOk result (λ s. s.items ≡ (both_widened e (argument_of a.now) (argument_of b.now) (chosen e c.now) (length units.old.items)).slices) }
+    ensures units { IfOk result (λ s. units.new.items ≡
+        units_after units.old.items (both_at e a.now b.now (chosen e c.now))) }
+    ensures slices { IfOk result (λ s. s.items ≡
+        slices_after units.old.items (both_at e a.now b.now (chosen e c.now))) }
 {
     let both = both_widened(alloc, units, e, a, b)?;
     let all = chosen(alloc, units, e, c, &both.a, &both.b)?;
@@ -180,8 +184,10 @@ fn both_multiplied(
 ) -> Result<Vec<Slice>, AllocError>
     requires fits { length units.old.items + 20000 < 2 ^ 32 }
     ensures grows { OnOk result (length units.new.items ≤ length units.old.items + 20000) }
-    ensures units { IfOk result (λ s. units.new.items ≡ units.old.items ++ (both_widened e (argument_of a.now) (argument_of b.now) (λ x y. product e x widths.0 y widths.1) (length units.old.items)).units) }
-    ensures slices { IfOk result (λ s. s.items ≡ (both_widened e (argument_of a.now) (argument_of b.now) (λ x y. product e x widths.0 y widths.1) (length units.old.items)).slices) }
+    ensures units { IfOk result (λ s. units.new.items ≡
+        units_after units.old.items (both_at e a.now b.now (λ x y. product e x widths.0 y widths.1))) }
+    ensures slices { IfOk result (λ s. s.items ≡
+        slices_after units.old.items (both_at e a.now b.now (λ x y. product e x widths.0 y widths.1))) }
 {
     let both = both_widened(alloc, units, e, a, b)?;
     let factors = Factors {
@@ -206,8 +212,10 @@ fn both_signed_less(
     requires few { m ≤ 129 }
     requires fits { length units.old.items + 60 < 2 ^ 32 }
     ensures grows { OnOk result (length units.new.items ≤ length units.old.items + 60) }
-    ensures units { IfOk result (λ s. units.new.items ≡ units.old.items ++ (both_widened (m + 1) (argument_of a.now) (argument_of b.now) (λ x y. followed_by (subtracted (m + 1) x y) (sign_unit m table)) (length units.old.items)).units) }
-    ensures slices { IfOk result (λ s. s.items ≡ (both_widened (m + 1) (argument_of a.now) (argument_of b.now) (λ x y. followed_by (subtracted (m + 1) x y) (sign_unit m table)) (length units.old.items)).slices) }
+    ensures units { IfOk result (λ s. units.new.items ≡
+        units_after units.old.items (both_at (m + 1) a.now b.now (difference_sign m table))) }
+    ensures slices { IfOk result (λ s. s.items ≡
+        slices_after units.old.items (both_at (m + 1) a.now b.now (difference_sign m table))) }
 {
     let both = both_widened(alloc, units, m + 1, a, b)?;
     let all = sign_of_difference(alloc, units, m, table, &both.a, &both.b)?;
@@ -225,8 +233,10 @@ fn both_equal(
 ) -> Result<Vec<Slice>, AllocError>
     requires fits { length units.old.items + 60 < 2 ^ 32 }
     ensures grows { OnOk result (length units.new.items ≤ length units.old.items + 60) }
-    ensures units { IfOk result (λ s. units.new.items ≡ units.old.items ++ (both_widened m (argument_of a.now) (argument_of b.now) (λ x y. closed_chain Carry.One closing (each (slices_of m) (λ i. record plain { a = byte x i; hi = byte y i; mode = Mode.Zero; table = 102 }))) (length units.old.items)).units) }
-    ensures slices { IfOk result (λ s. s.items ≡ (both_widened m (argument_of a.now) (argument_of b.now) (λ x y. closed_chain Carry.One closing (each (slices_of m) (λ i. record plain { a = byte x i; hi = byte y i; mode = Mode.Zero; table = 102 }))) (length units.old.items)).slices) }
+    ensures units { IfOk result (λ s. units.new.items ≡
+        units_after units.old.items (both_at m a.now b.now (equal_at m closing))) }
+    ensures slices { IfOk result (λ s. s.items ≡
+        slices_after units.old.items (both_at m a.now b.now (equal_at m closing))) }
 {
     let both = both_widened(alloc, units, m, a, b)?;
     let all = carried_equal(alloc, units, m, closing, &both.a, &both.b)?;
@@ -243,8 +253,10 @@ pub fn multiplied(
 ) -> Result<Vec<Slice>, AllocError>
     requires fits { length units.old.items + 20000 < 2 ^ 32 }
     ensures grows { OnOk result (length units.new.items ≤ length units.old.items + 20000) }
-    ensures units { IfOk result (λ s. units.new.items ≡ units.old.items ++ (both_widened e (argument_of a.now) (argument_of b.now) (λ x y. product e x (factor_width (is_any_signed (argument_of a.now) (argument_of b.now)) e (argument_of a.now).form) y (factor_width (is_any_signed (argument_of a.now) (argument_of b.now)) e (argument_of b.now).form)) (length units.old.items)).units) }
-    ensures slices { IfOk result (λ s. s.items ≡ (both_widened e (argument_of a.now) (argument_of b.now) (λ x y. product e x (factor_width (is_any_signed (argument_of a.now) (argument_of b.now)) e (argument_of a.now).form) y (factor_width (is_any_signed (argument_of a.now) (argument_of b.now)) e (argument_of b.now).form)) (length units.old.items)).slices) }
+    ensures units { IfOk result (λ s. units.new.items ≡
+        units_after units.old.items (multiplied e (argument_of a.now) (argument_of b.now))) }
+    ensures slices { IfOk result (λ s. s.items ≡
+        slices_after units.old.items (multiplied e (argument_of a.now) (argument_of b.now))) }
 {
     let any = is_any_signed(a, b);
     let wa = factor_width(any, e, a);
@@ -262,8 +274,10 @@ fn signed_less(
 ) -> Result<Vec<Slice>, AllocError>
     requires fits { length units.old.items + 60 < 2 ^ 32 }
     ensures grows { OnOk result (length units.new.items ≤ length units.old.items + 60) }
-    ensures units { IfOk result (λ s. units.new.items ≡ units.old.items ++ (signed_less table (argument_of a.now) (argument_of b.now) (length units.old.items)).units) }
-    ensures slices { IfOk result (λ s. s.items ≡ (signed_less table (argument_of a.now) (argument_of b.now) (length units.old.items)).slices) }
+    ensures units { IfOk result (λ s. units.new.items ≡
+        units_after units.old.items (signed_less table (argument_of a.now) (argument_of b.now))) }
+    ensures slices { IfOk result (λ s. s.items ≡
+        slices_after units.old.items (signed_less table (argument_of a.now) (argument_of b.now))) }
 {
     let m = signed_width(a).max(signed_width(b));
     both_signed_less(alloc, units, m, table, a, b)
@@ -279,8 +293,10 @@ pub fn equal(
 ) -> Result<Vec<Slice>, AllocError>
     requires fits { length units.old.items + 60 < 2 ^ 32 }
     ensures grows { OnOk result (length units.new.items ≤ length units.old.items + 60) }
-    ensures units { IfOk result (λ s. units.new.items ≡ units.old.items ++ (equal closing (argument_of a.now) (argument_of b.now) (length units.old.items)).units) }
-    ensures slices { IfOk result (λ s. s.items ≡ (equal closing (argument_of a.now) (argument_of b.now) (length units.old.items)).slices) }
+    ensures units { IfOk result (λ s. units.new.items ≡
+        units_after units.old.items (equal closing (argument_of a.now) (argument_of b.now))) }
+    ensures slices { IfOk result (λ s. s.items ≡
+        slices_after units.old.items (equal closing (argument_of a.now) (argument_of b.now))) }
 {
     let m = compared_width(a, b);
     let all = both_equal(alloc, units, m, closing, a, b)?;
@@ -307,8 +323,10 @@ pub fn less(
 ) -> Result<Vec<Slice>, AllocError>
     requires fits { length units.old.items + 60 < 2 ^ 32 }
     ensures grows { OnOk result (length units.new.items ≤ length units.old.items + 60) }
-    ensures units { IfOk result (λ s. units.new.items ≡ units.old.items ++ (less (argument_of a.now) (argument_of b.now) (length units.old.items)).units) }
-    ensures slices { IfOk result (λ s. s.items ≡ (less (argument_of a.now) (argument_of b.now) (length units.old.items)).slices) }
+    ensures units { IfOk result (λ s. units.new.items ≡
+        units_after units.old.items (less (argument_of a.now) (argument_of b.now))) }
+    ensures slices { IfOk result (λ s. s.items ≡
+        slices_after units.old.items (less (argument_of a.now) (argument_of b.now))) }
 {
     if is_any_signed(a, b) {
         return signed_less(alloc, units, 0xf0, a, b);
@@ -332,8 +350,10 @@ pub fn greater_equal(
 ) -> Result<Vec<Slice>, AllocError>
     requires fits { length units.old.items + 60 < 2 ^ 32 }
     ensures grows { OnOk result (length units.new.items ≤ length units.old.items + 60) }
-    ensures units { IfOk result (λ s. units.new.items ≡ units.old.items ++ (greater_equal (argument_of a.now) (argument_of b.now) (length units.old.items)).units) }
-    ensures slices { IfOk result (λ s. s.items ≡ (greater_equal (argument_of a.now) (argument_of b.now) (length units.old.items)).slices) }
+    ensures units { IfOk result (λ s. units.new.items ≡
+        units_after units.old.items (greater_equal (argument_of a.now) (argument_of b.now))) }
+    ensures slices { IfOk result (λ s. s.items ≡
+        slices_after units.old.items (greater_equal (argument_of a.now) (argument_of b.now))) }
 {
     if is_any_signed(a, b) {
         return signed_less(alloc, units, 0x0f, a, b);

@@ -1,15 +1,11 @@
 //! Operators that are one unit.
 
-ghost use Rattle.std.specs.Prelude.{ℕ, false, if◌then◌else◌, ◌≡◌, ◌≤◌, ◌<◌, ◌+◌, ◌-◌, ◌*◌, ◌/◌, ◌%◌, ◌^◌, ◌++◌, length, vec_len, OnOk, OnErr, IfOk, min, nat_lt, List};
-ghost use Rattle.pr_base.specs.Numbers.{slices_of, byte_at, top_mask_of};
-ghost use Rattle.pr_base.specs.declared.choices.Mode.{Mode};
-ghost use Rattle.pr_base.specs.declared.choices.Next.{Next};
-ghost use Rattle.pr_net.specs.declared.cells.Cell.{Cell};
-ghost use Rattle.pr_net.specs.declared.cells.Slice.{Slice};
-ghost use Rattle.pr_net.specs.declared.cells.Wire.{Wire};
-ghost use Rattle.pr_cut_units.specs.Cells.{plain, byte, top, bit_of, slice_at, slice_below, with_left, with_right, table_a, table_b, table_not_a};
-ghost use Rattle.pr_cut_units.specs.Parts.{each};
-ghost use Rattle.pr_cut_units.specs.Operators.{input_unit, bitwise, inverted, chosen, moved_left, extracted, concatenated, ends_whole};
+ghost use Rattle.std.specs.Prelude.{ℕ, false, if◌then◌else◌, ◌≡◌, ◌≤◌, ◌<◌, ◌+◌, ◌/◌, ◌^◌, length, vec_len, OnOk, IfOk, nat_lt};
+ghost use Rattle.pr_base.specs.Numbers.{slices_of};
+ghost use Rattle.pr_cut_units.specs.Cells.{slice_at, slice_below};
+ghost use Rattle.pr_cut_units.specs.Parts.{each, units_after, slices_after};
+ghost use Rattle.pr_cut_units.specs.Widening.{read_as};
+ghost use Rattle.pr_cut_units.specs.Operators.{input_cell, input_unit, bitwise_cell, bitwise, inverted_cell, inverted, chosen_cell, chosen, moved_left_cell, moved_left, extracted_cell, extracted, joined_slice, joined_cell, concatenated, ends_whole};
 
 use pr_base::{Mode, Next, slices};
 use pr_cut_cells::{
@@ -23,7 +19,7 @@ use std::alloc::{AllocError, Global};
 fn input_cells(alloc: Global, w: u8, offset: u8) -> Result<Vec<Cell>, AllocError>
     requires { offset ≤ 128 }
     ensures count { IfOk result (λ all. vec_len all ≡ slices_of w) }
-    ensures all { IfOk result (λ all. all.items ≡ each (slices_of w) (λ i. record plain { a = Wire.Bus (offset + i); table = 170; mask = top w i })) }
+    ensures all { IfOk result (λ all. all.items ≡ each (slices_of w) (λ i. input_cell w offset i)) }
 {
     let mut all = Vec::new(alloc);
     for i in 0..slices(w) {
@@ -47,8 +43,8 @@ pub fn input_unit(
     requires place { offset ≤ 128 }
     requires fits { length units.old.items < 2 ^ 32 }
     ensures grows { OnOk result (length units.new.items ≤ length units.old.items + 1) }
-    ensures units { OnOk result (units.new.items ≡ units.old.items ++ (input_unit w offset (length units.old.items)).units) }
-    ensures slices { IfOk result (λ s. s.items ≡ (input_unit w offset (length units.old.items)).slices) }
+    ensures units { OnOk result (units.new.items ≡ units_after units.old.items (input_unit w offset)) }
+    ensures slices { IfOk result (λ s. s.items ≡ slices_after units.old.items (input_unit w offset)) }
 {
     let cells = input_cells(alloc, w, offset)?;
     push_unit(alloc, units, cells)
@@ -64,7 +60,7 @@ fn bitwise_cells(
     y: &[Slice],
 ) -> Result<Vec<Cell>, AllocError>
     ensures count { IfOk result (λ all. vec_len all ≡ slices_of e) }
-    ensures all { IfOk result (λ all. all.items ≡ each (slices_of e) (λ i. record plain { a = byte x.now i; hi = byte y.now i; table = table; mask = top e i })) }
+    ensures all { IfOk result (λ all. all.items ≡ each (slices_of e) (λ i. bitwise_cell e table x.now y.now i)) }
 {
     let mut all = Vec::new(alloc);
     for i in 0..slices(e) {
@@ -90,8 +86,8 @@ pub fn bitwise(
 ) -> Result<Vec<Slice>, AllocError>
     requires fits { length units.old.items < 2 ^ 32 }
     ensures grows { OnOk result (length units.new.items ≤ length units.old.items + 1) }
-    ensures units { OnOk result (units.new.items ≡ units.old.items ++ (bitwise e table x.now y.now (length units.old.items)).units) }
-    ensures slices { IfOk result (λ s. s.items ≡ (bitwise e table x.now y.now (length units.old.items)).slices) }
+    ensures units { OnOk result (units.new.items ≡ units_after units.old.items (bitwise e table x.now y.now)) }
+    ensures slices { IfOk result (λ s. s.items ≡ slices_after units.old.items (bitwise e table x.now y.now)) }
 {
     let cells = bitwise_cells(alloc, e, table, x, y)?;
     push_unit(alloc, units, cells)
@@ -101,7 +97,7 @@ pub fn bitwise(
 #[tactic(auto, using(pr_cut_units::proofs::EachLemmas::each_more))]
 fn inverted_cells(alloc: Global, e: u8, x: &[Slice]) -> Result<Vec<Cell>, AllocError>
     ensures count { IfOk result (λ all. vec_len all ≡ slices_of e) }
-    ensures all { IfOk result (λ all. all.items ≡ each (slices_of e) (λ i. record plain { a = byte x.now i; table = 85; mask = top e i })) }
+    ensures all { IfOk result (λ all. all.items ≡ each (slices_of e) (λ i. inverted_cell e x.now i)) }
 {
     let mut all = Vec::new(alloc);
     for i in 0..slices(e) {
@@ -124,8 +120,8 @@ pub fn inverted(
 ) -> Result<Vec<Slice>, AllocError>
     requires fits { length units.old.items < 2 ^ 32 }
     ensures grows { OnOk result (length units.new.items ≤ length units.old.items + 1) }
-    ensures units { OnOk result (units.new.items ≡ units.old.items ++ (inverted e x.now (length units.old.items)).units) }
-    ensures slices { IfOk result (λ s. s.items ≡ (inverted e x.now (length units.old.items)).slices) }
+    ensures units { OnOk result (units.new.items ≡ units_after units.old.items (inverted e x.now)) }
+    ensures slices { IfOk result (λ s. s.items ≡ slices_after units.old.items (inverted e x.now)) }
 {
     let cells = inverted_cells(alloc, e, x)?;
     push_unit(alloc, units, cells)
@@ -141,7 +137,7 @@ fn chosen_cells(
     y: &[Slice],
 ) -> Result<Vec<Cell>, AllocError>
     ensures count { IfOk result (λ all. vec_len all ≡ slices_of e) }
-    ensures all { IfOk result (λ all. all.items ≡ each (slices_of e) (λ i. record plain { a = byte x.now i; hi = byte y.now i; c = bit_of c.now 0; table = 172; mask = top e i })) }
+    ensures all { IfOk result (λ all. all.items ≡ each (slices_of e) (λ i. chosen_cell e c.now x.now y.now i)) }
 {
     let mut all = Vec::new(alloc);
     for i in 0..slices(e) {
@@ -168,8 +164,8 @@ pub fn chosen(
 ) -> Result<Vec<Slice>, AllocError>
     requires fits { length units.old.items < 2 ^ 32 }
     ensures grows { OnOk result (length units.new.items ≤ length units.old.items + 1) }
-    ensures units { OnOk result (units.new.items ≡ units.old.items ++ (chosen e c.now x.now y.now (length units.old.items)).units) }
-    ensures slices { IfOk result (λ s. s.items ≡ (chosen e c.now x.now y.now (length units.old.items)).slices) }
+    ensures units { OnOk result (units.new.items ≡ units_after units.old.items (chosen e c.now x.now y.now)) }
+    ensures slices { IfOk result (λ s. s.items ≡ slices_after units.old.items (chosen e c.now x.now y.now)) }
 {
     let cells = chosen_cells(alloc, e, c, x, y)?;
     push_unit(alloc, units, cells)
@@ -204,7 +200,7 @@ fn moved_left_cells(
     x: &[Slice],
 ) -> Result<Vec<Cell>, AllocError>
     ensures count { IfOk result (λ all. vec_len all ≡ slices_of e) }
-    ensures all { IfOk result (λ all. all.items ≡ each (slices_of e) (λ i. with_left x.now k i (record plain { table = 204; mask = top e i }))) }
+    ensures all { IfOk result (λ all. all.items ≡ each (slices_of e) (λ i. moved_left_cell e k x.now i)) }
 {
     let mut all = Vec::new(alloc);
     for i in 0..slices(e) {
@@ -233,8 +229,8 @@ pub fn moved_left(
 ) -> Result<Vec<Slice>, AllocError>
     requires fits { length units.old.items < 2 ^ 32 }
     ensures grows { OnOk result (length units.new.items ≤ length units.old.items + 1) }
-    ensures units { OnOk result (units.new.items ≡ units.old.items ++ (moved_left e w k x.now (length units.old.items)).units) }
-    ensures slices { IfOk result (λ s. s.items ≡ (moved_left e w k x.now (length units.old.items)).slices) }
+    ensures units { OnOk result (units.new.items ≡ units_after units.old.items (moved_left e w k x.now)) }
+    ensures slices { IfOk result (λ s. s.items ≡ slices_after units.old.items (moved_left e w k x.now)) }
 {
     if k % 8 == 0 && ends_whole(u64::from(e), u64::from(w) + u64::from(k)) {
         return moved_left_slices(alloc, e, w, k, x);
@@ -274,7 +270,7 @@ fn extracted_cells(
 ) -> Result<Vec<Cell>, AllocError>
     requires { l < 2 ^ 32 }
     ensures count { IfOk result (λ all. vec_len all ≡ slices_of e) }
-    ensures all { IfOk result (λ all. all.items ≡ each (slices_of e) (λ i. with_right x.now l i (record plain { table = 204; mask = top e i }))) }
+    ensures all { IfOk result (λ all. all.items ≡ each (slices_of e) (λ i. extracted_cell e l x.now i)) }
 {
     let mut all = Vec::new(alloc);
     for i in 0..slices(e) {
@@ -304,8 +300,8 @@ pub fn extracted(
     requires small { l < 2 ^ 32 }
     requires fits { length units.old.items < 2 ^ 32 }
     ensures grows { OnOk result (length units.new.items ≤ length units.old.items + 1) }
-    ensures units { OnOk result (units.new.items ≡ units.old.items ++ (extracted e w l x.now (length units.old.items)).units) }
-    ensures slices { IfOk result (λ s. s.items ≡ (extracted e w l x.now (length units.old.items)).slices) }
+    ensures units { OnOk result (units.new.items ≡ units_after units.old.items (extracted e w l x.now)) }
+    ensures slices { IfOk result (λ s. s.items ≡ slices_after units.old.items (extracted e w l x.now)) }
 {
     if l % 8 == 0 && ends_whole(l + u64::from(e), u64::from(w)) {
         return extracted_slices(alloc, e, w, l, x);
@@ -324,7 +320,7 @@ fn joined_slices(
     y: &[Slice],
 ) -> Result<Vec<Slice>, AllocError>
     ensures count { IfOk result (λ all. vec_len all ≡ slices_of e) }
-    ensures all { IfOk result (λ all. all.items ≡ each (slices_of e) (λ i. if nat_lt i (wb / 8) then slice_at y.now i else slice_below x.now i (wb / 8))) }
+    ensures all { IfOk result (λ all. all.items ≡ each (slices_of e) (λ i. joined_slice wb x.now y.now i)) }
 {
     let mut all = Vec::new(alloc);
     for i in 0..slices(e) {
@@ -343,7 +339,7 @@ fn joined_cells(
     y: &[Slice],
 ) -> Result<Vec<Cell>, AllocError>
     ensures count { IfOk result (λ all. vec_len all ≡ slices_of e) }
-    ensures all { IfOk result (λ all. all.items ≡ each (slices_of e) (λ i. with_left x.now wb i (record plain { a = byte y.now i; table = 238; mask = top e i }))) }
+    ensures all { IfOk result (λ all. all.items ≡ each (slices_of e) (λ i. joined_cell e wb x.now y.now i)) }
 {
     let mut all = Vec::new(alloc);
     for i in 0..slices(e) {
@@ -373,8 +369,10 @@ pub fn joined(
 ) -> Result<Vec<Slice>, AllocError>
     requires fits { length units.old.items < 2 ^ 32 }
     ensures grows { OnOk result (length units.new.items ≤ length units.old.items + 1) }
-    ensures units { IfOk result (λ s. units.new.items ≡ units.old.items ++ (concatenated e (record { slices = x.now; form = record { signed = false; width = widths.0 } }) (record { slices = y.now; form = record { signed = false; width = widths.1 } }) (length units.old.items)).units) }
-    ensures slices { IfOk result (λ s. s.items ≡ (concatenated e (record { slices = x.now; form = record { signed = false; width = widths.0 } }) (record { slices = y.now; form = record { signed = false; width = widths.1 } }) (length units.old.items)).slices) }
+    ensures units { IfOk result (λ s. units.new.items ≡
+        units_after units.old.items (concatenated e (read_as false widths.0 x.now) (read_as false widths.1 y.now))) }
+    ensures slices { IfOk result (λ s. s.items ≡
+        slices_after units.old.items (concatenated e (read_as false widths.0 x.now) (read_as false widths.1 y.now))) }
 {
     let (wa, wb) = widths;
     if wb % 8 == 0 && ends_whole(u64::from(e), u64::from(wa) + u64::from(wb)) {

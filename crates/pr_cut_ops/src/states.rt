@@ -1,15 +1,10 @@
 //! Units with state.
 
-ghost use Rattle.std.specs.Prelude.{ℕ, ◌∷◌, [], ◌≡◌, ◌≤◌, ◌<◌, ◌+◌, ◌-◌, ◌*◌, ◌/◌, ◌%◌, ◌^◌, ◌++◌, length, vec_len, OnOk, OnErr, IfOk, min, nat_lt, List};
-ghost use Rattle.pr_base.specs.Numbers.{slices_of, byte_at, top_mask_of};
-ghost use Rattle.pr_base.specs.declared.choices.Mode.{Mode};
-ghost use Rattle.pr_base.specs.declared.choices.Next.{Next};
-ghost use Rattle.pr_net.specs.declared.cells.Cell.{Cell};
+ghost use Rattle.std.specs.Prelude.{ℕ, ◌∷◌, [], ◌≡◌, ◌≤◌, ◌<◌, ◌+◌, ◌^◌, ◌++◌, length, vec_len, OnOk, IfOk};
+ghost use Rattle.pr_base.specs.Numbers.{slices_of};
 ghost use Rattle.pr_net.specs.declared.cells.Slice.{Slice};
-ghost use Rattle.pr_net.specs.declared.cells.Wire.{Wire};
-ghost use Rattle.pr_cut_units.specs.Cells.{plain, byte, top, bit_of, slice_at, slice_below, with_left, with_right, table_a, table_b, table_not_a};
-ghost use Rattle.pr_cut_units.specs.Parts.{each};
-ghost use Rattle.pr_cut_units.specs.States.{delayed, hold_cell, later_cell, hold_units, past_slices};
+ghost use Rattle.pr_cut_units.specs.Parts.{each, units_after, slices_after};
+ghost use Rattle.pr_cut_units.specs.States.{delayed_cell, delayed, hold_cell, later_cell, hold_units};
 
 use pr_base::{Next, byte_of, slices};
 use pr_cut_cells::{byte, plain, push_unit, slices_of_unit, top};
@@ -26,7 +21,7 @@ fn delayed_cells(
     unit: u32,
 ) -> Result<Vec<Cell>, AllocError>
     ensures count { IfOk result (λ all. vec_len all ≡ slices_of w) }
-    ensures all { IfOk result (λ all. all.items ≡ each (slices_of w) (λ i. record plain { a = byte x.now i; hi = Wire.State unit i; table = 204; next = Next.A; init = byte_at c i })) }
+    ensures all { IfOk result (λ all. all.items ≡ each (slices_of w) (λ i. delayed_cell c x.now unit i)) }
 {
     let mut all = Vec::new(alloc);
     for i in 0..slices(w) {
@@ -52,8 +47,8 @@ pub fn delayed(
 ) -> Result<Vec<Slice>, AllocError>
     requires fits { length units.old.items < 2 ^ 32 }
     ensures grows { OnOk result (length units.new.items ≤ length units.old.items + 1) }
-    ensures units { OnOk result (units.new.items ≡ units.old.items ++ (delayed w c x.now (length units.old.items)).units) }
-    ensures slices { IfOk result (λ s. s.items ≡ (delayed w c x.now (length units.old.items)).slices) }
+    ensures units { OnOk result (units.new.items ≡ units_after units.old.items (delayed w c x.now)) }
+    ensures slices { IfOk result (λ s. s.items ≡ slices_after units.old.items (delayed w c x.now)) }
 {
     let cells = delayed_cells(alloc, w, c, x, units.len() as u32)?;
     push_unit(alloc, units, cells)
@@ -121,7 +116,8 @@ fn push_later(
     before: u32,
 ) -> Result<(), AllocError>
     requires fits { length units.old.items < 2 ^ 32 }
-    ensures units { OnOk result (units.new.items ≡ units.old.items ++ each (slices_of w) (later_cell init before) ∷ []) }
+    ensures units { OnOk result (units.new.items ≡
+        units.old.items ++ each (slices_of w) (later_cell init before) ∷ []) }
 {
     let cells = later_cells(alloc, w, init, before)?;
     units.push(Unit { cells })?;
@@ -140,8 +136,8 @@ pub fn hold_units(
 ) -> Result<Vec<Slice>, AllocError>
     requires some { 1 ≤ k }
     requires fits { length units.old.items + k < 2 ^ 32 }
-    ensures units { OnOk result (units.new.items ≡ units.old.items ++ (hold_units w init k x.now (length units.old.items)).units) }
-    ensures slices { IfOk result (λ s. s.items ≡ (hold_units w init k x.now (length units.old.items)).slices) }
+    ensures units { OnOk result (units.new.items ≡ units_after units.old.items (hold_units w init k x.now)) }
+    ensures slices { IfOk result (λ s. s.items ≡ slices_after units.old.items (hold_units w init k x.now)) }
 {
     let cells = hold_cells(alloc, w, init, x)?;
     let first = units.len() as u32;

@@ -1,18 +1,10 @@
 //! Sums, differences and comparisons of slices.
 
-ghost use Rattle.std.specs.Prelude.{ℕ, ◌≡◌, ◌≤◌, ◌<◌, ◌+◌, ◌-◌, ◌*◌, ◌/◌, ◌%◌, ◌^◌, ◌++◌, length, vec_len, OnOk, OnErr, IfOk, min, nat_lt, List};
-ghost use Rattle.pr_base.specs.Numbers.{slices_of, byte_at, top_mask_of};
-ghost use Rattle.pr_base.specs.declared.choices.Mode.{Mode};
-ghost use Rattle.pr_base.specs.declared.choices.Next.{Next};
-ghost use Rattle.pr_net.specs.declared.cells.Cell.{Cell};
-ghost use Rattle.pr_net.specs.declared.cells.Slice.{Slice};
-ghost use Rattle.pr_net.specs.declared.cells.Wire.{Wire};
-ghost use Rattle.pr_cut_units.specs.Cells.{plain, byte, top, bit_of, slice_at, slice_below, with_left, with_right, table_a, table_b, table_not_a};
-ghost use Rattle.pr_cut_units.specs.Parts.{each};
-ghost use Rattle.pr_base.specs.declared.choices.Carry.{Carry};
-ghost use Rattle.pr_cut_units.specs.declared.chains.Style.{Style};
-ghost use Rattle.pr_cut_units.specs.Chains.{closed_chain};
-ghost use Rattle.pr_cut_units.specs.Operators.{sum_cell, added, subtracted, sign_unit};
+ghost use Rattle.std.specs.Prelude.{ℕ, ◌≡◌, ◌≤◌, ◌<◌, ◌+◌, ◌^◌, length, vec_len, OnOk, IfOk};
+ghost use Rattle.pr_base.specs.Numbers.{slices_of};
+ghost use Rattle.pr_cut_units.specs.Cells.{plain, bit_of};
+ghost use Rattle.pr_cut_units.specs.Parts.{each, units_after, slices_after};
+ghost use Rattle.pr_cut_units.specs.Operators.{sum_cell, masked_cell, added, subtracted, difference_carry, equal_cell, equal_at, sign_unit};
 
 use pr_base::{Carry, Mode, slices};
 use pr_cut_cells::{bit_of, byte, chain, closed_chain, plain, push_unit, top};
@@ -30,7 +22,7 @@ fn sum_cells(
     y: &[Slice],
 ) -> Result<Vec<Cell>, AllocError>
     ensures count { IfOk result (λ all. vec_len all ≡ slices_of e) }
-    ensures all { IfOk result (λ all. all.items ≡ each (slices_of e) (λ i. record (sum_cell table x.now y.now i) { mask = top e i })) }
+    ensures all { IfOk result (λ all. all.items ≡ each (slices_of e) (λ i. masked_cell e table x.now y.now i)) }
 {
     let mut all = Vec::new(alloc);
     for i in 0..slices(e) {
@@ -69,7 +61,7 @@ fn difference_cells(alloc: Global, w: u8, x: &[Slice], y: &[Slice]) -> Result<Ve
 #[tactic(auto, using(pr_cut_units::proofs::EachLemmas::each_more))]
 fn equal_cells(alloc: Global, w: u8, x: &[Slice], y: &[Slice]) -> Result<Vec<Cell>, AllocError>
     ensures count { IfOk result (λ all. vec_len all ≡ slices_of w) }
-    ensures all { IfOk result (λ all. all.items ≡ each (slices_of w) (λ i. record plain { a = byte x.now i; hi = byte y.now i; mode = Mode.Zero; table = 102 })) }
+    ensures all { IfOk result (λ all. all.items ≡ each (slices_of w) (λ i. equal_cell x.now y.now i)) }
 {
     let mut all = Vec::new(alloc);
     for i in 0..slices(w) {
@@ -94,8 +86,8 @@ pub fn added(
 ) -> Result<Vec<Slice>, AllocError>
     requires fits { length units.old.items + 40 < 2 ^ 32 }
     ensures grows { OnOk result (length units.new.items ≤ length units.old.items + 40) }
-    ensures units { OnOk result (units.new.items ≡ units.old.items ++ (added e x.now y.now (length units.old.items)).units) }
-    ensures slices { IfOk result (λ s. s.items ≡ (added e x.now y.now (length units.old.items)).slices) }
+    ensures units { OnOk result (units.new.items ≡ units_after units.old.items (added e x.now y.now)) }
+    ensures slices { IfOk result (λ s. s.items ≡ slices_after units.old.items (added e x.now y.now)) }
 {
     let cells = sum_cells(alloc, e, 0xcc, x, y)?;
     chain(alloc, units, Style::ByBit, Carry::Zero, &cells)
@@ -111,8 +103,8 @@ pub fn subtracted(
 ) -> Result<Vec<Slice>, AllocError>
     requires fits { length units.old.items + 40 < 2 ^ 32 }
     ensures grows { OnOk result (length units.new.items ≤ length units.old.items + 40) }
-    ensures units { OnOk result (units.new.items ≡ units.old.items ++ (subtracted e x.now y.now (length units.old.items)).units) }
-    ensures slices { IfOk result (λ s. s.items ≡ (subtracted e x.now y.now (length units.old.items)).slices) }
+    ensures units { OnOk result (units.new.items ≡ units_after units.old.items (subtracted e x.now y.now)) }
+    ensures slices { IfOk result (λ s. s.items ≡ slices_after units.old.items (subtracted e x.now y.now)) }
 {
     let cells = sum_cells(alloc, e, 0x33, x, y)?;
     chain(alloc, units, Style::ByBit, Carry::One, &cells)
@@ -129,8 +121,10 @@ pub fn carried_less(
 ) -> Result<Vec<Slice>, AllocError>
     requires fits { length units.old.items + 40 < 2 ^ 32 }
     ensures grows { OnOk result (length units.new.items ≤ length units.old.items + 40) }
-    ensures units { OnOk result (units.new.items ≡ units.old.items ++ (closed_chain Carry.One closing (each (slices_of w) (sum_cell 51 x.now y.now)) (length units.old.items)).units) }
-    ensures slices { IfOk result (λ s. s.items ≡ (closed_chain Carry.One closing (each (slices_of w) (sum_cell 51 x.now y.now)) (length units.old.items)).slices) }
+    ensures units { OnOk result (units.new.items ≡
+        units_after units.old.items (difference_carry w closing x.now y.now)) }
+    ensures slices { IfOk result (λ s. s.items ≡
+        slices_after units.old.items (difference_carry w closing x.now y.now)) }
 {
     let cells = difference_cells(alloc, w, x, y)?;
     closed_chain(alloc, units, Carry::One, closing, &cells)
@@ -147,8 +141,8 @@ pub fn carried_equal(
 ) -> Result<Vec<Slice>, AllocError>
     requires fits { length units.old.items + 40 < 2 ^ 32 }
     ensures grows { OnOk result (length units.new.items ≤ length units.old.items + 40) }
-    ensures units { OnOk result (units.new.items ≡ units.old.items ++ (closed_chain Carry.One closing (each (slices_of w) (λ i. record plain { a = byte x.now i; hi = byte y.now i; mode = Mode.Zero; table = 102 })) (length units.old.items)).units) }
-    ensures slices { IfOk result (λ s. s.items ≡ (closed_chain Carry.One closing (each (slices_of w) (λ i. record plain { a = byte x.now i; hi = byte y.now i; mode = Mode.Zero; table = 102 })) (length units.old.items)).slices) }
+    ensures units { OnOk result (units.new.items ≡ units_after units.old.items (equal_at w closing x.now y.now)) }
+    ensures slices { IfOk result (λ s. s.items ≡ slices_after units.old.items (equal_at w closing x.now y.now)) }
 {
     let cells = equal_cells(alloc, w, x, y)?;
     closed_chain(alloc, units, Carry::One, closing, &cells)
@@ -157,7 +151,8 @@ pub fn carried_equal(
 /// The cell that shows bit `m` of a difference.
 fn sign_cell(alloc: Global, m: u8, table: u8, d: &[Slice]) -> Result<Vec<Cell>, AllocError>
     ensures count { IfOk result (λ all. vec_len all ≡ 1) }
-    ensures all { IfOk result (λ all. all.items ≡ each 1 (λ i. record plain { c = bit_of d.now m; table = table; mask = 1 })) }
+    ensures all { IfOk result (λ all. all.items ≡
+        each 1 (λ i. record plain { c = bit_of d.now m; table = table; mask = 1 })) }
 {
     let mut all = Vec::new(alloc);
     all.push(Cell {
@@ -179,8 +174,8 @@ pub fn sign_unit(
 ) -> Result<Vec<Slice>, AllocError>
     requires fits { length units.old.items < 2 ^ 32 }
     ensures grows { OnOk result (length units.new.items ≤ length units.old.items + 1) }
-    ensures units { OnOk result (units.new.items ≡ units.old.items ++ (sign_unit m table d.now (length units.old.items)).units) }
-    ensures slices { IfOk result (λ s. s.items ≡ (sign_unit m table d.now (length units.old.items)).slices) }
+    ensures units { OnOk result (units.new.items ≡ units_after units.old.items (sign_unit m table d.now)) }
+    ensures slices { IfOk result (λ s. s.items ≡ slices_after units.old.items (sign_unit m table d.now)) }
 {
     let cells = sign_cell(alloc, m, table, d)?;
     push_unit(alloc, units, cells)

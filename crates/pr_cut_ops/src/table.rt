@@ -1,14 +1,14 @@
 //! The table: the units of an operator.
 
-ghost use Rattle.std.specs.Prelude.{ℕ, false, ◌≡◌, ◌≤◌, ◌<◌, ◌+◌, ◌^◌, ◌++◌, [], ◌∷◌, Bool, true, nat_lt, List, length, OnOk, IfOk};
+ghost use Rattle.std.specs.Prelude.{ℕ, ◌≡◌, ◌≤◌, ◌<◌, ◌+◌, ◌^◌, [], ◌∷◌, true, length, OnOk, IfOk};
 ghost use Rattle.pr_base.specs.Numbers.{slices_of};
 ghost use Rattle.pr_flat.specs.declared.equations.Op.{Op};
-ghost use Rattle.pr_cut_units.specs.Operators.{moved_right, extracted, concatenated};
-ghost use Rattle.pr_cut_units.specs.Parts.{followed_by, filled};
-ghost use Rattle.pr_cut_units.specs.Widening.{flipped, widened};
-ghost use Rattle.pr_cut_units.specs.Shifts.{shifted_by, moved_by, signed_moved_by};
+ghost use Rattle.pr_cut_units.specs.Operators.{moved_right, concatenated};
+ghost use Rattle.pr_cut_units.specs.Parts.{filled, units_after, slices_after};
+ghost use Rattle.pr_cut_units.specs.Widening.{read_as, widened};
+ghost use Rattle.pr_cut_units.specs.Shifts.{moved_by, flipped_back, shifted_back, signed_moved_by};
 ghost use Rattle.pr_cut_units.specs.Table.{operator_units};
-ghost use Rattle.pr_cut_cells.specs.Arguments.{argument_of};
+ghost use Rattle.pr_cut_cells.specs.Arguments.{argument_of, pair_of, triple_of};
 ghost use Rattle.pr_cut_ops.specs.Low.{is_low};
 
 use crate::compared::{
@@ -31,8 +31,9 @@ fn moved_right(
 ) -> Result<Vec<Slice>, AllocError>
     requires fits { length units.old.items + 1 < 2 ^ 32 }
     ensures grows { OnOk result (length units.new.items ≤ length units.old.items + 1) }
-    ensures units { IfOk result (λ s. units.new.items ≡ units.old.items ++ (moved_right e k (argument_of a.now) (length units.old.items)).units) }
-    ensures slices { IfOk result (λ s. s.items ≡ (moved_right e k (argument_of a.now) (length units.old.items)).slices) }
+    ensures units { IfOk result (λ s. units.new.items ≡
+        units_after units.old.items (moved_right e k (argument_of a.now))) }
+    ensures slices { IfOk result (λ s. s.items ≡ slices_after units.old.items (moved_right e k (argument_of a.now))) }
 {
     if a.signed {
         return extracted(
@@ -64,8 +65,10 @@ fn moved_by(
 ) -> Result<Vec<Slice>, AllocError>
     requires fits { length units.old.items + 300 < 2 ^ 32 }
     ensures grows { OnOk result (length units.new.items ≤ length units.old.items + 300) }
-    ensures units { IfOk result (λ s. units.new.items ≡ units.old.items ++ (moved_by left e (argument_of a.now) (argument_of by.now) (length units.old.items)).units) }
-    ensures slices { IfOk result (λ s. s.items ≡ (moved_by left e (argument_of a.now) (argument_of by.now) (length units.old.items)).slices) }
+    ensures units { IfOk result (λ s. units.new.items ≡
+        units_after units.old.items (moved_by left e (argument_of a.now) (argument_of by.now))) }
+    ensures slices { IfOk result (λ s. s.items ≡
+        slices_after units.old.items (moved_by left e (argument_of a.now) (argument_of by.now))) }
 {
     let shift = Shift {
         left,
@@ -89,8 +92,10 @@ pub fn operator_one(
     requires low { is_low op ≡ true }
     requires fits { length units.old.items + 1 < 2 ^ 32 }
     ensures grows { OnOk result (length units.new.items ≤ length units.old.items + 1) }
-    ensures units { IfOk result (λ s. units.new.items ≡ units.old.items ++ (operator_units e op (argument_of a.now ∷ []) (length units.old.items)).units) }
-    ensures slices { IfOk result (λ s. s.items ≡ (operator_units e op (argument_of a.now ∷ []) (length units.old.items)).slices) }
+    ensures units { IfOk result (λ s. units.new.items ≡
+        units_after units.old.items (operator_units e op (argument_of a.now ∷ []))) }
+    ensures slices { IfOk result (λ s. s.items ≡
+        slices_after units.old.items (operator_units e op (argument_of a.now ∷ []))) }
 {
     match op {
         Op::Not => inverted(alloc, units, e, &a.slices),
@@ -113,8 +118,10 @@ fn flipped_back(
 ) -> Result<Vec<Slice>, AllocError>
     requires fits { length units.old.items + 2 < 2 ^ 32 }
     ensures grows { OnOk result (length units.new.items ≤ length units.old.items + 2) }
-    ensures units { IfOk result (λ s. units.new.items ≡ units.old.items ++ (followed_by (flipped (argument_of a.now) y.now) (λ z. extracted e a.now.width 0 z) (length units.old.items)).units) }
-    ensures slices { IfOk result (λ s. s.items ≡ (followed_by (flipped (argument_of a.now) y.now) (λ z. extracted e a.now.width 0 z) (length units.old.items)).slices) }
+    ensures units { IfOk result (λ s. units.new.items ≡
+        units_after units.old.items (flipped_back e (argument_of a.now) y.now)) }
+    ensures slices { IfOk result (λ s. s.items ≡
+        slices_after units.old.items (flipped_back e (argument_of a.now) y.now)) }
 {
     let z = flipped(alloc, units, &a.slices, a.width, y)?;
     let low = extracted(alloc, units, e, a.width, 0, &z)?;
@@ -133,8 +140,10 @@ fn shifted_back(
 ) -> Result<Vec<Slice>, AllocError>
     requires fits { length units.old.items + 300 < 2 ^ 32 }
     ensures grows { OnOk result (length units.new.items ≤ length units.old.items + 300) }
-    ensures units { IfOk result (λ s. units.new.items ≡ units.old.items ++ (followed_by (shifted_by false a.now.width by.now.slices.items by.now.width x.now) (λ y. followed_by (flipped (argument_of a.now) y) (λ z. extracted e a.now.width 0 z)) (length units.old.items)).units) }
-    ensures slices { IfOk result (λ s. s.items ≡ (followed_by (shifted_by false a.now.width by.now.slices.items by.now.width x.now) (λ y. followed_by (flipped (argument_of a.now) y) (λ z. extracted e a.now.width 0 z)) (length units.old.items)).slices) }
+    ensures units { IfOk result (λ s. units.new.items ≡
+        units_after units.old.items (shifted_back e (argument_of a.now) (argument_of by.now) x.now)) }
+    ensures slices { IfOk result (λ s. s.items ≡
+        slices_after units.old.items (shifted_back e (argument_of a.now) (argument_of by.now) x.now)) }
 {
     let shift = Shift {
         left: false,
@@ -158,8 +167,10 @@ fn signed_moved_by(
 ) -> Result<Vec<Slice>, AllocError>
     requires fits { length units.old.items + 302 < 2 ^ 32 }
     ensures grows { OnOk result (length units.new.items ≤ length units.old.items + 302) }
-    ensures units { IfOk result (λ s. units.new.items ≡ units.old.items ++ (signed_moved_by e (argument_of a.now) (argument_of by.now) (length units.old.items)).units) }
-    ensures slices { IfOk result (λ s. s.items ≡ (signed_moved_by e (argument_of a.now) (argument_of by.now) (length units.old.items)).slices) }
+    ensures units { IfOk result (λ s. units.new.items ≡
+        units_after units.old.items (signed_moved_by e (argument_of a.now) (argument_of by.now))) }
+    ensures slices { IfOk result (λ s. s.items ≡
+        slices_after units.old.items (signed_moved_by e (argument_of a.now) (argument_of by.now))) }
 {
     let x = flipped(alloc, units, &a.slices, a.width, &a.slices)?;
     let low = shifted_back(alloc, units, e, a, by, &x)?;
@@ -176,8 +187,10 @@ fn moved_right_by(
 ) -> Result<Vec<Slice>, AllocError>
     requires fits { length units.old.items + 302 < 2 ^ 32 }
     ensures grows { OnOk result (length units.new.items ≤ length units.old.items + 302) }
-    ensures units { IfOk result (λ s. units.new.items ≡ units.old.items ++ (operator_units e Op.RightBy ((argument_of a.now) ∷ argument_of by.now ∷ []) (length units.old.items)).units) }
-    ensures slices { IfOk result (λ s. s.items ≡ (operator_units e Op.RightBy ((argument_of a.now) ∷ argument_of by.now ∷ []) (length units.old.items)).slices) }
+    ensures units { IfOk result (λ s. units.new.items ≡
+        units_after units.old.items (operator_units e Op.RightBy (pair_of a.now by.now))) }
+    ensures slices { IfOk result (λ s. s.items ≡
+        slices_after units.old.items (operator_units e Op.RightBy (pair_of a.now by.now))) }
 {
     if a.signed {
         return signed_moved_by(alloc, units, e, a, by);
@@ -195,8 +208,10 @@ fn concatenated(
 ) -> Result<Vec<Slice>, AllocError>
     requires fits { length units.old.items + 1 < 2 ^ 32 }
     ensures grows { OnOk result (length units.new.items ≤ length units.old.items + 1) }
-    ensures units { IfOk result (λ s. units.new.items ≡ units.old.items ++ (concatenated e (argument_of a.now) (argument_of b.now) (length units.old.items)).units) }
-    ensures slices { IfOk result (λ s. s.items ≡ (concatenated e (argument_of a.now) (argument_of b.now) (length units.old.items)).slices) }
+    ensures units { IfOk result (λ s. units.new.items ≡
+        units_after units.old.items (concatenated e (argument_of a.now) (argument_of b.now))) }
+    ensures slices { IfOk result (λ s. s.items ≡
+        slices_after units.old.items (concatenated e (argument_of a.now) (argument_of b.now))) }
 {
     let all = joined(alloc, units, e, (a.width, b.width), &a.slices, &b.slices)?;
     Ok(all)
@@ -213,8 +228,10 @@ pub fn operator_two(
 ) -> Result<Vec<Slice>, AllocError>
     requires fits { length units.old.items + 20000 < 2 ^ 32 }
     ensures grows { OnOk result (length units.new.items ≤ length units.old.items + 20000) }
-    ensures units { IfOk result (λ s. units.new.items ≡ units.old.items ++ (operator_units e op ((argument_of a.now) ∷ argument_of b.now ∷ []) (length units.old.items)).units) }
-    ensures slices { IfOk result (λ s. s.items ≡ (operator_units e op ((argument_of a.now) ∷ argument_of b.now ∷ []) (length units.old.items)).slices) }
+    ensures units { IfOk result (λ s. units.new.items ≡
+        units_after units.old.items (operator_units e op (pair_of a.now b.now))) }
+    ensures slices { IfOk result (λ s. s.items ≡
+        slices_after units.old.items (operator_units e op (pair_of a.now b.now))) }
 {
     match op {
         Op::Add => both_added(alloc, units, e, a, b),
@@ -247,8 +264,10 @@ pub fn operator_choice(
 ) -> Result<Vec<Slice>, AllocError>
     requires fits { length units.old.items + 3 < 2 ^ 32 }
     ensures grows { OnOk result (length units.new.items ≤ length units.old.items + 3) }
-    ensures units { IfOk result (λ s. units.new.items ≡ units.old.items ++ (operator_units e Op.Choose (argument_of c.now ∷ (argument_of a.now) ∷ argument_of b.now ∷ []) (length units.old.items)).units) }
-    ensures slices { IfOk result (λ s. s.items ≡ (operator_units e Op.Choose (argument_of c.now ∷ (argument_of a.now) ∷ argument_of b.now ∷ []) (length units.old.items)).slices) }
+    ensures units { IfOk result (λ s. units.new.items ≡
+        units_after units.old.items (operator_units e Op.Choose (triple_of c.now a.now b.now))) }
+    ensures slices { IfOk result (λ s. s.items ≡
+        slices_after units.old.items (operator_units e Op.Choose (triple_of c.now a.now b.now))) }
 {
     both_chosen(alloc, units, e, &c.slices, a, b)
 }
@@ -266,8 +285,10 @@ pub fn finished(
     requires whole { length x.now ≡ slices_of e }
     requires fits { length units.old.items + 1 < 2 ^ 32 }
     ensures grows { OnOk result (length units.new.items ≤ length units.old.items + 1) }
-    ensures units { IfOk result (λ s. units.new.items ≡ units.old.items ++ (filled (slices_of w) (widened (record { slices = x.now; form = record { signed = signed; width = e } }) w) (length units.old.items)).units) }
-    ensures slices { IfOk result (λ s. s.items ≡ (filled (slices_of w) (widened (record { slices = x.now; form = record { signed = signed; width = e } }) w) (length units.old.items)).slices) }
+    ensures units { IfOk result (λ s. units.new.items ≡
+        units_after units.old.items (filled (slices_of w) (widened (read_as signed e x.now) w))) }
+    ensures slices { IfOk result (λ s. s.items ≡
+        slices_after units.old.items (filled (slices_of w) (widened (read_as signed e x.now) w))) }
 {
     let wide = widened(alloc, units, x, signed, e, w)?;
     let all = filled_slices(alloc, w, &wide)?;

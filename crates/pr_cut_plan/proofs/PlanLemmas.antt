@@ -20,7 +20,7 @@ use Rattle.pr_cut_units.specs.Nets.{output_of, net_of, limit_passed}
 use Rattle.pr_cut_units.proofs.CountNets.{count_whole, length-reached}
 use Rattle.pr_cut_units.proofs.WideNets.{are_counted}
 use Rattle.pr_cut_units.proofs.StateNets.{hold_is}
-use Rattle.pr_cut_plan.specs.Plans.{all_units}
+use Rattle.pr_cut_units.specs.Equations.{all_units}
 
 -- ---- counts
 count_from : (equations : List EquationShape) (widths : List ℕ) (k : ℕ) (es : List EquationShape) (flags : List Bool) (i : ℕ) (e : EquationShape) → slice_get es i ≡ Some e → length flags ≡ length es → get_or (counts_from equations widths k es flags) i 0 ≡ (if get_or flags i false then own_count equations widths (k + i) e e.op else 0)

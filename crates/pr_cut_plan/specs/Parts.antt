@@ -28,6 +28,10 @@ pub record AreMarked (from : ℕ) (marks : List Bool) (group : List ℕ) : Type 
 abbrev pub part_groups : List (List Cell) → ℕ → Holds → List (List ℕ)
 part_groups units from holds = flat_map (groups_at (group_of units holds ∷ [])) (range_with_len from (end_of holds - from))
 
+-- and those before the hold units
+abbrev pub untied_groups : List (List Cell) → ℕ → Holds → List (List ℕ)
+untied_groups units from holds = flat_map (groups_at (group_of units holds ∷ [])) (range_with_len from (holds.first - from))
+
 -- the groups of parts from this unit on, and the end of the last one
 abbrev pub parts_groups : List (List Cell) → ℕ → List Holds → List (List ℕ)
 parts_groups units from [] = []

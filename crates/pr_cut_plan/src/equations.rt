@@ -4,15 +4,15 @@ ghost use Rattle.std.specs.Prelude.{◌≡◌, ◌<◌, ◌≤◌, ◌+◌, ◌*
 ghost use Rattle.std.specs.List.{slice_get, list_all, sum, sum_by};
 ghost use Rattle.pr_base.specs.Numbers.{slices_of};
 ghost use Rattle.pr_flat.specs.Forms.{IsForm};
-ghost use Rattle.pr_flat.specs.Shape.{EquationShape, equation_shape, shapes_of};
-ghost use Rattle.pr_flat.specs.Facts.{arity, is_input, is_rec, has_lawful_ends};
+ghost use Rattle.pr_flat.specs.Flats.{equations_of};
+ghost use Rattle.pr_flat.specs.Shape.{EquationShape, equation_shape};
+ghost use Rattle.pr_flat.specs.Facts.{arity, is_input, has_lawful_ends};
 ghost use Rattle.pr_flat.specs.Rows.{takes};
 ghost use Rattle.pr_flat.specs.Widths.{AreWidths, forms_in};
 ghost use Rattle.pr_flat.specs.Values.{input_widths};
 ghost use Rattle.pr_width.specs.Reads.{is_within};
 ghost use Rattle.pr_cut_units.specs.Counts.{count_at, body_count};
-ghost use Rattle.pr_cut_units.specs.Reached.{hold_count};
-ghost use Rattle.pr_cut_units.specs.Equations.{own_count};
+ghost use Rattle.pr_cut_plan.specs.Plans.{IsHoldCount, IsOwnCount};
 
 use crate::counts::{count_at, widening_count};
 use pr_base::slices;
@@ -28,7 +28,7 @@ fn is_input(op: Op) -> bool
 /// How many of the equations are inputs.
 #[tactic(auto, using(crate::proofs::EquationLemmas::inputs_rest))]
 pub fn input_count(flat: &Flat) -> usize
-    ensures is { result ≡ count_by (λ (e : EquationShape). is_input e.op) (shapes_of flat.now.equations.items) }
+    ensures is { result ≡ count_by (λ (e : EquationShape). is_input e.op) (equations_of flat.now) }
     ensures few { result ≤ vec_len flat.now.equations }
 {
     let mut count = 0;
@@ -43,7 +43,7 @@ pub fn input_count(flat: &Flat) -> usize
 /// The bytes of all inputs together.
 #[tactic(auto, using(crate::proofs::EquationLemmas::bytes_rest))]
 pub fn input_bytes(flat: &Flat) -> usize
-    ensures { result ≡ sum_by slices_of (input_widths (shapes_of flat.now.equations.items)) }
+    ensures { result ≡ sum_by slices_of (input_widths (equations_of flat.now)) }
 {
     let mut bytes = 0;
     for equation in &flat.equations {
@@ -112,9 +112,9 @@ fn operator_count(equation: &Equation, w: u8, widths: &[u8]) -> u32
 /// The units of equation `i`, beside those of the inputs; a recurrence has so many hold units.
 pub fn own_count(flat: &Flat, widths: &[u8], i: usize, holds: u32) -> u64
     requires there { i < vec_len flat.now.equations }
-    requires widths { AreWidths (shapes_of flat.now.equations.items) widths.now }
-    requires holds { (e : EquationShape) → slice_get (shapes_of flat.now.equations.items) i ≡ Some e → is_rec e.op ≡ true → holds ≡ hold_count (shapes_of flat.now.equations.items) i }
-    ensures is { (e : EquationShape) → slice_get (shapes_of flat.now.equations.items) i ≡ Some e → result ≡ own_count (shapes_of flat.now.equations.items) widths.now i e e.op }
+    requires widths { AreWidths (equations_of flat.now) widths.now }
+    requires holds { IsHoldCount (equations_of flat.now) i holds }
+    ensures is { IsOwnCount (equations_of flat.now) widths.now i result }
     ensures few { result ≤ 2 ^ 33 }
 {
     let equation = &flat.equations[i];

@@ -2,15 +2,14 @@
 
 ghost use Rattle.std.specs.Prelude.{◌≡◌, ◌<◌, ◌≤◌, ◌+◌, ◌-◌, ◌&&◌, ◌++◌, ℕ, nat_le, nat_lt, List, [], ◌∷◌, length, take, vec_len, slice_index_or, false, OnOk, IfOk};
 ghost use Rattle.std.specs.Bool.{if◌then◌else◌};
-ghost use Rattle.std.specs.List.{list_any, flat_map, range_with_len};
+ghost use Rattle.std.specs.List.{list_any};
 ghost use Rattle.pr_flat.specs.Facts.{is_rec};
-ghost use Rattle.pr_flat.specs.Shape.{EachEquation, shapes_of};
+ghost use Rattle.pr_flat.specs.Flats.{equations_of};
+ghost use Rattle.pr_flat.specs.Shape.{EachEquation};
 ghost use Rattle.pr_cut_units.specs.Parts.{each};
-ghost use Rattle.pr_cut_units.specs.Equations.{plan_of};
-ghost use Rattle.pr_cut_units.specs.Groups.{bit_wires, cell_wires, ties, is_tied, tied_from, group_of, groups_at, groups_of};
-ghost use Rattle.pr_cut_units.specs.Nets.{holds_from};
-ghost use Rattle.pr_cut_plan.specs.Plans.{IsPlanOf};
-ghost use Rattle.pr_cut_plan.specs.Parts.{AreMarked, IsPart, AreParts, end_of, part_groups, parts_groups, parts_end};
+ghost use Rattle.pr_cut_units.specs.Groups.{bit_wires, cell_wires, ties, is_tied, tied_from, groups_of};
+ghost use Rattle.pr_cut_plan.specs.Plans.{AreHoldsOf};
+ghost use Rattle.pr_cut_plan.specs.Parts.{AreMarked, IsPart, AreParts, end_of, part_groups, untied_groups, parts_groups, parts_end};
 
 use crate::plans::Plan;
 use pr_flat::{Flat, Op};
@@ -63,14 +62,16 @@ fn is_rec(op: Op) -> bool
 fn has_holds(flat: &Flat, plan: &Plan, i: usize) -> bool
     requires there { i < vec_len flat.now.equations }
     requires flags { vec_len plan.now.reached ≡ vec_len flat.now.equations }
-    ensures { EachEquation (shapes_of flat.now.equations.items) (λ k e. k ≡ i → result ≡ (slice_index_or plan.now.reached.items i false && is_rec e.op)) }
+    ensures { EachEquation (equations_of flat.now)
+        (λ k e. k ≡ i → result ≡ (slice_index_or plan.now.reached.items i false && is_rec e.op)) }
 {
     plan.reached[i] && is_rec(flat.equations[i].op)
 }
 
 /// These hold units more, where there are any.
 fn push_where(all: &mut Vec<Holds>, some: bool, first: u32, count: u32) -> Result<(), AllocError>
-    ensures { OnOk result (all.new.items ≡ all.old.items ++ (if some then record { first = first; count = count } ∷ [] else [])) }
+    ensures { OnOk result (all.new.items ≡
+        all.old.items ++ (if some then record { first = first; count = count } ∷ [] else [])) }
 {
     if some {
         all.push(Holds { first, count })?;
@@ -83,7 +84,7 @@ pub fn holds_of(alloc: Global, flat: &Flat, plan: &Plan) -> Result<Vec<Holds>, A
     requires flags { vec_len plan.now.reached ≡ vec_len flat.now.equations }
     requires units { vec_len plan.now.hold_units ≡ vec_len flat.now.equations }
     requires counts { vec_len plan.now.hold_counts ≡ vec_len flat.now.equations }
-    ensures { IfOk result (λ holds. (widths : List ℕ) → IsPlanOf plan.now (shapes_of flat.now.equations.items) widths flat.now.outputs.items → holds.items ≡ holds_from (plan_of (shapes_of flat.now.equations.items) widths flat.now.outputs.items) 0 (shapes_of flat.now.equations.items) plan.now.reached.items) }
+    ensures { IfOk result (λ holds. AreHoldsOf flat.now plan.now holds.items) }
 {
     let mut all = Vec::new(alloc);
     for i in 0..flat.equations.len() {
@@ -108,7 +109,8 @@ fn ties(wire: Wire, holds: &Holds, from: u32, marks: &[bool]) -> bool
 
 /// Whether C is a bit of such a wire.
 fn bit_ties(bit: WireBit, holds: &Holds, from: u32, marks: &[bool]) -> bool
-    ensures { (group : List ℕ) → AreMarked from marks.now group → result ≡ list_any (ties holds.now group) (bit_wires bit) }
+    ensures { (group : List ℕ) → AreMarked from marks.now group → result ≡
+        list_any (ties holds.now group) (bit_wires bit) }
 {
     match bit {
         WireBit::Of(wire, _) => ties(wire, holds, from, marks),
@@ -118,7 +120,8 @@ fn bit_ties(bit: WireBit, holds: &Holds, from: u32, marks: &[bool]) -> bool
 
 /// Whether a cell has such a wire.
 fn cell_ties(cell: Cell, holds: &Holds, from: u32, marks: &[bool]) -> bool
-    ensures { (group : List ℕ) → AreMarked from marks.now group → result ≡ list_any (ties holds.now group) (cell_wires cell) }
+    ensures { (group : List ℕ) → AreMarked from marks.now group → result ≡
+        list_any (ties holds.now group) (cell_wires cell) }
 {
     ties(cell.a, holds, from, marks)
         || ties(cell.hi, holds, from, marks)
@@ -178,7 +181,7 @@ fn push_untied(
     requires few { length units.now ≤ 32768 }
     requires part { IsPart units.now from holds.now }
     ensures tied { IfOk result (λ tied. tied.items ≡ tied_from holds.now [] 0 (take holds.now.first units.now)) }
-    ensures groups { OnOk result (groups.new.items ≡ groups.old.items ++ flat_map (groups_at (group_of units.now holds.now ∷ [])) (range_with_len from (holds.now.first - from))) }
+    ensures groups { OnOk result (groups.new.items ≡ groups.old.items ++ untied_groups units.now from holds.now) }
 {
     let mut tied = Vec::new(alloc);
     let mut marks = Vec::new(alloc);

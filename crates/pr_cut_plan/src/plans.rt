@@ -3,13 +3,13 @@
 ghost use Rattle.std.specs.Prelude.{◌≡◌, ◌<◌, ◌≤◌, ◌^◌, ◌++◌, [], ◌∷◌, ℕ, true, false, Some, None, Err, length, vec_len, slice_index, slice_index_or, OnOk, IfOk};
 ghost use Rattle.std.specs.List.{slice_get};
 ghost use Rattle.pr_base.specs.declared.caps.Cap.{Cap};
-ghost use Rattle.pr_flat.specs.Shape.{EquationShape, shapes_of, EachEquation};
-ghost use Rattle.pr_flat.specs.Facts.{is_rec};
+ghost use Rattle.pr_flat.specs.Flats.{equations_of};
 ghost use Rattle.pr_flat.specs.Widths.{AreWidths};
-ghost use Rattle.pr_cut_units.specs.Reached.{reached, hold_count};
-ghost use Rattle.pr_cut_units.specs.Equations.{plan_of, hold_unit, cut_whole};
-ghost use Rattle.pr_cut_units.specs.Nets.{net_of, limit_passed};
-ghost use Rattle.pr_cut_plan.specs.Plans.{IsPlanOf, all_units};
+ghost use Rattle.pr_cut_units.specs.Reached.{reached};
+ghost use Rattle.pr_cut_units.specs.Equations.{all_units, hold_unit, cut_whole};
+ghost use Rattle.pr_cut_units.specs.Flats.{flat_plan, flat_net};
+ghost use Rattle.pr_cut_units.specs.Nets.{limit_passed};
+ghost use Rattle.pr_cut_plan.specs.Plans.{AreHoldCounts, IsHoldCount, IsPlanOf};
 
 use crate::equations::{body_count, input_bytes, input_count, own_count};
 use crate::faults::CutFault;
@@ -30,19 +30,13 @@ pub struct Plan {
     pub hold_counts: Vec<u32>,
 }
 
-/// The most outputs of a net.
-const MOST_OUTPUTS: usize = 64;
-
-/// The most units of a net.
-const MOST_UNITS: u64 = 32_768;
-
 /// The units that equation `i` has of its own, where an output can be reached from it.
 fn unit_count(flat: &Flat, widths: &[u8], i: usize, has_units: bool, holds: u32) -> u64
     requires there { i < vec_len flat.now.equations }
-    requires widths { AreWidths (shapes_of flat.now.equations.items) widths.now }
-    requires reached { has_units ≡ slice_index_or (reached (shapes_of flat.now.equations.items) flat.now.outputs.items) i false }
-    requires holds { (e : EquationShape) → slice_get (shapes_of flat.now.equations.items) i ≡ Some e → is_rec e.op ≡ true → holds ≡ hold_count (shapes_of flat.now.equations.items) i }
-    ensures is { result ≡ slice_index (plan_of (shapes_of flat.now.equations.items) widths.now flat.now.outputs.items).counts i }
+    requires widths { AreWidths (equations_of flat.now) widths.now }
+    requires reached { has_units ≡ slice_index_or (reached (equations_of flat.now) flat.now.outputs.items) i false }
+    requires holds { IsHoldCount (equations_of flat.now) i holds }
+    ensures is { result ≡ slice_index (flat_plan flat.now widths.now).counts i }
     ensures few { result ≤ 2 ^ 33 }
 {
     if !has_units {
@@ -67,15 +61,17 @@ fn hold_units(
     flags: &[bool],
     hold_counts: &[u32],
 ) -> Result<Vec<u32>, CutFault>
-    requires widths { AreWidths (shapes_of flat.now.equations.items) widths.now }
-    requires reached { flags.now ≡ reached (shapes_of flat.now.equations.items) flat.now.outputs.items }
+    requires widths { AreWidths (equations_of flat.now) widths.now }
+    requires reached { flags.now ≡ reached (equations_of flat.now) flat.now.outputs.items }
     requires flags { length flags.now ≡ vec_len flat.now.equations }
     requires holds { length hold_counts.now ≡ vec_len flat.now.equations }
-    requires counts { EachEquation (shapes_of flat.now.equations.items) (λ i e. is_rec e.op ≡ true → slice_index hold_counts.now i ≡ hold_count (shapes_of flat.now.equations.items) i) }
+    requires counts { AreHoldCounts (equations_of flat.now) hold_counts.now }
     ensures count { IfOk result (λ units. vec_len units ≡ vec_len flat.now.equations) }
-    ensures firsts { IfOk result (λ units. (i : ℕ) → i < vec_len flat.now.equations → slice_index units.items i ≡ hold_unit (plan_of (shapes_of flat.now.equations.items) widths.now flat.now.outputs.items) i) }
-    ensures within { OnOk result (all_units (plan_of (shapes_of flat.now.equations.items) widths.now flat.now.outputs.items) ≤ 32768) }
-    ensures limit { (cap : Cap) → result ≡ Err (CutFault.Limit cap) → (cap ≡ Cap.Units) × (32768 < all_units (plan_of (shapes_of flat.now.equations.items) widths.now flat.now.outputs.items)) }
+    ensures firsts { IfOk result (λ units. (i : ℕ) → i < vec_len flat.now.equations →
+        slice_index units.items i ≡ hold_unit (flat_plan flat.now widths.now) i) }
+    ensures within { OnOk result (all_units (flat_plan flat.now widths.now) ≤ 32768) }
+    ensures limit { (cap : Cap) → result ≡ Err (CutFault.Limit cap) →
+        (cap ≡ Cap.Units) × (32768 < all_units (flat_plan flat.now widths.now)) }
 {
     let mut units = Vec::new(alloc);
     let mut first = input_count(flat) as u64;
@@ -83,7 +79,7 @@ fn hold_units(
         let holds = first as u32 + body_count(&flat.equations[i], widths[i], widths);
         push(&mut units, holds)?;
         first += unit_count(flat, widths, i, flags[i], hold_counts[i]);
-        if first > MOST_UNITS {
+        if first > Cap::MOST_UNITS as u64 {
             return Err(CutFault::Limit(Cap::Units));
         }
     }
@@ -101,16 +97,17 @@ pub fn plan_of(
     widths: &Widths,
     columns: usize,
 ) -> Result<Plan, CutFault>
-    requires { AreWidths (shapes_of flat.now.equations.items) widths.now }
-    ensures plan { IfOk result (λ plan. IsPlanOf plan (shapes_of flat.now.equations.items) widths.now flat.now.outputs.items) }
-    ensures within { OnOk result (limit_passed columns (net_of (shapes_of flat.now.equations.items) widths.now flat.now.outputs.items) ≡ None) }
-    ensures units { OnOk result (length (cut_whole (plan_of (shapes_of flat.now.equations.items) widths.now flat.now.outputs.items)).units ≤ 32768) }
-    ensures limit { (cap : Cap) → result ≡ Err (CutFault.Limit cap) → limit_passed columns (net_of (shapes_of flat.now.equations.items) widths.now flat.now.outputs.items) ≡ Some cap }
+    requires { AreWidths (equations_of flat.now) widths.now }
+    ensures plan { IfOk result (λ plan. IsPlanOf plan (equations_of flat.now) widths.now flat.now.outputs.items) }
+    ensures within { OnOk result (limit_passed columns (flat_net flat.now widths.now) ≡ None) }
+    ensures units { OnOk result (length (cut_whole (flat_plan flat.now widths.now)).units ≤ 32768) }
+    ensures limit { (cap : Cap) → result ≡ Err (CutFault.Limit cap) →
+        limit_passed columns (flat_net flat.now widths.now) ≡ Some cap }
 {
     if input_bytes(flat) > columns {
         return Err(CutFault::Limit(Cap::InputBytes));
     }
-    if flat.outputs.len() > MOST_OUTPUTS {
+    if flat.outputs.len() > Cap::MOST_OUTPUTS {
         return Err(CutFault::Limit(Cap::Outputs));
     }
     let reached = reached(alloc, flat)?;

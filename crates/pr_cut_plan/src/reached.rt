@@ -4,17 +4,19 @@ ghost use Rattle.std.specs.Prelude.{◌≡◌, ◌<◌, ◌≤◌, ◌+◌, ◌-
 ghost use Rattle.std.specs.Bool.{if◌then◌else◌};
 ghost use Rattle.std.specs.List.{slice_get, list_any};
 ghost use Rattle.pr_flat.specs.declared.equations.Operand.{Operand};
-ghost use Rattle.pr_flat.specs.Shape.{EquationShape, shapes_of, EachEquation};
+ghost use Rattle.pr_flat.specs.Flats.{equations_of};
+ghost use Rattle.pr_flat.specs.Shape.{EquationShape};
 ghost use Rattle.pr_flat.specs.Facts.{is_rec, reads_equation};
 ghost use Rattle.pr_cut_units.specs.Reached.{reached, past_read, greatest, hold_count};
-ghost use Rattle.pr_cut_plan.specs.Plans.{IsRecurrence};
+ghost use Rattle.pr_cut_plan.specs.Marks.{MarksMore, NoneReached, TellReached};
+ghost use Rattle.pr_cut_plan.specs.Plans.{AreHoldCounts, IsRecurrence};
 
 use pr_flat::{Flat, Op, Operand};
 use std::alloc::{AllocError, Global};
 
 /// Marks the equation that an operand names, where it is one of those from `first` on.
 fn mark_one(flags: &mut [bool], first: usize, operand: Operand)
-    ensures { (j : ℕ) → j < length flags.old → slice_index_or flags.new j false ≡ (reads_equation (first + j) operand || slice_index_or flags.old j false) }
+    ensures { MarksMore flags.old flags.new (λ j. reads_equation (first + j) operand) }
 {
     if let Operand::Eq(number) = operand {
         let number = number as usize;
@@ -27,7 +29,7 @@ fn mark_one(flags: &mut [bool], first: usize, operand: Operand)
 /// Marks the equations that operands name, of those from `first` on.
 #[tactic(auto, using(crate::proofs::ReachedLemmas::any_rest))]
 fn mark(flags: &mut [bool], first: usize, operands: &[Operand])
-    ensures { (j : ℕ) → j < length flags.old → slice_index_or flags.new j false ≡ (list_any (reads_equation (first + j)) operands.now || slice_index_or flags.old j false) }
+    ensures { MarksMore flags.old flags.new (λ j. list_any (reads_equation (first + j)) operands.now) }
 {
     for operand in operands {
         mark_one(flags, first, *operand);
@@ -36,7 +38,8 @@ fn mark(flags: &mut [bool], first: usize, operands: &[Operand])
 
 /// Marks them where the equation that has these operands counts.
 fn mark_where(flags: &mut [bool], counts: bool, first: usize, operands: &[Operand])
-    ensures { (j : ℕ) → j < length flags.old → slice_index_or flags.new j false ≡ (counts && list_any (reads_equation (first + j)) operands.now || slice_index_or flags.old j false) }
+    ensures { MarksMore flags.old flags.new
+        (λ j. counts && list_any (reads_equation (first + j)) operands.now) }
 {
     if counts {
         mark(flags, first, operands);
@@ -47,8 +50,8 @@ fn mark_where(flags: &mut [bool], counts: bool, first: usize, operands: &[Operan
 fn mark_reached(flags: &mut [bool], flat: &Flat, operands: &[Operand], first: usize)
     requires within { first + length flags.old ≤ vec_len flat.now.equations }
     requires blank { (j : ℕ) → j < length flags.old → slice_index_or flags.old j false ≡ false }
-    requires later { (j : ℕ) → first + length flags.old ≤ j → slice_index_or (reached (shapes_of flat.now.equations.items) operands.now) j false ≡ false }
-    ensures { (j : ℕ) → j < length flags.old → slice_index_or flags.new j false ≡ slice_index_or (reached (shapes_of flat.now.equations.items) operands.now) (first + j) false }
+    requires later { NoneReached (equations_of flat.now) operands.now (first + length flags.old) }
+    ensures { TellReached (equations_of flat.now) operands.now first (length flags.old) flags.new }
 {
     mark(flags, first, operands);
     for done in 0..flags.len() {
@@ -68,9 +71,10 @@ fn reached_within(
 ) -> Result<Vec<bool>, AllocError>
     requires ordered { first ≤ end }
     requires within { end ≤ vec_len flat.now.equations }
-    requires later { (j : ℕ) → end ≤ j → slice_index_or (reached (shapes_of flat.now.equations.items) operands.now) j false ≡ false }
+    requires later { NoneReached (equations_of flat.now) operands.now end }
     ensures count { IfOk result (λ flags. vec_len flags ≡ end - first) }
-    ensures flags { IfOk result (λ flags. (j : ℕ) → j < end - first → slice_index_or flags.items j false ≡ slice_index_or (reached (shapes_of flat.now.equations.items) operands.now) (first + j) false) }
+    ensures flags { IfOk result (λ flags.
+        TellReached (equations_of flat.now) operands.now first (end - first) flags.items) }
 {
     let mut flags = vec![in alloc; false; end - first]?;
     mark_reached(&mut flags, flat, operands, first);
@@ -79,7 +83,7 @@ fn reached_within(
 
 /// Whether an output can be reached from each equation.
 pub fn reached(alloc: Global, flat: &Flat) -> Result<Vec<bool>, AllocError>
-    ensures { IfOk result (λ flags. flags.items ≡ reached (shapes_of flat.now.equations.items) flat.now.outputs.items) }
+    ensures { IfOk result (λ flags. flags.items ≡ reached (equations_of flat.now) flat.now.outputs.items) }
 {
     let flags = reached_within(alloc, flat, &flat.outputs, 0, flat.equations.len())?;
     Ok(flags)
@@ -116,8 +120,8 @@ fn most_where(counts: bool, rec: u32, operands: &[Operand]) -> u32
 
 /// The number of hold units of a recurrence, whose body begins with equation `first`.
 fn hold_count(alloc: Global, flat: &Flat, rec: u32, first: u32) -> Result<u32, AllocError>
-    requires { IsRecurrence (shapes_of flat.now.equations.items) rec first }
-    ensures { IfOk result (λ count. count ≡ hold_count (shapes_of flat.now.equations.items) rec) }
+    requires { IsRecurrence (equations_of flat.now) rec first }
+    ensures { IfOk result (λ count. count ≡ hold_count (equations_of flat.now) rec) }
 {
     let from = first as usize;
     let own = [Operand::Eq(rec)];
@@ -132,7 +136,8 @@ fn hold_count(alloc: Global, flat: &Flat, rec: u32, first: u32) -> Result<u32, A
 /// The number of hold units of an equation, which is 0 where it is no recurrence.
 fn hold_count_at(alloc: Global, flat: &Flat, i: usize) -> Result<u32, AllocError>
     requires { i < vec_len flat.now.equations }
-    ensures { (e : EquationShape) → slice_get (shapes_of flat.now.equations.items) i ≡ Some e → is_rec e.op ≡ true → IfOk result (λ count. count ≡ hold_count (shapes_of flat.now.equations.items) i) }
+    ensures { (e : EquationShape) → slice_get (equations_of flat.now) i ≡ Some e → is_rec e.op ≡ true →
+        IfOk result (λ count. count ≡ hold_count (equations_of flat.now) i) }
 {
     match flat.equations[i].op {
         Op::Rec { first, .. } => hold_count(alloc, flat, i as u32, first),
@@ -143,7 +148,7 @@ fn hold_count_at(alloc: Global, flat: &Flat, i: usize) -> Result<u32, AllocError
 /// The number of hold units of each equation, which is 0 where it is no recurrence.
 pub fn hold_counts(alloc: Global, flat: &Flat) -> Result<Vec<u32>, AllocError>
     ensures count { IfOk result (λ counts. vec_len counts ≡ vec_len flat.now.equations) }
-    ensures counts { IfOk result (λ counts. EachEquation (shapes_of flat.now.equations.items) (λ i e. is_rec e.op ≡ true → slice_index counts.items i ≡ hold_count (shapes_of flat.now.equations.items) i)) }
+    ensures counts { IfOk result (λ counts. AreHoldCounts (equations_of flat.now) counts.items) }
 {
     let mut counts = Vec::new(alloc);
     for i in 0..flat.equations.len() {

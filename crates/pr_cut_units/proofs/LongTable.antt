@@ -1,5 +1,5 @@
 -- How many slices the value of every row of the table has.
-use Rattle.std.proofs.Common.{◌≡◌, ◌<◌, ◌≤◌, ℕ, zero, suc, ◌+◌, ◌-◌, ◌/◌, ◌%◌, ◌==◌, ◌&&◌, ◌||◌, Bool, true, false, List, [], ◌∷◌, length, nat_lt, take, map, max, min, refl, sym, subst, ap, ap₂, ◌∙◌, arith, length-append}
+use Rattle.std.proofs.Common.{◌≡◌, ◌<◌, ◌≤◌, ℕ, zero, suc, ◌+◌, ◌-◌, ◌/◌, ◌%◌, ◌==◌, ◌&&◌, Bool, true, false, List, [], ◌∷◌, length, nat_lt, take, max, min, refl, sym, subst, ap, ap₂, ◌∙◌, arith, length-append}
 use Rattle.std.specs.Prelude.{cond}
 use Rattle.std.specs.Bool.{if◌then◌else◌}
 use Rattle.std.proofs.lemmas.Bool.{false≢true, ltb-false}
@@ -18,7 +18,7 @@ use Rattle.pr_cut_units.specs.Widening.{Argument, both_widened}
 use Rattle.pr_cut_units.specs.Operators.{added, subtracted, is_any_signed, less, greater_equal, signed_less, unsigned_less, moved_left, extracted, moved_right, concatenated, ends_whole}
 use Rattle.pr_cut_units.specs.Products.{row_width, row_cell, product_row, product}
 use Rattle.pr_cut_units.specs.Shifts.{moved_by, signed_moved_by}
-use Rattle.pr_cut_units.specs.Table.{operator_units, argument_forms, factor_width}
+use Rattle.pr_cut_units.specs.Table.{operator_units, factor_width}
 use Rattle.pr_cut_units.proofs.EachLemmas.{length-each}
 use Rattle.pr_cut_units.proofs.CountNets.{is_stated}
 

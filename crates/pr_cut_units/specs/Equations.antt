@@ -48,6 +48,10 @@ plan_of equations widths outputs = record {
   counts = counts_from equations widths 0 equations (reached equations outputs);
 }
 
+-- the units of all inputs and equations
+abbrev pub all_units : Plan → ℕ
+all_units plan = count_by (λ (e : EquationShape). is_input e.op) plan.equations + sum plan.counts
+
 -- the number of the first unit of equation i, and of the first hold unit of a recurrence
 abbrev pub first_unit : Plan → ℕ → ℕ
 first_unit plan i = count_by (λ (e : EquationShape). is_input e.op) plan.equations + sum (take i plan.counts)

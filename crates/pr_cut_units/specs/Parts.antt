@@ -13,6 +13,14 @@ pub record Part : Type 0 where
 abbrev pub Making : Type 0
 Making = ℕ → Part
 
+-- these units, and after them those of a part
+abbrev pub units_after : List (List Cell) → Making → List (List Cell)
+units_after units making = units ++ (making (length units)).units
+
+-- the slices of a part after these units
+abbrev pub slices_after : List (List Cell) → Making → List Slice
+slices_after units making = (making (length units)).slices
+
 -- a list with an item for each number below n
 abbrev pub each : {A : Type 0} → ℕ → (ℕ → A) → List A
 each n f = map f (range_with_len 0 n)

@@ -28,10 +28,12 @@ shifted_by left w by bits x = in_turn (shift_row left w by) 0 bits x
 abbrev pub moved_by : Bool → ℕ → Argument → Argument → Making
 moved_by left e a by = followed_by (shifted_by left a.form.width by.slices by.form.width a.slices) (λ x. extracted e a.form.width 0 x)
 
--- RightBy(a, by) of a signed a: a negative one is inverted before and after
+-- RightBy(a, by) of a signed a: a negative one is inverted before the rows, and after them again
+abbrev pub flipped_back : ℕ → Argument → List Slice → Making
+flipped_back e a y = followed_by (flipped a y) (λ z. extracted e a.form.width 0 z)
+
+abbrev pub shifted_back : ℕ → Argument → Argument → List Slice → Making
+shifted_back e a by x = followed_by (shifted_by false a.form.width by.slices by.form.width x) (λ y. flipped_back e a y)
+
 abbrev pub signed_moved_by : ℕ → Argument → Argument → Making
-signed_moved_by e a by =
-    followed_by (flipped a a.slices) (λ x.
-    followed_by (shifted_by false a.form.width by.slices by.form.width x) (λ y.
-    followed_by (flipped a y) (λ z.
-    extracted e a.form.width 0 z)))
+signed_moved_by e a by = followed_by (flipped a a.slices) (λ x. shifted_back e a by x)

@@ -10,8 +10,11 @@ use Rattle.pr_cut_units.specs.Parts.{Making, each, one_unit, followed_by}
 use Rattle.pr_cut_units.specs.Widening.{Argument, widened}
 
 -- Delay(c): the state of the cell, which becomes byte i of x
+abbrev pub delayed_cell : ℕ → List Slice → ℕ → ℕ → Cell
+delayed_cell c x u i = record plain { a = byte x i; hi = Wire.State u i; table = table_b; next = Next.A; init = byte_at c i }
+
 abbrev pub delayed : ℕ → ℕ → List Slice → Making
-delayed w c x u = one_unit (slices_of w) (λ i. record plain { a = byte x i; hi = Wire.State u i; table = table_b; next = Next.A; init = byte_at c i }) u
+delayed w c x u = one_unit (slices_of w) (λ i. delayed_cell c x u i) u
 
 -- hold unit 1: the value now, which becomes the state
 abbrev pub hold_cell : ℕ → ℕ → List Slice → ℕ → Cell

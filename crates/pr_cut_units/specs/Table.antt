@@ -16,6 +16,10 @@ use Rattle.pr_cut_units.specs.Shifts.{moved_by, signed_moved_by}
 abbrev pub factor_width : Bool → ℕ → Form → ℕ
 factor_width any e f = if any then min 128 (max e (signed_width f)) else f.width
 
+-- Mul
+abbrev pub multiplied : ℕ → Argument → Argument → Making
+multiplied e a b = let any = is_any_signed a b in both_widened e a b (λ x y. product e x (factor_width any e a.form) y (factor_width any e b.form))
+
 -- e bits of an operator's result; operands that are not signed stay as they are where it widens them
 abbrev pub operator_units : ℕ → Op → List Argument → Making
 operator_units e Op.And (a ∷ b ∷ []) = both_widened e a b (bitwise e table_and)
@@ -25,7 +29,7 @@ operator_units e Op.Not (a ∷ []) = inverted e a.slices
 operator_units e Op.Choose (c ∷ a ∷ b ∷ []) = both_widened e a b (chosen e c.slices)
 operator_units e Op.Add (a ∷ b ∷ []) = both_widened e a b (added e)
 operator_units e Op.Sub (a ∷ b ∷ []) = both_widened e a b (subtracted e)
-operator_units e Op.Mul (a ∷ b ∷ []) = both_widened e a b (λ x y. product e x (factor_width (is_any_signed a b) e a.form) y (factor_width (is_any_signed a b) e b.form))
+operator_units e Op.Mul (a ∷ b ∷ []) = multiplied e a b
 operator_units e Op.Less (a ∷ b ∷ []) = less a b
 operator_units e Op.GreaterEqual (a ∷ b ∷ []) = greater_equal a b
 operator_units e Op.Greater (a ∷ b ∷ []) = less b a

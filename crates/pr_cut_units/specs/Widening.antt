@@ -1,5 +1,5 @@
 -- Operands as they are read, and signed ones made wider.
-use Rattle.std.specs.Prelude.{ℕ, ◌+◌, ◌-◌, ◌/◌, ◌%◌, ◌==◌, ◌&&◌, nat_lt, if◌then◌else◌, List, take}
+use Rattle.std.specs.Prelude.{ℕ, ◌+◌, ◌-◌, ◌/◌, ◌%◌, ◌==◌, ◌&&◌, Bool, nat_lt, if◌then◌else◌, List, take}
 use Rattle.pr_base.specs.Numbers.{slices_of, top_mask_of}
 use Rattle.pr_flat.specs.declared.forms.Form.{Form}
 use Rattle.pr_net.specs.declared.cells.Slice.{Slice}
@@ -13,6 +13,10 @@ use Rattle.pr_cut_units.specs.Parts.{Making, kept, one_unit, above, followed_by}
 pub record Argument : Type 0 where
   pub slices : List Slice
   pub form : Form
+
+-- slices read as an operand of this kind and width
+abbrev pub read_as : Bool → ℕ → List Slice → Argument
+read_as signed width slices = record { slices = slices; form = record { signed = signed; width = width } }
 
 -- the highest bit of an operand
 abbrev pub sign_of : Argument → WireBit
@@ -37,5 +41,8 @@ abbrev pub both_widened : ℕ → Argument → Argument → (List Slice → List
 both_widened t a b making = followed_by (widened a t) (λ x. followed_by (widened b t) (λ y. making x y))
 
 -- Flip: every bit of x where the operand is negative
+abbrev pub flipped_cell : Argument → List Slice → ℕ → Cell
+flipped_cell a x i = record plain { a = byte x i; c = sign_of a; table = table_a_xor_c; mask = top a.form.width i }
+
 abbrev pub flipped : Argument → List Slice → Making
-flipped a x = one_unit (slices_of a.form.width) (λ i. record plain { a = byte x i; c = sign_of a; table = table_a_xor_c; mask = top a.form.width i })
+flipped a x = one_unit (slices_of a.form.width) (λ i. flipped_cell a x i)

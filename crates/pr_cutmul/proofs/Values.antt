@@ -1,17 +1,15 @@
 -- What the rows show in a net that begins with them.
-use Rattle.std.proofs.Common.{◌≡◌, ◌∙◌, ◌≤◌, ◌<◌, ◌*◌, ◌%◌, ◌^◌, ◌+◌, ◌++◌, ℕ, Bool, List, length, subst, ap, arith}
+use Rattle.std.proofs.Common.{◌≡◌, ◌∙◌, ◌≤◌, ◌%◌, ◌^◌, ◌++◌, ℕ, Bool, List, length, subst, ap, arith}
 use Rattle.pr_net.specs.declared.cells.Slice.{Slice}
 use Rattle.pr_net.specs.declared.cells.Cell.{Cell}
 use Rattle.pr_net.specs.Reading.{Reading, Has, shown}
-use Rattle.pr_net.specs.Runs.{AreBytes}
 use Rattle.pr_net.proofs.Readings.{has-append}
 use Rattle.pr_cut_units.specs.Products.{product}
 use Rattle.pr_cut_units.specs.Shifts.{shifted_by}
-use Rattle.pr_cut_laws.specs.Laws.{shifted}
 use Rattle.pr_cut_laws.proofs.Products.{product_shows}
 use Rattle.pr_cut_laws.proofs.Varies.{shifted_shows}
 use Rattle.pr_cut_laws.proofs.RowsLaws.{earlier_operands, shifted_is}
-use Rattle.pr_cutmul.specs.Rows.{IsOperand, ShowsProduct, ShowsShift}
+use Rattle.pr_cutmul.specs.Rows.{ShowsProduct, ShowsShift}
 
 -- the units after the first ones stand from their number on
 has_last : (r : Reading) (old more new : List (List Cell)) → new ≡ old ++ more → Has r 0 new → Has r (length old) more

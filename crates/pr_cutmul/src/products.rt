@@ -8,10 +8,10 @@ ghost use Rattle.pr_net.specs.declared.cells.Cell.{Cell};
 ghost use Rattle.pr_net.specs.declared.cells.Slice.{Slice};
 ghost use Rattle.pr_net.specs.declared.cells.Wire.{Wire};
 ghost use Rattle.pr_cut_units.specs.Cells.{plain, byte, top, bit_of, slice_at, slice_below, with_left, with_right, table_a, table_b, table_not_a};
-ghost use Rattle.pr_cut_units.specs.Parts.{each};
-ghost use Rattle.pr_cut_units.specs.Products.{row_width, row_cell, product_row, product};
-ghost use Rattle.pr_cut_units.specs.Parts.{in_turn};
+ghost use Rattle.pr_cut_units.specs.Parts.{each, units_after, slices_after};
+ghost use Rattle.pr_cut_units.specs.Products.{row_width};
 ghost use Rattle.pr_cut_cells.specs.Prefixes.{IsPrefix};
+ghost use Rattle.pr_cutmul.specs.Makings.{product_cell_of, product_row_of, product_of};
 
 use pr_base::{Carry, Mode, slices};
 use pr_cut_cells::{bit_of, byte, chain, joined, plain, top, with_left};
@@ -39,7 +39,7 @@ pub struct Factors<'a> {
 /// The cell of slice `i` of row `j`.
 fn row_cell(factors: &Factors, e: u8, j: u8, before: &[Slice], i: usize) -> Cell
     requires { i < 64 }
-    ensures { result ≡ row_cell e factors.now.wa factors.now.a.now factors.now.b.now j before.now i }
+    ensures { result ≡ product_cell_of factors.now e j before.now i }
 {
     let cell = Cell {
         a: byte(before, i),
@@ -64,7 +64,7 @@ fn row_cells(
     requires { j < e }
     ensures count { IfOk result (λ all. vec_len all ≡ slices_of (row_width e factors.now.wa j) - j / 8) }
     ensures all { IfOk result (λ all. all.items ≡ each (slices_of (row_width e factors.now.wa j) - j / 8)
-        (λ i. row_cell e factors.now.wa factors.now.a.now factors.now.b.now j before.now (j / 8 + i))) }
+        (λ i. product_cell_of factors.now e j before.now (j / 8 + i))) }
 {
     let mut all = Vec::new(alloc);
     for i in 0..slices(row_width(e, factors.wa, j)) - usize::from(j) / 8 {
@@ -93,9 +93,12 @@ fn product_row(
     requires below { j < e }
     requires fits { length units.old.items + 40 < 2 ^ 32 }
     ensures grows { OnOk result (length units.new.items ≤ length units.old.items + 40) }
-    ensures units { OnOk result (units.new.items ≡ units.old.items ++ (product_row e factors.now.wa factors.now.a.now factors.now.b.now j before.now (length units.old.items)).units) }
-    ensures part { OnErr result (IsPrefix units.new.items (units.old.items ++ (product_row e factors.now.wa factors.now.a.now factors.now.b.now j before.now (length units.old.items)).units)) }
-    ensures slices { IfOk result (λ s. s.items ≡ (product_row e factors.now.wa factors.now.a.now factors.now.b.now j before.now (length units.old.items)).slices) }
+    ensures units { OnOk result (units.new.items ≡
+        units_after units.old.items (product_row_of factors.now e j before.now)) }
+    ensures part { OnErr result (IsPrefix units.new.items
+        (units_after units.old.items (product_row_of factors.now e j before.now))) }
+    ensures slices { IfOk result (λ s. s.items ≡
+        slices_after units.old.items (product_row_of factors.now e j before.now)) }
 {
     let cells = row_cells(alloc, factors, e, j, before)?;
     let high = chain(alloc, units, Style::ByEntry, Carry::Zero, &cells)?;
@@ -111,9 +114,9 @@ pub fn product(
 ) -> Result<Vec<Slice>, AllocError>
     requires fits { length units.old.items + 40 * 256 < 2 ^ 32 }
     ensures grows { OnOk result (length units.new.items ≤ length units.old.items + 40 * 256) }
-    ensures units { OnOk result (units.new.items ≡ units.old.items ++ (product e factors.now.a.now factors.now.wa factors.now.b.now factors.now.wb (length units.old.items)).units) }
-    ensures part { OnErr result (IsPrefix units.new.items (units.old.items ++ (product e factors.now.a.now factors.now.wa factors.now.b.now factors.now.wb (length units.old.items)).units)) }
-    ensures slices { IfOk result (λ s. s.items ≡ (product e factors.now.a.now factors.now.wa factors.now.b.now factors.now.wb (length units.old.items)).slices) }
+    ensures units { OnOk result (units.new.items ≡ units_after units.old.items (product_of factors.now e)) }
+    ensures part { OnErr result (IsPrefix units.new.items (units_after units.old.items (product_of factors.now e))) }
+    ensures slices { IfOk result (λ s. s.items ≡ slices_after units.old.items (product_of factors.now e)) }
 {
     let mut before = Vec::new(alloc);
     for j in 0..factors.wb.min(e) {

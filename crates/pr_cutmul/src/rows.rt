@@ -1,11 +1,13 @@
 //! The rows of a product, and of a shift by an operand, at the end of a net.
 
-ghost use Rattle.std.specs.Prelude.{◌≡◌, ◌<◌, ◌≤◌, ◌+◌, ◌++◌, ℕ, Err, List, length, OnOk, OnErr, IfOk};
+ghost use Rattle.std.specs.Prelude.{◌≡◌, ◌≤◌, ℕ, Err, List, length, OnOk, OnErr, IfOk};
 ghost use Rattle.pr_base.specs.declared.caps.Cap.{Cap};
 ghost use Rattle.pr_net.specs.declared.cells.Slice.{Slice};
+ghost use Rattle.pr_cut_units.specs.Parts.{units_after, slices_after};
 ghost use Rattle.pr_cut_units.specs.Products.{product};
 ghost use Rattle.pr_cut_units.specs.Shifts.{shifted_by};
 ghost use Rattle.pr_cut_cells.specs.Prefixes.{IsPrefix};
+ghost use Rattle.pr_cutmul.specs.Makings.{AreTooMany};
 ghost use Rattle.pr_cutmul.specs.Rows.{HasSame, ShowsProduct, ShowsShift};
 
 use crate::counts::product_count;
@@ -15,9 +17,6 @@ use pr_base::Cap;
 use pr_net::{Net, Slice};
 use std::alloc::{AllocError, Global};
 use thiserror::Error;
-
-/// The most units of a net.
-const MOST_UNITS: usize = 32_768;
 
 /// Why rows are not appended.
 #[derive(Debug, Drop, Error)]
@@ -69,18 +68,23 @@ pub fn mul_rows(
     requires wa { wa ≤ 128 }
     requires wb { wb ≤ 128 }
     requires few { length net.old.units.items ≤ 32768 }
-    ensures units { OnOk result (net.new.units.items ≡ net.old.units.items ++ (product bits a.now wa b.now wb (length net.old.units.items)).units) }
-    ensures slices { IfOk result (λ s. s.items ≡ (product bits a.now wa b.now wb (length net.old.units.items)).slices) }
+    ensures units { OnOk result (net.new.units.items ≡
+        units_after net.old.units.items (product bits a.now wa b.now wb)) }
+    ensures slices { IfOk result (λ s. s.items ≡ slices_after net.old.units.items (product bits a.now wa b.now wb)) }
     ensures value { 1 ≤ bits → 1 ≤ wb →
-        IfOk result (λ s. ShowsProduct net.new.units.items (length net.old.units.items) bits wa wb a.now b.now s.items) }
+        IfOk result (λ s. ShowsProduct net.new.units.items
+        (length net.old.units.items) bits wa wb a.now b.now s.items) }
     ensures within { OnOk result (length net.new.units.items ≤ 32768) }
-    ensures passed { 32768 < length net.old.units.items + length (product bits a.now wa b.now wb (length net.old.units.items)).units → result ≡ Err (RowFault.Limit Cap.Units) }
-    ensures limit { (cap : Cap) → result ≡ Err (RowFault.Limit cap) → (cap ≡ Cap.Units) × (32768 < length net.old.units.items + length (product bits a.now wa b.now wb (length net.old.units.items)).units) × (net.new.units.items ≡ net.old.units.items) }
-    ensures part { OnErr result (IsPrefix net.new.units.items (net.old.units.items ++ (product bits a.now wa b.now wb (length net.old.units.items)).units)) }
+    ensures passed { AreTooMany net.old.units.items (product bits a.now wa b.now wb) →
+        result ≡ Err (RowFault.Limit Cap.Units) }
+    ensures limit { (cap : Cap) → result ≡ Err (RowFault.Limit cap) → (cap ≡ Cap.Units) ×
+        AreTooMany net.old.units.items (product bits a.now wa b.now wb) × (net.new.units.items ≡ net.old.units.items) }
+    ensures part { OnErr result (IsPrefix net.new.units.items
+        (units_after net.old.units.items (product bits a.now wa b.now wb))) }
     ensures same { HasSame net.old net.new }
 {
     let count = rows_of(bits, wa, wb);
-    if net.units.len() + count > MOST_UNITS {
+    if net.units.len() + count > Cap::MOST_UNITS {
         return Err(RowFault::Limit(Cap::Units));
     }
     let slices = product(alloc, &mut net.units, &Factors { a, wa, b, wb }, bits)?;
@@ -104,17 +108,24 @@ pub fn shift_rows(
     wby: u8,
 ) -> Result<Vec<Slice>, RowFault>
     requires few { length net.old.units.items ≤ 32768 }
-    ensures units { OnOk result (net.new.units.items ≡ net.old.units.items ++ (shifted_by left wa by.now wby a.now (length net.old.units.items)).units) }
-    ensures slices { IfOk result (λ s. s.items ≡ (shifted_by left wa by.now wby a.now (length net.old.units.items)).slices) }
+    ensures units { OnOk result (net.new.units.items ≡
+        units_after net.old.units.items (shifted_by left wa by.now wby a.now)) }
+    ensures slices { IfOk result (λ s. s.items ≡
+        slices_after net.old.units.items (shifted_by left wa by.now wby a.now)) }
     ensures value { 1 ≤ wa → wa ≤ 128 →
-        IfOk result (λ s. ShowsShift net.new.units.items (length net.old.units.items) left wa wby a.now by.now s.items) }
+        IfOk result (λ s. ShowsShift net.new.units.items
+        (length net.old.units.items) left wa wby a.now by.now s.items) }
     ensures within { OnOk result (length net.new.units.items ≤ 32768) }
-    ensures passed { 32768 < length net.old.units.items + length (shifted_by left wa by.now wby a.now (length net.old.units.items)).units → result ≡ Err (RowFault.Limit Cap.Units) }
-    ensures limit { (cap : Cap) → result ≡ Err (RowFault.Limit cap) → (cap ≡ Cap.Units) × (32768 < length net.old.units.items + length (shifted_by left wa by.now wby a.now (length net.old.units.items)).units) × (net.new.units.items ≡ net.old.units.items) }
-    ensures part { OnErr result (IsPrefix net.new.units.items (net.old.units.items ++ (shifted_by left wa by.now wby a.now (length net.old.units.items)).units)) }
+    ensures passed { AreTooMany net.old.units.items (shifted_by left wa by.now wby a.now) →
+        result ≡ Err (RowFault.Limit Cap.Units) }
+    ensures limit { (cap : Cap) → result ≡ Err (RowFault.Limit cap) → (cap ≡ Cap.Units) ×
+        AreTooMany net.old.units.items (shifted_by left wa by.now wby a.now) × (net.new.units.items ≡
+        net.old.units.items) }
+    ensures part { OnErr result (IsPrefix net.new.units.items
+        (units_after net.old.units.items (shifted_by left wa by.now wby a.now))) }
     ensures same { HasSame net.old net.new }
 {
-    if net.units.len() + usize::from(wby) > MOST_UNITS {
+    if net.units.len() + usize::from(wby) > Cap::MOST_UNITS {
         return Err(RowFault::Limit(Cap::Units));
     }
     let shift = Shift {

@@ -8,10 +8,9 @@ ghost use Rattle.pr_net.specs.declared.cells.Cell.{Cell};
 ghost use Rattle.pr_net.specs.declared.cells.Slice.{Slice};
 ghost use Rattle.pr_net.specs.declared.cells.Wire.{Wire};
 ghost use Rattle.pr_cut_units.specs.Cells.{plain, byte, top, bit_of, slice_at, slice_below, with_left, with_right, table_a, table_b, table_not_a};
-ghost use Rattle.pr_cut_units.specs.Parts.{each};
-ghost use Rattle.pr_cut_units.specs.Shifts.{shift_cell, shift_row, shifted_by};
-ghost use Rattle.pr_cut_units.specs.Parts.{in_turn};
+ghost use Rattle.pr_cut_units.specs.Parts.{each, units_after, slices_after};
 ghost use Rattle.pr_cut_cells.specs.Prefixes.{IsPrefix};
+ghost use Rattle.pr_cutmul.specs.Makings.{shift_cell_of, shift_row_of, shift_of};
 
 use pr_base::slices;
 use pr_cut_cells::{bit_of, byte, plain, push_unit, same, top, with_left, with_right};
@@ -30,7 +29,7 @@ pub struct Shift<'a> {
 /// Cell `i` of row `j`.
 fn shift_cell(shift: &Shift, j: u8, before: &[Slice], i: usize) -> Cell
     requires { i < 64 }
-    ensures { result ≡ shift_cell shift.now.left shift.now.w shift.now.by.now j before.now i }
+    ensures { result ≡ shift_cell_of shift.now j before.now i }
 {
     let cell = Cell {
         a: byte(before, i),
@@ -60,7 +59,7 @@ fn shift_cells(
     ensures count { IfOk result (λ all. vec_len all ≡ slices_of shift.now.w) }
     ensures few { IfOk result (λ all. vec_len all ≤ 255) }
     ensures all { IfOk result (λ all. all.items ≡
-        each (slices_of shift.now.w) (λ i. shift_cell shift.now.left shift.now.w shift.now.by.now j before.now i)) }
+        each (slices_of shift.now.w) (λ i. shift_cell_of shift.now j before.now i)) }
 {
     let mut all = Vec::new(alloc);
     for i in 0..slices(shift.w) {
@@ -80,9 +79,10 @@ fn shift_row(
 ) -> Result<Vec<Slice>, AllocError>
     requires fits { length units.old.items < 2 ^ 32 }
     ensures grows { OnOk result (length units.new.items ≤ length units.old.items + 1) }
-    ensures units { OnOk result (units.new.items ≡ units.old.items ++ (shift_row shift.now.left shift.now.w shift.now.by.now j before.now (length units.old.items)).units) }
-    ensures part { OnErr result (IsPrefix units.new.items (units.old.items ++ (shift_row shift.now.left shift.now.w shift.now.by.now j before.now (length units.old.items)).units)) }
-    ensures slices { IfOk result (λ s. s.items ≡ (shift_row shift.now.left shift.now.w shift.now.by.now j before.now (length units.old.items)).slices) }
+    ensures units { OnOk result (units.new.items ≡ units_after units.old.items (shift_row_of shift.now j before.now)) }
+    ensures part { OnErr result
+        (IsPrefix units.new.items (units_after units.old.items (shift_row_of shift.now j before.now))) }
+    ensures slices { IfOk result (λ s. s.items ≡ slices_after units.old.items (shift_row_of shift.now j before.now)) }
 {
     let cells = shift_cells(alloc, shift, j, before)?;
     push_unit(alloc, units, cells)
@@ -97,9 +97,9 @@ pub fn shifted_by(
 ) -> Result<Vec<Slice>, AllocError>
     requires fits { length units.old.items + shift.now.bits < 2 ^ 32 }
     ensures grows { OnOk result (length units.new.items ≤ length units.old.items + shift.now.bits) }
-    ensures units { OnOk result (units.new.items ≡ units.old.items ++ (shifted_by shift.now.left shift.now.w shift.now.by.now shift.now.bits x.now (length units.old.items)).units) }
-    ensures part { OnErr result (IsPrefix units.new.items (units.old.items ++ (shifted_by shift.now.left shift.now.w shift.now.by.now shift.now.bits x.now (length units.old.items)).units)) }
-    ensures slices { IfOk result (λ s. s.items ≡ (shifted_by shift.now.left shift.now.w shift.now.by.now shift.now.bits x.now (length units.old.items)).slices) }
+    ensures units { OnOk result (units.new.items ≡ units_after units.old.items (shift_of shift.now x.now)) }
+    ensures part { OnErr result (IsPrefix units.new.items (units_after units.old.items (shift_of shift.now x.now))) }
+    ensures slices { IfOk result (λ s. s.items ≡ slices_after units.old.items (shift_of shift.now x.now)) }
 {
     let mut before = same(alloc, x)?;
     for j in 0..shift.bits {

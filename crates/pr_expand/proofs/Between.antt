@@ -22,7 +22,8 @@ use Rattle.pr_expand_spec.specs.Expressions.{Visible}
 use Rattle.pr_expand_spec.specs.Statements.{Progress}
 use Rattle.pr_expand_spec.specs.Programs.{World, item_change, items_change, start}
 use Rattle.pr_scope.specs.Walk as scope
-use Rattle.pr_scope_facts.proofs.InvertedItems.{AllItems, input-inverted, output-inverted, constant-inverted, table-inverted, function-inverted, step-inverted}
+use Rattle.pr_scope_facts.specs.Items.{AllItems}
+use Rattle.pr_scope_facts.proofs.InvertedItems.{input-inverted, output-inverted, constant-inverted, table-inverted, function-inverted, step-inverted}
 use Rattle.pr_expand.specs.Worlds.{IsFree}
 use Rattle.pr_expand.specs.Scopes.{IsBefore, IsScene, after, functions_before, visible_at, visible_in}
 use Rattle.pr_expand.proofs.Callables.{callable_at}

@@ -1,9 +1,6 @@
 -- What the code keeps.
-use Rattle.std.specs.Prelude.{ℕ, ◌<◌, cond, nat_le, List, length, Option, Some, None, ⊤}
-use Rattle.std.specs.Option.{option_and_then}
-use Rattle.std.specs.Ordering.{nat_cmp}
-use Rattle.std.specs.BTreeMap.{get_by}
-use Rattle.pr_scope_names.specs.Names.{at_name}
+use Rattle.std.specs.Prelude.{ℕ, ◌<◌, cond, nat_le, length, ⊤}
+use Rattle.pr_scope_names.specs.Names.{ByInstance, instances_in, placed}
 use Rattle.pr_flat.specs.Shape.{shapes_of}
 use Rattle.pr_expand_spec.specs.declared.givens.Standing.{Standing}
 use Rattle.pr_expand.specs.declared.stops.Stop.{Stop}
@@ -12,7 +9,6 @@ use Rattle.pr_expand.specs.declared.ledgers.Ledger.{Ledger}
 use Rattle.pr_expand.specs.declared.ledgers.Made as made
 use Rattle.pr_expand.specs.declared.ledgers.AllMade as all
 use Rattle.pr_expand.specs.declared.ledgers.Progress as progress
-use Rattle.pr_expand.specs.declared.environment.Places.{Places}
 use Rattle.pr_expand.specs.declared.environment.Environment.{Environment}
 use Rattle.pr_expand_spec.specs.Making.{Equations, Made}
 use Rattle.pr_expand_spec.specs.Expressions.{Streams, AllMade}
@@ -24,16 +20,11 @@ shapes_in l = shapes_of l.equations.items
 abbrev pub made_of : made.Made → Made
 made_of m = record { equations = shapes_in m.ledger; given = m.given }
 
-abbrev pub placed_in : Places → Option ℕ → Option Standing
-placed_in p None = p.alone
-placed_in p (Some n) = get_by (nat_cmp n) p.indexed
-
--- what an instance stands for, by the places of each name
-abbrev pub streams_by : (List ℕ → Option Places) → Streams
-streams_by m = λ name place. option_and_then (λ (p : Places). placed_in p place) (m name)
+abbrev pub streams_by : ByInstance Standing → Streams
+streams_by s = λ name place. placed (s name) place
 
 abbrev pub streams_in : Environment → Streams
-streams_in e = streams_by (at_name e.map)
+streams_in e = streams_by (instances_in e.instances)
 
 abbrev pub all_of : all.AllMade → AllMade
 all_of a = record { equations = shapes_in a.ledger; given = a.given.items }

@@ -7,7 +7,7 @@ use Rattle.pr_scope_names.specs.declared.names.Statics.{Statics}
 use Rattle.pr_scope_names.specs.Names.{known_in}
 use Rattle.pr_flat.specs.Shape.{shapes_of}
 use Rattle.pr_scope.specs.Walk as scope
-use Rattle.pr_scope_facts.proofs.InvertedItems.{AllItems}
+use Rattle.pr_scope_facts.specs.Items.{AllItems}
 use Rattle.pr_expand_spec.specs.Programs as programs
 use Rattle.pr_expand_spec.specs.Making.{Equations}
 use Rattle.pr_expand.specs.declared.flats.ExpandFault.{ExpandFault}

@@ -71,7 +71,6 @@ fn flatten(program: &Program, expansion: Expansion) -> Flat
 
 /// The flat equations of a program that keeps the rules of scope, where they are at most 16,384.
 pub fn expand(alloc: Global, scoped: &Scoped) -> Result<Flat, ExpandFault>
-    requires { offence scoped.now.program ≡ None }
     ensures equations { IfOk result (λ f. shapes_of f.equations.items ≡ (equations_of scoped.now.program).equations) }
     ensures outputs { IfOk result (λ f. f.outputs.items ≡ (equations_of scoped.now.program).outputs) }
     ensures limit { IfErr result (λ fault. IsLimit fault (equations_of scoped.now.program).equations) }

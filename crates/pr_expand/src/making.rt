@@ -7,12 +7,10 @@ ghost use Rattle.pr_expand.specs.Code.{IsPast, made_of, shapes_in};
 use crate::keys::{key_of, noted};
 use crate::ledgers::{Ledger, Made};
 use crate::stops::Stop;
+use pr_base::Cap;
 use pr_expand_spec::Given;
 use pr_flat::{Equation, Op, Operand};
 use std::alloc::{AllocError, Global};
-
-/// The most equations that a program may have.
-const MOST_EQUATIONS: usize = 16384;
 
 /// One equation more.
 fn push(alloc: Global, ledger: Ledger, equation: Equation, signed: bool) -> Result<Made, Stop>
@@ -24,7 +22,7 @@ fn push(alloc: Global, ledger: Ledger, equation: Equation, signed: bool) -> Resu
         delays,
     } = ledger;
     let number = equations.len();
-    if number >= MOST_EQUATIONS {
+    if number >= Cap::MOST_EQUATIONS {
         return Err(Stop::Limit);
     }
     let key = key_of(alloc, &equation)?;

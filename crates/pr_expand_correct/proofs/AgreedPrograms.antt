@@ -40,7 +40,8 @@ use Rattle.pr_expand_spec.specs.Programs.{equations_of, input_width}
 use Rattle.pr_scope_facts.proofs.Appending.{Appends, appends-nothing, appends-both, appends-length}
 use Rattle.pr_scope_facts.proofs.Statics.{constant-meant, constant-made, entries-meant, entries-made}
 use Rattle.pr_scope_facts.proofs.InvertedStatements.{Introduces, width-flat, width-greatest}
-use Rattle.pr_scope_facts.proofs.InvertedItems.{AllItems, Names, constant-inverted, function-inverted, input-inverted, output-inverted, program-inverted, step-inverted, table-inverted}
+use Rattle.pr_scope_facts.specs.Items.{AllItems}
+use Rattle.pr_scope_facts.proofs.InvertedItems.{Names, constant-inverted, function-inverted, input-inverted, output-inverted, program-inverted, step-inverted, table-inverted}
 use Rattle.pr_scope_facts.proofs.Steps.{callee-plain}
 use Rattle.pr_scope_facts.proofs.Worlds.{SameVisible, is_function, visible-first, visible-function, visible-static}
 use Rattle.pr_expand_correct.specs.Outputs.{HasStreams, HaveWidths, IsAsWide}

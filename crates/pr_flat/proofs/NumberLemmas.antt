@@ -17,6 +17,7 @@ use Rattle.pr_flat.specs.Facts.{is_input, arity, is_rec, is_lawful_operand, has_
 use Rattle.pr_flat.specs.Widths.{operand_width, width_in, settled_width, is_open, AreWidths}
 use Rattle.pr_base.specs.Rows.{IsRow}
 use Rattle.pr_flat.specs.Values.{input_widths, initial_of, init_of, number_before, operand_number, delayed_number, points_in, recurrence_number, first_delayed, number_in, row_of, rows_after, rows_of, HaveWidths}
+use Rattle.pr_flat.specs.Laws.{AllHaveWidths}
 use Rattle.pr_flat.proofs.FormLemmas.{residue-lt}
 use Rattle.pr_flat.proofs.WidthLemmas.{PastOf, past_of, declared_of, IsDeclared, equation_at}
 use Rattle.pr_flat.proofs.ValueLemmas.{row_of-at}
@@ -126,10 +127,6 @@ constant-holds (suc n) equations outputs widths i c e flat all low there op =
 -- a sample has for each input a number with the bits of its width
 abbrev pub IsSampleFor : List EquationShape → List ℕ → List ℕ → Type 0
 IsSampleFor equations widths sample = EachEquation equations (λ i e. e.op ≡ Input → get_or sample (count_by (λ (d : EquationShape). is_input d.op) (take i equations)) 0 < 2 ^ get_or widths i 0)
-
--- rows of which each has numbers with the bits of their widths
-abbrev pub AllHaveWidths : List ℕ → List (List ℕ) → Type 0
-AllHaveWidths widths rows = (n : ℕ) (row : List ℕ) → slice_get rows n ≡ Some row → HaveWidths widths row
 
 past_holds : (equations : List EquationShape) (outputs : List Operand) (widths : List ℕ) (before : List (List ℕ)) (i rec k : ℕ) → IsFlat equations outputs → AreWidths equations widths → AllHaveWidths widths before → PastOf equations i rec → number_before before rec k (initial_of equations rec) < 2 ^ get_or widths rec 0
 past_holds equations outputs widths before i rec k flat all rows p = by_row (slice_get before (k - 1)) refl where

@@ -4,3 +4,5 @@ pub mod Shape
 pub mod Facts
 pub mod Widths
 pub mod Values
+pub mod Flats
+pub mod Laws

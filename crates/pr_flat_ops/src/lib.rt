@@ -12,6 +12,3 @@ pub use operands::{natural, operate};
 pub use results::{choose, operate_one, operate_two};
 pub use wholes::fit;
 pub use widths::{natural_choice, natural_one, natural_two, number_width};
-
-#[cfg(test)]
-mod tests;

@@ -1,10 +1,11 @@
 //! Operators on as many operands as they have.
 
-ghost use Rattle.std.specs.Prelude.{◌≡◌, ◌<◌, ℕ, true, false, List, [], ◌∷◌, length, MatchOption, All};
+ghost use Rattle.std.specs.Prelude.{◌≡◌, ◌<◌, ℕ, true, false, List, [], ◌∷◌, length, All};
 ghost use Rattle.pr_flat.specs.Facts.{arity, is_rec};
 ghost use Rattle.pr_flat.specs.Forms.{IsForm, IsPoint};
-ghost use Rattle.pr_flat.specs.Rows.{takes, forms_of, natural_form};
+ghost use Rattle.pr_flat.specs.Rows.{takes, forms_of};
 ghost use Rattle.pr_flat.specs.Values.{operator_number};
+ghost use Rattle.pr_flat_ops.specs.Naturals.{IsNatural};
 
 use crate::results::{choose, operate_one, operate_two};
 use crate::wholes::fit;
@@ -17,7 +18,7 @@ use pr_flat::{Form, Op, Point};
 pub fn natural(op: Op, operands: &[Form]) -> Option<Form>
     requires forms { All IsForm operands.now }
     requires count { length operands.now ≡ arity op }
-    ensures { MatchOption result (takes op operands.now ≡ false) (λ f. (takes op operands.now ≡ true) × (f ≡ natural_form op operands.now)) }
+    ensures { IsNatural op operands.now result }
 {
     match operands {
         [a] => natural_one(op, *a),

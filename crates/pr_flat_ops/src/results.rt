@@ -39,7 +39,8 @@ pub fn choose(c: Point, a: Point, b: Point) -> Num
     requires a { IsPoint a }
     requires b { IsPoint b }
     ensures number { result ≡ natural_number Op.Choose (c ∷ a ∷ b ∷ []) % 2 ^ 128 }
-    ensures below { natural_number Op.Choose (c ∷ a ∷ b ∷ []) < 2 ^ natural_width Op.Choose (c.form ∷ a.form ∷ b.form ∷ []) }
+    ensures below { natural_number Op.Choose (c ∷ a ∷ b ∷ []) < 2 ^ natural_width Op.Choose
+        (c.form ∷ a.form ∷ b.form ∷ []) }
 {
     narrowed(branch(c, a, b), wider(a.form, b.form))
 }

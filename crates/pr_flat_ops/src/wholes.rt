@@ -17,7 +17,8 @@ pub struct Whole {
 /// The point's value modulo 2 to the power of `w`. Of a number of more than 128 bits the low 128 are enough.
 pub fn fit(point: Point, w: Width) -> Num
     requires { 1 ≤ point.form.width }
-    ensures { (n : ℕ) → n < 2 ^ point.form.width → point.number ≡ n % 2 ^ 128 → result ≡ residue w.bits (value point.form n) }
+    ensures { (n : ℕ) → n < 2 ^ point.form.width → point.number ≡ n % 2 ^ 128 → result ≡
+        residue w.bits (value point.form n) }
 {
     cut(whole_of(point).bits, w)
 }
@@ -25,7 +26,8 @@ pub fn fit(point: Point, w: Width) -> Num
 /// The point's value; of one of more than 128 bits the low 128 bits.
 pub fn whole_of(point: Point) -> Whole
     requires { 1 ≤ point.form.width }
-    ensures bits { (n : ℕ) → n < 2 ^ point.form.width → point.number ≡ n % 2 ^ 128 → result.bits ≡ residue 128 (value point.form n) }
+    ensures bits { (n : ℕ) → n < 2 ^ point.form.width → point.number ≡ n % 2 ^ 128 → result.bits ≡
+        residue 128 (value point.form n) }
     ensures value { IsPoint point → whole_value result ≡ value_at point }
 {
     if !is_negative(point) {

@@ -1,8 +1,9 @@
 //! Kinds and widths that hold an operator's result.
 
-ghost use Rattle.std.specs.Prelude.{◌≡◌, ◌<◌, ℕ, ◌^◌, Bool, true, false, cond, ◌||◌, List, [], ◌∷◌, MatchOption};
+ghost use Rattle.std.specs.Prelude.{◌≡◌, ◌<◌, ℕ, ◌^◌, Bool, true, false, cond, ◌||◌, List, [], ◌∷◌};
 ghost use Rattle.pr_flat.specs.Forms.{IsForm, number_width, signed_width, wider, wider_signed};
 ghost use Rattle.pr_flat.specs.Rows.{takes, gives_signed, natural_form, natural_width};
+ghost use Rattle.pr_flat_ops.specs.Naturals.{IsNatural};
 
 use pr_base::{Num, Width, bits_of};
 use pr_flat::{Form, Op};
@@ -11,7 +12,7 @@ use pr_flat::{Form, Op};
 /// operator does not take it: a slice's high end has to lie in it.
 pub fn natural_one(op: Op, a: Form) -> Option<Form>
     requires { IsForm a }
-    ensures { MatchOption result (takes op (a ∷ []) ≡ false) (λ f. (takes op (a ∷ []) ≡ true) × (f ≡ natural_form op (a ∷ []))) }
+    ensures { IsNatural op (a ∷ []) result }
 {
     if let Op::Slice(high, _) = op {
         if high >= u64::from(a.width) {
@@ -51,7 +52,7 @@ pub fn natural_two(op: Op, a: Form, b: Form) -> Form
 pub fn natural_choice(c: Form, a: Form, b: Form) -> Option<Form>
     requires a { IsForm a }
     requires b { IsForm b }
-    ensures { MatchOption result (takes Op.Choose (c ∷ a ∷ b ∷ []) ≡ false) (λ f. (takes Op.Choose (c ∷ a ∷ b ∷ []) ≡ true) × (f ≡ natural_form Op.Choose (c ∷ a ∷ b ∷ []))) }
+    ensures { IsNatural Op.Choose (c ∷ a ∷ b ∷ []) result }
 {
     if c.width != 1 {
         return None;

@@ -2,7 +2,6 @@ ghost use Rattle.std.specs.Prelude.{◌≡◌, ◌↔◌, IfOk, IsTrue, nat_eq};
 ghost use Rattle.std.specs.Cmp.Lexicographic.{pointwise};
 
 use std::alloc::{AllocError, Global};
-use std::fmt;
 use std::marker::Model;
 
 /// A name in a program, seen as the list of its bytes.
@@ -48,14 +47,5 @@ impl Name {
         ensures same { IsTrue result ↔ (self.now ≡ other.now) }
     {
         self.bytes.as_slice() == other.bytes.as_slice()
-    }
-}
-
-impl fmt::Display for Name {
-    fn fmt<W: fmt::Write>(&self, f: &mut fmt::Formatter<W>) -> fmt::Result {
-        for byte in self.bytes.as_slice() {
-            write!(f, "{}", char::from(*byte))?;
-        }
-        Ok(())
     }
 }

@@ -1,8 +1,6 @@
 ghost use Rattle.std.specs.Prelude.{◌≡◌};
 ghost use Rattle.pr_lang.specs.Spelling.{keyword_text, symbol_text};
 
-use std::fmt;
-
 /// The words that are no names.
 #[derive(Clone, Copy, Debug, PartialEq, Eq)]
 pub enum Keyword {
@@ -38,12 +36,6 @@ impl Keyword {
             Keyword::Within => "in",
             Keyword::Cat => "cat",
         }
-    }
-}
-
-impl fmt::Display for Keyword {
-    fn fmt<W: fmt::Write>(&self, f: &mut fmt::Formatter<W>) -> fmt::Result {
-        f.write_str(self.as_str())
     }
 }
 
@@ -122,12 +114,6 @@ impl Symbol {
     }
 }
 
-impl fmt::Display for Symbol {
-    fn fmt<W: fmt::Write>(&self, f: &mut fmt::Formatter<W>) -> fmt::Result {
-        f.write_str(self.as_str())
-    }
-}
-
 /// What a token is. A name's bytes are those of the text at its place.
 #[derive(Clone, Copy, Debug, PartialEq, Eq)]
 pub enum Kind {
@@ -139,19 +125,6 @@ pub enum Kind {
     End,
     /// Bytes that are no token.
     Bad,
-}
-
-impl fmt::Display for Kind {
-    fn fmt<W: fmt::Write>(&self, f: &mut fmt::Formatter<W>) -> fmt::Result {
-        match self {
-            Kind::Name => f.write_str("name"),
-            Kind::Number(value) => write!(f, "{value}"),
-            Kind::Word(word) => f.write_str(word.as_str()),
-            Kind::Mark(symbol) => f.write_str(symbol.as_str()),
-            Kind::End => f.write_str("end"),
-            Kind::Bad => f.write_str("bad"),
-        }
-    }
 }
 
 /// A token, which stands in the text from byte `start` up to byte `end`, this one not included.

@@ -8,7 +8,7 @@ use crate::orders::{Order, Task};
 use crate::outcomes::{Outcome, Reply};
 use crate::programs::{bounds_of, cost, why, write_graph};
 use pr_base::Cap;
-use pr_code::Fabric;
+use pr_base::Fabric;
 use pr_edge::{Shelf, Sink, write_all};
 use pr_tool::{Answer, Bounds};
 use pr_tool_modes::read_file;

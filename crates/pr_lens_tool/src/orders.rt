@@ -4,7 +4,7 @@ ghost use Rattle.std.specs.Prelude.{◌≡◌, ◌≤◌};
 ghost use Rattle.pr_tool_words.specs.Lawful.{fabric_named};
 ghost use Rattle.pr_lens_tool.specs.Tasks.{task_named};
 
-use pr_code::Fabric;
+use pr_base::Fabric;
 
 /// What is to be made of a file.
 #[derive(Clone, Copy)]

@@ -53,7 +53,8 @@ fn enter<const N: usize>(buffers: &mut Buffers<N>, first: Option<usize>) -> bool
     ensures rest { buffers.new.input.waiting ≡ rest_of buffers.old.input.waiting first }
     ensures size { buffers.new.input.size ≡ buffers.old.input.size }
     ensures length { vec_len buffers.new.sample ≡ vec_len buffers.old.sample }
-    ensures others { (buffers.new.store ≡ buffers.old.store) × (buffers.new.output ≡ buffers.old.output) × (buffers.new.result ≡ buffers.old.result) × (buffers.new.prepared ≡ buffers.old.prepared) }
+    ensures others { (buffers.new.store ≡ buffers.old.store) × (buffers.new.output ≡ buffers.old.output)
+        × (buffers.new.result ≡ buffers.old.result) × (buffers.new.prepared ≡ buffers.old.prepared) }
 {
     match first {
         None => false,
@@ -64,9 +65,11 @@ fn enter<const N: usize>(buffers: &mut Buffers<N>, first: Option<usize>) -> bool
 /// Puts the result that left into its queue.
 fn put_result<const N: usize>(buffers: &mut Buffers<N>, left: bool)
     requires { left ≡ true → length buffers.old.result.items ≡ buffers.old.output.size }
-    ensures put { HasRoom buffers.old.output.waiting (row_if left buffers.old.result.items) → buffers.new.output.waiting ≡ pushed buffers.old.output.waiting (row_if left buffers.old.result.items) }
+    ensures put { HasRoom buffers.old.output.waiting (row_if left buffers.old.result.items)
+        → buffers.new.output.waiting ≡ pushed buffers.old.output.waiting (row_if left buffers.old.result.items) }
     ensures size { buffers.new.output.size ≡ buffers.old.output.size }
-    ensures others { (buffers.new.store ≡ buffers.old.store) × (buffers.new.input ≡ buffers.old.input) × (buffers.new.result ≡ buffers.old.result) × (buffers.new.sample ≡ buffers.old.sample) × (buffers.new.prepared ≡ buffers.old.prepared) }
+    ensures others { (buffers.new.store ≡ buffers.old.store) × (buffers.new.input ≡ buffers.old.input)
+        × (buffers.new.result ≡ buffers.old.result) × (buffers.new.sample ≡ buffers.old.sample) × (buffers.new.prepared ≡ buffers.old.prepared) }
 {
     if left {
         let _told = buffers.output.put(&buffers.result);
@@ -164,7 +167,8 @@ impl<const N: usize, const P: usize> Loaded<N, P> {
     /// Whether the next cycle is stalled.
     pub(crate) fn is_held(&self, schedule: &Schedule) -> bool
         requires { IsScheduled (vec_len self.now.conf.stages) (vec_len self.now.places) self.now.plan.time schedule.now }
-        ensures { (c : Shape) (p : ℕ) (h : History) → PartsStand self.now c p h → result ≡ stalled (length c.stages) p (account_of c p h) }
+        ensures { (c : Shape) (p : ℕ) (h : History) → PartsStand self.now c p h
+            → result ≡ stalled (length c.stages) p (account_of c p h) }
     {
         let entering = may_enter(schedule.first, self.buffers.input.len());
         is_stalled(
@@ -181,8 +185,10 @@ impl<const N: usize, const P: usize> Loaded<N, P> {
         requires schedule { IsScheduled (vec_len self.old.conf.stages) (vec_len self.old.places) self.old.plan.time schedule.now }
         requires live { schedule.now.live ≡ self.old.live }
         requires time { self.old.plan.time < 2 ^ 63 }
-        ensures stands { (c : Shape) (p : ℕ) (h : History) → PartsStand self.old c p h → stalled (length c.stages) p (account_of c p h) ≡ false → PartsStand self.new c p (h ++ Cycle ∷ []) }
-        ensures turn { (c : Shape) (p : ℕ) (h : History) → PartsStand self.old c p h → result ≡ next_turn (length c.stages) p (account_of c p h) }
+        ensures stands { (c : Shape) (p : ℕ) (h : History) → PartsStand self.old c p h
+            → stalled (length c.stages) p (account_of c p h) ≡ false → PartsStand self.new c p (h ++ Cycle ∷ []) }
+        ensures turn { (c : Shape) (p : ℕ) (h : History) → PartsStand self.old c p h
+            → result ≡ next_turn (length c.stages) p (account_of c p h) }
         ensures advanced { result.advanced ≡ true }
         ensures conf { self.new.conf ≡ self.old.conf }
         ensures stripes { vec_len self.new.places ≡ vec_len self.old.places }

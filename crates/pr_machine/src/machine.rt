@@ -227,7 +227,8 @@ impl<const N: usize, const P: usize> Machine<N, P, Running> {
     /// How many cycles have advanced.
     pub fn time(&self) -> u64
         ensures is { result ≡ time_of self.now }
-        ensures told { (c : Shape) (p : ℕ) (h : History) → Stands self.now c p h → result ≡ (account_of c p h).time }
+        ensures told { (c : Shape) (p : ℕ) (h : History) → Stands self.now c p h
+            → result ≡ (account_of c p h).time }
     {
         self.parts.plan.time()
     }
@@ -235,7 +236,8 @@ impl<const N: usize, const P: usize> Machine<N, P, Running> {
     /// How many samples have entered.
     pub fn entered(&self) -> u64
         ensures is { result ≡ self.now.parts.entered }
-        ensures told { (c : Shape) (p : ℕ) (h : History) → Stands self.now c p h → result ≡ length (account_of c p h).entries }
+        ensures told { (c : Shape) (p : ℕ) (h : History) → Stands self.now c p h
+            → result ≡ length (account_of c p h).entries }
     {
         self.parts.entered
     }
@@ -243,7 +245,8 @@ impl<const N: usize, const P: usize> Machine<N, P, Running> {
     /// How many results have left.
     pub fn left(&self) -> u64
         ensures is { result ≡ self.now.parts.left }
-        ensures told { (c : Shape) (p : ℕ) (h : History) → Stands self.now c p h → result ≡ left_of (length c.stages) (account_of c p h) }
+        ensures told { (c : Shape) (p : ℕ) (h : History) → Stands self.now c p h
+            → result ≡ left_of (length c.stages) (account_of c p h) }
     {
         self.parts.left
     }
@@ -251,7 +254,8 @@ impl<const N: usize, const P: usize> Machine<N, P, Running> {
     /// How many samples wait, 16 at most.
     pub fn waiting_in(&self) -> usize
         ensures is { result ≡ length (waiting_samples self.now) }
-        ensures told { (c : Shape) (p : ℕ) (h : History) → Stands self.now c p h → result ≡ length (account_of c p h).offered - length (account_of c p h).entries }
+        ensures told { (c : Shape) (p : ℕ) (h : History) → Stands self.now c p h
+            → result ≡ length (account_of c p h).offered - length (account_of c p h).entries }
         ensures few { result ≤ 16 }
     {
         self.parts.buffers.input.len()
@@ -260,7 +264,8 @@ impl<const N: usize, const P: usize> Machine<N, P, Running> {
     /// How many results wait, 16 at most.
     pub fn waiting_out(&self) -> usize
         ensures is { result ≡ length (waiting_results self.now) }
-        ensures told { (c : Shape) (p : ℕ) (h : History) → Stands self.now c p h → result ≡ left_of (length c.stages) (account_of c p h) - (account_of c p h).taken }
+        ensures told { (c : Shape) (p : ℕ) (h : History) → Stands self.now c p h
+            → result ≡ left_of (length c.stages) (account_of c p h) - (account_of c p h).taken }
         ensures few { result ≤ 16 }
     {
         self.parts.buffers.output.len()

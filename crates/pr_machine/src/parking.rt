@@ -92,8 +92,10 @@ impl<const N: usize, const P: usize> Machine<N, P, Running> {
         requires gone { self.parts.entered ≡ self.parts.left }
         requires input { length (waiting_samples self) ≡ 0 }
         requires output { length (waiting_results self) ≡ 0 }
-        ensures parked { (c : Shape) (p : ℕ) (h : History) → Stands self.entry c p h → parked_conf result.1 ≡ conf_after N P c (account_of c p h).offered }
-        ensures all { (c : Shape) (p : ℕ) (h : History) → Stands self.entry c p h → left_of (length c.stages) (account_of c p h) ≡ length (account_of c p h).offered }
+        ensures parked { (c : Shape) (p : ℕ) (h : History) → Stands self.entry c p h
+            → parked_conf result.1 ≡ conf_after N P c (account_of c p h).offered }
+        ensures all { (c : Shape) (p : ℕ) (h : History) → Stands self.entry c p h
+            → left_of (length c.stages) (account_of c p h) ≡ length (account_of c p h).offered }
         ensures stripes { bare_stripes result.0 ≡ stripes_of self.entry }
         ensures inputs { (parked_conf result.1).inputs ≡ (conf_of self.entry).inputs }
         ensures outputs { (parked_conf result.1).outputs ≡ (conf_of self.entry).outputs }

@@ -65,7 +65,8 @@ fn compute_at<const N: usize, const P: usize>(
     requires sample { vec_len buffers.now.sample ≡ bytes_in (shape_of conf.now).inputs }
     requires ready { AreReady (P - 1) (shape_of conf.now).stages buffers.now.prepared.items }
     requires count { vec_len buffers.now.prepared ≡ vec_len conf.now.stages }
-    ensures step { seen place.new ≡ stepped (steps_of N P (shape_of conf.now)) (row_if valid buffers.now.sample.items) (seen place.old) (shows (seen prev.now)) }
+    ensures step { seen place.new ≡ stepped (steps_of N P (shape_of conf.now)) (row_if valid buffers.now.sample.items)
+        (seen place.old) (shows (seen prev.now)) }
     ensures here { IsHere (vec_len conf.now.stages) place.new }
 {
     match place {
@@ -94,7 +95,8 @@ fn renewed<const N: usize, const P: usize>(
 ) -> Place<N, P>
     requires here { IsHere (length store.old) was }
     requires stage { stage < length store.old }
-    ensures save { (s : ℕ) → s < length store.old → rows_of store.new s ≡ saved (rows_of store.old) (seen was.entry) s }
+    ensures save { (s : ℕ) → s < length store.old
+        → rows_of store.new s ≡ saved (rows_of store.old) (seen was.entry) s }
     ensures armed { seen result ≡ Held stage (rows_of store.new stage) None }
     ensures size { length store.new ≡ length store.old }
     ensures here { IsHere (length store.old) result }
@@ -125,7 +127,8 @@ fn step_at<const N: usize, const P: usize>(
     requires ready { AreReady (P - 1) (shape_of conf.now).stages buffers.now.prepared.items }
     requires count { vec_len buffers.now.prepared ≡ vec_len conf.now.stages }
     ensures others { (j : ℕ) → j ≢ at → place_at places.new j ≡ place_at places.old j }
-    ensures step { spots_of places.new at ≡ stepped (steps_of N P (shape_of conf.now)) (row_if valid buffers.now.sample.items) (spots_of places.old at) (shows (spots_of places.old from)) }
+    ensures step { spots_of places.new at ≡ stepped (steps_of N P (shape_of conf.now)) (row_if valid buffers.now.sample.items)
+        (spots_of places.old at) (shows (spots_of places.old from)) }
     ensures here { IsHere (vec_len conf.now.stages) (place_at places.new at) }
 {
     if at < from {
@@ -148,7 +151,8 @@ fn turn_over<const N: usize, const P: usize>(
     requires stage { stage < length store.old }
     requires here { IsHere (length store.old) (place_at places.old at) }
     ensures others { (j : ℕ) → j ≢ at → place_at places.new j ≡ place_at places.old j }
-    ensures save { (s : ℕ) → s < length store.old → rows_of store.new s ≡ saved (rows_of store.old) (spots_of places.old at) s }
+    ensures save { (s : ℕ) → s < length store.old
+        → rows_of store.new s ≡ saved (rows_of store.old) (spots_of places.old at) s }
     ensures armed { spots_of places.new at ≡ Held stage (rows_of store.new stage) None }
     ensures size { length store.new ≡ length store.old }
     ensures here { IsHere (length store.old) (place_at places.new at) }
@@ -173,7 +177,8 @@ fn step_ring<const N: usize, const P: usize>(
     requires sample { vec_len buffers.now.sample ≡ bytes_in (shape_of conf.now).inputs }
     requires ready { AreReady (P - 1) (shape_of conf.now).stages buffers.now.prepared.items }
     requires count { vec_len buffers.now.prepared ≡ vec_len conf.now.stages }
-    ensures ring { IsRingStep (steps_of N P (shape_of conf.now)) (row_if valid buffers.now.sample.items) (length places.old) q (spots_of places.old) (spots_of places.new) }
+    ensures ring { IsRingStep (steps_of N P (shape_of conf.now)) (row_if valid buffers.now.sample.items)
+        (length places.old) q (spots_of places.old) (spots_of places.new) }
     ensures here { AreHere (vec_len conf.now.stages) places.new }
 {
     let n = places.len();
@@ -200,7 +205,8 @@ fn step_line<const N: usize, const P: usize>(
     requires sample { vec_len buffers.now.sample ≡ bytes_in (shape_of conf.now).inputs }
     requires ready { AreReady (P - 1) (shape_of conf.now).stages buffers.now.prepared.items }
     requires count { vec_len buffers.now.prepared ≡ vec_len conf.now.stages }
-    ensures line { IsLineStep (steps_of N P (shape_of conf.now)) (row_if valid buffers.now.sample.items) (length places.old) (spots_of places.old) (spots_of places.new) }
+    ensures line { IsLineStep (steps_of N P (shape_of conf.now)) (row_if valid buffers.now.sample.items)
+        (length places.old) (spots_of places.old) (spots_of places.new) }
     ensures here { AreHere (vec_len conf.now.stages) places.new }
 {
     if live == 0 {
@@ -227,7 +233,8 @@ fn compute<const N: usize, const P: usize>(
     requires ready { AreReady (P - 1) (shape_of conf.now).stages buffers.now.prepared.items }
     requires count { vec_len buffers.now.prepared ≡ vec_len conf.now.stages }
     requires ring { IfSome schedule.now.ring (λ q. q < length places.old) }
-    ensures stepped { AreStepped (steps_of N P (shape_of conf.now)) (row_if valid buffers.now.sample.items) (length places.old) schedule.now.ring (spots_of places.old) (spots_of places.new) }
+    ensures stepped { AreStepped (steps_of N P (shape_of conf.now)) (row_if valid buffers.now.sample.items)
+        (length places.old) schedule.now.ring (spots_of places.old) (spots_of places.new) }
     ensures here { AreHere (vec_len conf.now.stages) places.new }
 {
     match schedule.ring {
@@ -255,7 +262,8 @@ fn replace_stage<const N: usize, const P: usize>(
     requires here { AreHere (length store.old) places.old }
     requires inside { IsInside (length store.old) (length places.old) event }
     ensures saved { result ≡ saved_by (spots_of places.old) (turned event) }
-    ensures turned { IsTurned (length store.old) (turned event) (spots_of places.old) (spots_of places.new) (rows_of store.old) (rows_of store.new) }
+    ensures turned { IsTurned (length store.old) (turned event) (spots_of places.old) (spots_of places.new)
+        (rows_of store.old) (rows_of store.new) }
     ensures size { length store.new ≡ length store.old }
     ensures here { AreHere (length store.old) places.new }
 {
@@ -320,7 +328,8 @@ pub(crate) fn is_stalled<const N: usize, const P: usize>(
 ) -> bool
     requires here { AreHere stages places.now }
     requires last { IfSome last (λ i. i < length places.now) }
-    ensures { result ≡ (leaving_by (length places.now) (spots_of places.now) (stages == 1) entering last && ready == 16) }
+    ensures { result
+        ≡ (leaving_by (length places.now) (spots_of places.now) (stages == 1) entering last && ready == 16) }
 {
     will_leave(places, stages, entering, last) && ready == 16
 }
@@ -336,7 +345,8 @@ fn leaving<const N: usize, const P: usize>(
     requires here { AreHere (vec_len conf.now.stages) places.now }
     requires last { IfSome last (λ i. i < length places.now) }
     requires room { bytes_in (output_widths (shape_of conf.now)) ≤ vec_capacity into.old }
-    ensures result { row_if result into.new.items ≡ option_map (tapped N (shape_of conf.now)) (leaves (spots_of places.now) last) }
+    ensures result { row_if result into.new.items
+        ≡ option_map (tapped N (shape_of conf.now)) (leaves (spots_of places.now) last) }
     ensures length { result ≡ true → length into.new.items ≡ bytes_in (output_widths (shape_of conf.now)) }
     ensures room { vec_capacity into.old ≤ vec_capacity into.new }
 {
@@ -376,12 +386,16 @@ pub(crate) fn pass<const N: usize, const P: usize>(
     requires ring { IfSome schedule.now.ring (λ q. q < length places.old) }
     requires last { IfSome schedule.now.last (λ i. i < length places.old) }
     requires inside { IsInside (vec_len conf.now.stages) (length places.old) event }
-    ensures pass { IsPass (steps_of N P (shape_of conf.now)) (tapped N (shape_of conf.now)) (vec_len conf.now.stages) (length places.old) schedule.now.ring schedule.now.last event (row_if entering buffers.old.sample.items)
-        (spots_of places.old) (spots_of places.new) (rows_of buffers.old.store) (rows_of buffers.new.store) (row_if result.left buffers.new.result.items) result.saved }
+    ensures pass { IsPass (steps_of N P (shape_of conf.now)) (tapped N (shape_of conf.now))
+        (vec_len conf.now.stages) (length places.old) schedule.now.ring schedule.now.last event
+        (row_if entering buffers.old.sample.items) (spots_of places.old) (spots_of places.new)
+        (rows_of buffers.old.store) (rows_of buffers.new.store)
+        (row_if result.left buffers.new.result.items) result.saved }
     ensures length { result.left ≡ true → length buffers.new.result.items ≡ bytes_in (output_widths (shape_of conf.now)) }
     ensures rows { length buffers.new.store ≡ length buffers.old.store }
     ensures buffer { vec_capacity buffers.old.result ≤ vec_capacity buffers.new.result }
-    ensures others { (buffers.new.input ≡ buffers.old.input) × (buffers.new.output ≡ buffers.old.output) × (buffers.new.sample ≡ buffers.old.sample) × (buffers.new.prepared ≡ buffers.old.prepared) }
+    ensures others { (buffers.new.input ≡ buffers.old.input) × (buffers.new.output ≡ buffers.old.output)
+        × (buffers.new.sample ≡ buffers.old.sample) × (buffers.new.prepared ≡ buffers.old.prepared) }
     ensures here { AreHere (vec_len conf.now.stages) places.new }
 {
     compute(places, conf, schedule, buffers, entering);

@@ -8,7 +8,7 @@
 
 ghost use Rattle.std.specs.Prelude.{ℕ, ◌≡◌, ◌+◌, ◌-◌, ◌<◌, ◌≤◌, List, [], ◌∷◌, ◌++◌, length, take, slice_get, Some};
 ghost use Rattle.pr_control.specs.Counts.{cycles_of, drain};
-ghost use Rattle.pr_conf_pipeline.specs.Rows.{Step, through};
+ghost use Rattle.pr_conf_pipeline.specs.Rows.{BytePipeline, through};
 ghost use Rattle.pr_machine_account.specs.Account.{Event, Take, account, start, left, done, below, IsLawful};
 ghost use Rattle.pr_machine_account.specs.Cycles.{IsCycle};
 ghost use Rattle.pr_machine_account.specs.Replies.{Given, OutEmpty, reply, replies_from, results_in};
@@ -28,12 +28,14 @@ pub fn cycle_law()
 
 /// The results taken are the first ones over the pieces offered, and a Take is refused just where all that left are taken.
 pub fn prefix_law()
-    ensures results { (M : ℕ → Step (List ℕ) (List ℕ)) (v p : ℕ) (tap : List ℕ → List ℕ) (h : List (Event (List ℕ))) → 0 < v
+    ensures results { (M : BytePipeline) (v p : ℕ) (tap : List ℕ → List ℕ) (h : List (Event (List ℕ))) → 0 < v
         → results_in (replies_from M v p tap start h) ≡ take (account v p h).taken (through M v tap (account v p h).offered) }
-    ensures given { (M : ℕ → Step (List ℕ) (List ℕ)) (v p : ℕ) (tap : List ℕ → List ℕ) (h : List (Event (List ℕ))) → 0 < v
+    ensures given { (M : BytePipeline) (v p : ℕ) (tap : List ℕ → List ℕ) (h : List (Event (List ℕ))) → 0 < v
         → (account v p h).taken < left v (account v p h)
-        → (result : List ℕ) × (slice_get (through M v tap (account v p h).offered) (account v p h).taken ≡ Some result) × (reply M v p tap (account v p h) Take ≡ Given result) }
-    ensures empty { (M : ℕ → Step (List ℕ) (List ℕ)) (v p : ℕ) (tap : List ℕ → List ℕ) (h : List (Event (List ℕ)))
+        → (result : List ℕ)
+        × (slice_get (through M v tap (account v p h).offered) (account v p h).taken ≡ Some result)
+        × (reply M v p tap (account v p h) Take ≡ Given result) }
+    ensures empty { (M : BytePipeline) (v p : ℕ) (tap : List ℕ → List ℕ) (h : List (Event (List ℕ)))
         → left v (account v p h) ≤ (account v p h).taken → reply M v p tap (account v p h) Take ≡ OutEmpty }
 {}
 
@@ -43,10 +45,12 @@ pub fn drain_law()
     ensures drained { (v p : ℕ) (h : List (Event (List ℕ))) (xs : List (List ℕ)) (k : ℕ) → 0 < v → 2 ≤ p
         → let s : Feeding (List ℕ) = record { account = account v p h; rest = xs } in
         drain v p (remaining s) ≤ k → IsDrained v p s (free_turns v p k s) }
-    ensures results { (M : ℕ → Step (List ℕ) (List ℕ)) (v p : ℕ) (tap : List ℕ → List ℕ) (h : List (Event (List ℕ))) (xs : List (List ℕ)) (k : ℕ) → 0 < v → 2 ≤ p
+    ensures results { (M : BytePipeline) (v p : ℕ) (tap : List ℕ → List ℕ) (h : List (Event (List ℕ)))
+        (xs : List (List ℕ)) (k : ℕ) → 0 < v → 2 ≤ p
         → let s : Feeding (List ℕ) = record { account = account v p h; rest = xs } in
         drain v p (remaining s) ≤ k
-        → results_in (replies_from M v p tap start (h ++ (turns_events v p k s ++ Take ∷ []))) ≡ through M v tap ((account v p h).offered ++ xs) }
+        → results_in (replies_from M v p tap start (h ++ (turns_events v p k s ++ Take ∷ [])))
+        ≡ through M v tap ((account v p h).offered ++ xs) }
 {}
 
 /// Where n samples are always ready and results always taken, no cycle is stalled, and the last result has left after

@@ -11,7 +11,8 @@ use Rattle.pr_base.specs.Rows.{IsRow}
 use Rattle.pr_narrow.specs.Known.{known_number, known_of, folded_shape, folded}
 use Rattle.pr_narrow.specs.Demand.{IsDemand}
 use Rattle.pr_narrow.specs.Narrowed.{new_widths, narrowed_by, AreNarrowed}
-use Rattle.pr_narrow.proofs.RowsKept.{AreSamples, output_width}
+use Rattle.pr_flat.specs.Laws.{AreSamples}
+use Rattle.pr_narrow.proofs.RowsKept.{output_width}
 use Rattle.pr_narrow.proofs.NewWidths.{Given, cut_to}
 use Rattle.pr_narrow.proofs.NarrowedWidths.{narrowed_widths}
 use Rattle.pr_narrow.proofs.NarrowedFlat.{narrowed_flat, narrowed_lists}

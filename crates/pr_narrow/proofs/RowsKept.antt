@@ -7,7 +7,6 @@ use Rattle.std.proofs.lemmas.Bool.{cases_lt, and_parts, ltb-true}
 use Rattle.std.proofs.lemmas.Bool.Decides.{nat_tests}
 use Rattle.std.proofs.lemmas.Option.{slice_get_within}
 use Rattle.std.proofs.Math.Nat.{mod-eq_of_lt}
-use Rattle.pr_base.specs.Rows.{IsRow}
 use Rattle.pr_flat.specs.declared.equations.Operand.{Operand}
 use Rattle.pr_flat.specs.declared.equations.Operand.TheVariants.{Const, Eq, Past}
 use Rattle.pr_flat.specs.declared.equations.Op.{Op}
@@ -19,8 +18,9 @@ use Rattle.pr_flat.specs.Rows.{takes, forms_of, natural_width}
 use Rattle.pr_flat.specs.Shape.{EquationShape, EachEquation}
 use Rattle.pr_flat.specs.Facts.{arity, is_lawful_output, is_input, is_rec, is_lawful_operand, IsFlat}
 use Rattle.pr_flat.specs.Widths.{operand_width, operand_forms, settled_width, AreWidths}
-use Rattle.pr_flat.specs.Values.{input_widths, output_list, Sight, init_of, initial_of, number_before, operand_number, delayed_number, points_in, operator_number, recurrence_number, first_delayed, number_in, row_of, rows_after, rows_of, HaveWidths}
-use Rattle.pr_flat.proofs.NumberLemmas.{row_of-holds, rows_of-have_widths, IsSampleFor-from_IsRow, number_width-holds, AllHaveWidths, initial-holds}
+use Rattle.pr_flat.specs.Laws.{AllHaveWidths, AreSamples}
+use Rattle.pr_flat.specs.Values.{output_list, Sight, init_of, initial_of, number_before, operand_number, delayed_number, points_in, operator_number, recurrence_number, first_delayed, number_in, row_of, rows_after, rows_of, HaveWidths}
+use Rattle.pr_flat.proofs.NumberLemmas.{row_of-holds, rows_of-have_widths, IsSampleFor-from_IsRow, number_width-holds, initial-holds}
 use Rattle.pr_flat.proofs.WidthLemmas.{PastOf, past_of, equation_at}
 use Rattle.pr_flat.proofs.ValueLemmas.{row_of-at, forms_of-points_in}
 use Rattle.pr_flat_ops.proofs.Residues.{residue_narrower}
@@ -460,10 +460,6 @@ row_cut old new outputs widths news demand rows cuts sample both before hold her
           let P : ℕ → Type 0 = λ k. 0 < get_or demand k 0 → get_or (row_of new news cuts sample) k 0 ≡ get_or (row_of old widths rows sample) k 0 % 2 ^ get_or news k 0 in
           subst P same (λ some_n. at_cut old new outputs widths news demand rows cuts sample n both (record { before = before; hold = hold; here_hold = here; here = earlier }) some_n) some
     ]
-
--- samples that are lawful for the equations as they were
-abbrev pub AreSamples : List EquationShape → List (List ℕ) → Type 0
-AreSamples old samples = (n : ℕ) (sample : List ℕ) → slice_get samples n ≡ Some sample → IsRow (input_widths old) sample
 
 rows_cut : (old new : List EquationShape) (outputs : List Operand) (widths news demand : List ℕ) (rows cuts samples : List (List ℕ)) → AreBoth old new outputs widths news demand → RowsCut demand news rows cuts → AllHaveWidths widths rows → AreSamples old samples → RowsCut demand news (rows_after old widths rows samples) (rows_after new news cuts samples)
 rows_cut old new outputs widths news demand rows cuts [] both before hold lawful = tt

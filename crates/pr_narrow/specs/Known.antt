@@ -1,7 +1,7 @@
 -- Equations whose numbers are known without a sample, and the equations with each of these in the place of what gave it.
-use Rattle.std.specs.Prelude.{ℕ, ◌^◌, Bool, true, false, cond, nat_lt, Option, Some, None, unwrap_or, List, [], ◌∷◌, ◌++◌, length}
+use Rattle.std.specs.Prelude.{◌≡◌, ℕ, ◌^◌, Bool, true, false, cond, nat_lt, Option, Some, None, unwrap_or, List, [], ◌∷◌, ◌++◌, length}
 use Rattle.std.specs.List.{slice_get}
-use Rattle.std.specs.Option.{option_map_or}
+use Rattle.std.specs.Option.{option_map, option_map_or}
 use Rattle.pr_flat.specs.declared.equations.Operand.{Operand}
 use Rattle.pr_flat.specs.declared.equations.Operand.TheVariants.{Const, Eq, Past}
 use Rattle.pr_flat.specs.declared.equations.Op.{Op}
@@ -39,6 +39,14 @@ abbrev pub known_points : List ℕ → List (Option ℕ) → List Operand → Li
 known_points widths known [] kinds = Some []
 known_points widths known (a ∷ args) [] = Some []
 known_points widths known (a ∷ args) (kind ∷ kinds) = with_point kind (operand_width widths a) (known_operand known a) (known_points widths known args kinds)
+
+-- this is the operand at a place as it is read, where its number is known
+abbrev pub IsPointAt : List ℕ → List (Option ℕ) → EquationShape → ℕ → Option Point → Type 0
+IsPointAt widths known e place point = (a : Operand) (kind : Bool) → slice_get e.args place ≡ Some a → slice_get e.kinds place ≡ Some kind → point ≡ known_point kind (operand_width widths a) (known_operand known a)
+
+-- what an operator of w bits makes of its operands, where they are known
+abbrev pub number_known : List ℕ → List (Option ℕ) → ℕ → EquationShape → Option ℕ
+number_known widths known w e = option_map (operator_number w e.op) (known_points widths known e.args e.kinds)
 
 -- a number of 64 bits
 abbrev pub short : ℕ → Option ℕ

@@ -9,6 +9,14 @@ use Rattle.pr_narrow.specs.Demand.{IsServed}
 abbrev pub AreBelow : List ℕ → List ℕ → Type 0
 AreBelow demand others = (i : ℕ) → slice_index demand i ≤ slice_index others i
 
+-- demands rise so far, and no further than all higher ones of which this holds
+abbrev pub RiseLeast : List ℕ → List ℕ → (List ℕ → Type 0) → Type 0
+RiseLeast old new P = (others : List ℕ) → P others → AreBelow old others → AreBelow new others
+
+-- the equation of this number has what it demands, by the demand that there was of it
+abbrev pub IsServedAt : List EquationShape → List ℕ → List ℕ → List ℕ → ℕ → Type 0
+IsServedAt equations widths old new number = (e : EquationShape) → slice_get equations number ≡ Some e → 0 < slice_index old number → IsServed widths new e (slice_index old number)
+
 -- all equations from one on have what they demand
 abbrev pub AreServedFrom : List EquationShape → List ℕ → List ℕ → ℕ → Type 0
 AreServedFrom equations widths demand from = EachEquation equations (λ i e. from ≤ i → 0 < slice_index demand i → IsServed widths demand e (slice_index demand i))

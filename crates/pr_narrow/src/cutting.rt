@@ -4,7 +4,8 @@ ghost use Rattle.std.specs.Prelude.{◌≡◌, ◌<◌, ◌≤◌, ◌^◌, ◌%
 ghost use Rattle.std.specs.List.{list_all};
 ghost use Rattle.pr_flat.specs.declared.equations.Operand.{Operand};
 ghost use Rattle.pr_flat.specs.Facts.{IsFlat, arity, has_lawful_ends};
-ghost use Rattle.pr_flat.specs.Shape.{EquationShape, EachEquation, shapes_of, equation_shape};
+ghost use Rattle.pr_flat.specs.Flats.{equations_of};
+ghost use Rattle.pr_flat.specs.Shape.{shapes_of, equation_shape};
 ghost use Rattle.pr_flat.specs.Widths.{AreWidths};
 ghost use Rattle.pr_width.specs.Reads.{is_within};
 ghost use Rattle.pr_narrow.specs.Known.{number_shape};
@@ -55,7 +56,7 @@ fn new_widths(
 ) -> Result<Vec<u8>, AllocError>
     requires widths { length widths.now ≡ vec_len flat.now.equations }
     requires demand { length demand.now ≡ vec_len flat.now.equations }
-    ensures { IfOk result (λ v. v.items ≡ new_widths (shapes_of flat.now.equations.items) widths.now demand.now) }
+    ensures { IfOk result (λ v. v.items ≡ new_widths (equations_of flat.now) widths.now demand.now) }
 {
     let mut news = Vec::with_capacity(alloc, flat.equations.len())?;
     for i in 0..flat.equations.len() {
@@ -147,8 +148,8 @@ fn narrowed(folded: Flat, demand: &[u8], news: &[u8]) -> Flat
     requires demand { length demand.now ≡ vec_len folded.equations }
     requires news { length news.now ≡ vec_len folded.equations }
     requires some { (i : ℕ) → i < vec_len folded.equations → 1 ≤ slice_index news.now i }
-    requires flat { IsFlat (narrowed_by demand.now news.now (shapes_of folded.equations.items)) folded.outputs.items }
-    ensures equations { shapes_of result.equations.items ≡ narrowed_by demand.now news.now (shapes_of folded.equations.items) }
+    requires flat { IsFlat (narrowed_by demand.now news.now (equations_of folded)) folded.outputs.items }
+    ensures equations { equations_of result ≡ narrowed_by demand.now news.now (equations_of folded) }
     ensures outputs { result.outputs.items ≡ folded.outputs.items }
 {
     let Flat {
@@ -165,10 +166,11 @@ fn narrowed(folded: Flat, demand: &[u8], news: &[u8]) -> Flat
 ///
 /// Memory is wanting.
 pub fn narrow(alloc: Global, flat: &Flat, widths: &Widths) -> Result<(Flat, Widths), AllocError>
-    requires { AreWidths (shapes_of flat.now.equations.items) widths.now }
-    ensures narrowed { IfOk result (λ r. AreNarrowed (shapes_of flat.now.equations.items) flat.now.outputs.items widths.now (shapes_of r.0.equations.items) r.1) }
+    requires { AreWidths (equations_of flat.now) widths.now }
+    ensures narrowed { IfOk result (λ r. AreNarrowed
+        (equations_of flat.now) flat.now.outputs.items widths.now (equations_of r.0) r.1) }
     ensures outputs { IfOk result (λ r. r.0.outputs.items ≡ flat.now.outputs.items) }
-    ensures widths { IfOk result (λ r. AreWidths (shapes_of r.0.equations.items) r.1) }
+    ensures widths { IfOk result (λ r. AreWidths (equations_of r.0) r.1) }
 {
     let folded = fold(alloc, flat, &widths.of)?;
     let demand = demands(alloc, &folded, &widths.of)?;

@@ -1,17 +1,15 @@
 //! Equations whose numbers are known without a sample, and numbers in their places.
 
-ghost use Rattle.std.specs.Prelude.{◌≡◌, ◌<◌, ◌≤◌, ◌^◌, ℕ, Bool, true, length, vec_len, List, Some, slice_get, option_map, IfOk, IfSome};
+ghost use Rattle.std.specs.Prelude.{◌≡◌, ◌<◌, ◌≤◌, ◌^◌, ℕ, true, length, vec_len, IfOk, IfSome};
 ghost use Rattle.std.specs.List.{list_all};
-ghost use Rattle.pr_flat.specs.declared.equations.Operand.{Operand};
-ghost use Rattle.pr_flat.specs.declared.forms.Point.{Point};
 ghost use Rattle.pr_flat.specs.Facts.{arity};
 ghost use Rattle.pr_flat.specs.Forms.{IsPoint};
 ghost use Rattle.pr_flat.specs.Rows.{takes};
+ghost use Rattle.pr_flat.specs.Flats.{equations_of};
 ghost use Rattle.pr_flat.specs.Shape.{shapes_of, equation_shape};
-ghost use Rattle.pr_flat.specs.Values.{operator_number};
-ghost use Rattle.pr_flat.specs.Widths.{operand_width, forms_in, AreWidths};
+ghost use Rattle.pr_flat.specs.Widths.{forms_in, AreWidths};
 ghost use Rattle.pr_width.specs.Reads.{is_within};
-ghost use Rattle.pr_narrow.specs.Known.{is_steady, known_operand, known_point, known_points, known_number, known_of, short, number_shape, folded_shape, folded_by, folded};
+ghost use Rattle.pr_narrow.specs.Known.{IsPointAt, is_steady, known_operand, number_known, known_number, known_of, short, number_shape, folded_shape, folded_by, folded};
 ghost use Rattle.pr_narrow.specs.Passes.{AreWide, HaveBits};
 
 use pr_base::{Num, Width};
@@ -56,7 +54,7 @@ fn point_at(
     requires within { list_all (is_within (length widths.now)) equation.now.args.items ≡ true }
     requires wide { AreWide widths.now }
     requires bits { HaveBits widths.now known.now }
-    ensures point { (a : Operand) (kind : Bool) → slice_get equation.now.args.items place ≡ Some a → slice_get equation.now.kinds.items place ≡ Some kind → result ≡ known_point kind (operand_width widths.now a) (known_operand known.now a) }
+    ensures point { IsPointAt widths.now known.now (equation_shape equation.now) place result }
     ensures lawful { IfSome result IsPoint }
 {
     let operand = equation.args[place];
@@ -79,7 +77,7 @@ fn number_by(equation: &Equation, width: Width, widths: &[u8], known: &[Option<u
     requires takes { takes equation.now.op (forms_in widths.now (equation_shape equation.now)) ≡ true }
     requires wide { AreWide widths.now }
     requires bits { HaveBits widths.now known.now }
-    ensures { result ≡ option_map (operator_number width.bits equation.now.op) (known_points widths.now known.now equation.now.args.items equation.now.kinds.items) }
+    ensures { result ≡ number_known widths.now known.now width.bits (equation_shape equation.now) }
 {
     let first = point_at(equation, 0, widths, known)?;
     if equation.args.len() == 1 {
@@ -111,7 +109,8 @@ fn known_number(equation: &Equation, width: u8, widths: &[u8], known: &[Option<u
     requires args { vec_len equation.now.args ≡ arity equation.now.op }
     requires kinds { vec_len equation.now.kinds ≡ arity equation.now.op }
     requires within { list_all (is_within (length widths.now)) equation.now.args.items ≡ true }
-    requires takes { is_steady equation.now.op ≡ true → takes equation.now.op (forms_in widths.now (equation_shape equation.now)) ≡ true }
+    requires takes { is_steady equation.now.op ≡ true →
+        takes equation.now.op (forms_in widths.now (equation_shape equation.now)) ≡ true }
     requires wide { AreWide widths.now }
     requires bits { HaveBits widths.now known.now }
     ensures { result ≡ known_number widths.now known.now width (equation_shape equation.now) }
@@ -126,8 +125,8 @@ fn known_number(equation: &Equation, width: u8, widths: &[u8], known: &[Option<u
 
 /// The numbers of all equations, where they are known.
 fn known_numbers(alloc: Global, flat: &Flat, widths: &[u8]) -> Result<Vec<Option<u64>>, AllocError>
-    requires { AreWidths (shapes_of flat.now.equations.items) widths.now }
-    ensures { IfOk result (λ v. v.items ≡ known_of (shapes_of flat.now.equations.items) widths.now) }
+    requires { AreWidths (equations_of flat.now) widths.now }
+    ensures { IfOk result (λ v. v.items ≡ known_of (equations_of flat.now) widths.now) }
 {
     let mut known = Vec::with_capacity(alloc, flat.equations.len())?;
     for i in 0..flat.equations.len() {
@@ -204,8 +203,8 @@ fn fold_known(
 
 /// The equations, folded: a number in the place of each equation that has the same one at each sample.
 pub fn fold(alloc: Global, flat: &Flat, widths: &[u8]) -> Result<Flat, AllocError>
-    requires { AreWidths (shapes_of flat.now.equations.items) widths.now }
-    ensures folded { IfOk result (λ f. shapes_of f.equations.items ≡ folded (shapes_of flat.now.equations.items) widths.now) }
+    requires { AreWidths (equations_of flat.now) widths.now }
+    ensures folded { IfOk result (λ f. equations_of f ≡ folded (equations_of flat.now) widths.now) }
     ensures outputs { IfOk result (λ f. f.outputs.items ≡ flat.now.outputs.items) }
 {
     let known = known_numbers(alloc, flat, widths)?;

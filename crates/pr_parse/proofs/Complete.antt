@@ -2,52 +2,15 @@
 use Rattle.std.proofs.Common.{◌≡◌, Bool, true, false, cond, Option, Some, None, List, [], ◌∷◌, ◌++◌, refl, sym, ap, subst, ◌∙◌, append_assoc, inl, inr, ◌⊎◌}
 use Rattle.pr_lang.specs.Word.{Word}
 use Rattle.pr_lang.specs.Word.{fits}
-use Rattle.pr_lang.specs.Grammar.{Rule, Action, Part, right, Begin, NoWidth, NoIndex, TheProgram, AnyOf, ListOf, MaybeListOf, TheWidth, TheIndex, TheItem, TheParam, TheStmt, TheTarget, TheExpr, level, TheCompare, ThePrefix, ThePostfix, ThePrimary, TheFixedPrimary, Items, Stmts, Params, Exprs, Entries, Ors, Xors, Ands, Shifts, Sums, Products, FixedSums, FixedProducts, token, rule, make, then, or, maybe, many}
+use Rattle.pr_lang.specs.Grammar.{Rule, Action, Part, Begin, NoWidth, NoIndex, AnyOf, MaybeListOf, TheWidth, TheIndex, token, rule, make, then, or, maybe, many}
 use Rattle.pr_lang.specs.Machine.{Met, meet, Taken, Gone, Wrong, can_begin, optional, repeated, next, begins}
 use Rattle.pr_lang.specs.Tree.{Tree}
 use Rattle.pr_parse.specs.Run.{run}
 use Rattle.pr_parse.specs.Derive.{Derives, IsToken, IsRule, IsMade, IsThen, IsFirst, IsSecond, IsAbsent, IsThere, IsLast, IsRepeated}
-use Rattle.pr_parse.proofs.Laws.{meet-rule, meet-token, meet-make, meet-then, meet-or, meet-maybe, meet-many, in_turn, one_of, run-rule, run-make, run-then, run-token, run-maybe, run-many, run-or}
-use Rattle.pr_parse.proofs.Look.{either, both, apart, solid, starts, nullable, may_be_empty, goes_on, lawful, rule_lawful, rule_more}
-
--- ---- tests
-
-both_parts : (a b : Bool) → both a b ≡ true → (a ≡ true) × (b ≡ true)
-both_parts true b h = (refl, h)
-both_parts false b h = absurd cc
-
-neither : (a b : Bool) → either a b ≡ false → (a ≡ false) × (b ≡ false)
-neither true b h = absurd cc
-neither false b h = (refl, h)
-
-one_true : (a b : Bool) → either a b ≡ true → (a ≡ true) ⊎ (b ≡ true)
-one_true true b h = inl refl
-one_true false b h = inr h
-
-left_true : (a b : Bool) → a ≡ true → either a b ≡ true
-left_true true b h = refl
-left_true false b h = absurd cc
-
-right_true : (a b : Bool) → b ≡ true → either a b ≡ true
-right_true true b h = refl
-right_true false b h = h
-
-both_true : (a b : Bool) → a ≡ true → b ≡ true → both a b ≡ true
-both_true true b h i = i
-both_true false b h i = absurd cc
-
-first_false : (a b : Bool) → both a b ≡ false → a ≡ true → b ≡ false
-first_false true b h i = h
-first_false false b h i = absurd cc
-
-is_apart : (a b : Bool) → apart a b ≡ true → a ≡ true → b ≡ false
-is_apart true true h i = absurd cc
-is_apart true false h i = refl
-is_apart false b h i = absurd cc
-
-not_empty : (a : Bool) → solid a ≡ true → a ≡ true → ⊥
-not_empty true h i = absurd cc
-not_empty false h i = absurd cc
+use Rattle.pr_parse.proofs.Tests.{either, both, apart, solid, both_parts, neither, left_true, right_true, both_true, first_false, is_apart, not_empty}
+use Rattle.pr_parse.proofs.Meets.{meet-rule, meet-token, meet-make, meet-then, meet-or, meet-maybe, meet-many, in_turn, one_of}
+use Rattle.pr_parse.proofs.Laws.{run-rule, run-make, run-then, run-token, run-maybe, run-many, run-or}
+use Rattle.pr_parse.proofs.Look.{starts, nullable, may_be_empty, goes_on, lawful, rule_nullable, rule_lawful, rule_more}
 
 -- the parts of the law at each part
 then_laws : (p q : Part) (o : Option Word) → lawful (then p q) o ≡ true → (apart (starts q o) (goes_on p o) ≡ true) × (lawful p o ≡ true) × (lawful q o ≡ true)
@@ -77,37 +40,6 @@ many_laws p o w =
 length_zero : (ks ls : List Word) → ks ++ ls ≡ [] → (ks ≡ []) × (ls ≡ [])
 length_zero [] ls h = (refl, h)
 length_zero (k ∷ ks) ls h = absurd cc
-
-rule_nullable : (r : Rule) → nullable (right r) ≡ may_be_empty r
-rule_nullable TheProgram = refl
-rule_nullable (AnyOf Items) = refl
-rule_nullable (AnyOf Stmts) = refl
-rule_nullable (ListOf Params) = refl
-rule_nullable (ListOf Exprs) = refl
-rule_nullable (ListOf Entries) = refl
-rule_nullable (MaybeListOf Params) = refl
-rule_nullable (MaybeListOf Exprs) = refl
-rule_nullable (MaybeListOf Entries) = refl
-rule_nullable TheWidth = refl
-rule_nullable TheIndex = refl
-rule_nullable TheItem = refl
-rule_nullable TheParam = refl
-rule_nullable TheStmt = refl
-rule_nullable TheTarget = refl
-rule_nullable TheExpr = refl
-rule_nullable (level Ors) = refl
-rule_nullable (level Xors) = refl
-rule_nullable (level Ands) = refl
-rule_nullable (level Shifts) = refl
-rule_nullable (level Sums) = refl
-rule_nullable (level Products) = refl
-rule_nullable (level FixedSums) = refl
-rule_nullable (level FixedProducts) = refl
-rule_nullable TheCompare = refl
-rule_nullable ThePrefix = refl
-rule_nullable ThePostfix = refl
-rule_nullable ThePrimary = refl
-rule_nullable TheFixedPrimary = refl
 
 pub is_nullable : (p : Part) (ks : List Word) (ts us : List Tree) → Derives p ks ts us → ks ≡ [] → nullable p ≡ true
 is_nullable _ _ _ _ (IsToken h) e = absurd cc
@@ -284,7 +216,7 @@ again_starts Wrong p h = absurd cc
 
 pub completes : (p : Part) (ks : List Word) (ts us : List Tree) → Derives p ks ts us → Lawful p → (ls : List Word) → goes_on p (next ls) ≡ false → (ps : List Part) → run (ks ++ ls) (p ∷ ps) ts ≡ run ls ps us
 completes _ _ _ _ (IsToken {p = n} {k = k} {ts = ts} h) w ls g ps = run-token ls n ps ts k h
-completes _ _ _ _ (IsRule {r = r} {ks = ks} {ts = ts} d) w ls g ps = run-rule (ks ++ ls) r ps ts ∙ completes _ _ _ _ d (rule_lawful r) ls (rule_more r (next ls) ∙ g) ps
+completes _ _ _ _ (IsRule {r = r} {ks = ks} {ts = ts} d) w ls g ps = run-rule (ks ++ ls) r ps ts ∙ completes _ _ _ _ d (rule_lawful r) ls (rule_more r (next ls) g) ps
 completes _ _ _ _ (IsMade {a = a} {ts = ts}) w ls g ps = run-make ls a ps ts
 completes _ _ _ _ (IsThen {p = p} {q = q} {ks = k1} {ls = k2} {ts = ts} {us = us} d f) w ls g ps =
     let wp : Lawful p = λ o. (then_laws p q o (w o)).1 in

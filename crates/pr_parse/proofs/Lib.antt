@@ -1,3 +1,5 @@
+pub mod Tests
+pub mod Meets
 pub mod Laws
 pub mod Sound
 pub mod Look

@@ -1,8 +1,9 @@
 -- The code's levels, and what begins with a name.
 use Rattle.std.specs.Prelude.{ℕ}
+use Rattle.pr_lang.specs.declared.tokens.Keyword.TheVariants.{Cat}
 use Rattle.pr_lang.specs.declared.tokens.Symbol.TheVariants.{OpenRound, CloseRound, At}
 use Rattle.pr_lang.specs.Grammar as lang
-use Rattle.pr_lang.specs.Grammar.{Part, rule, name, mark, maybe, make, MaybeListOf, Exprs, TheIndex, TheFixedPrimary, MakeCall, MakeRefer, MakeDelay, ◌⨟◌, ◌∣◌}
+use Rattle.pr_lang.specs.Grammar.{Part, rule, name, key, mark, fixed, maybe, make, ListOf, MaybeListOf, Exprs, TheExpr, TheIndex, TheFixedPrimary, MakeParen, MakeCat, MakeCall, MakeRefer, MakeDelay, ◌⨟◌, ◌∣◌}
 use Rattle.pr_parse.specs.declared.levels.Level.{Level}
 use Rattle.pr_parse.specs.declared.levels.Level.TheVariants.{Ors, Xors, Ands, Shifts, Sums, Products}
 
@@ -13,6 +14,16 @@ level_seen Ands = lang.Ands
 level_seen Shifts = lang.Shifts
 level_seen Sums = lang.Sums
 level_seen Products = lang.Products
+
+-- what stands in parentheses, and a concatenation
+abbrev pub paren_part : Part
+paren_part = mark OpenRound ⨟ rule TheExpr ⨟ mark CloseRound ⨟ make MakeParen
+
+abbrev pub fixed_paren_part : Part
+fixed_paren_part = mark OpenRound ⨟ fixed ⨟ mark CloseRound ⨟ make MakeParen
+
+abbrev pub cat_part : Part
+cat_part = key Cat ⨟ mark OpenRound ⨟ rule (ListOf Exprs) ⨟ mark CloseRound ⨟ make MakeCat
 
 -- what begins with a name: a call, or a stream and its delay
 abbrev pub call_or_stream : Part

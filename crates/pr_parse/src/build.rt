@@ -116,21 +116,26 @@ pub fn for_stmt(index: Name, low: Fixed, high: Fixed, body: Vec<Stmt>) -> Stmt
     }
 }
 
-pub fn binary(alloc: Global, op: BinOp, left: Expr, right: Expr) -> Result<Expr, Fault>
-    ensures ok { IfOk result (λ e. expr_shape e ≡ tree.binary (sign_tree (sign_of op)) (expr_shape left) (expr_shape right)) }
+/// An expression that waits for what is read after it.
+pub fn boxed(alloc: Global, expr: Expr) -> Result<Box<Expr>, Fault>
+    ensures ok { IfOk result (λ e. e.value ≡ expr) }
     ensures err { IfErr result (λ e. e ≡ Memory) }
 {
-    let left = Box::new(alloc, left)?;
+    Ok(Box::new(alloc, expr)?)
+}
+
+pub fn binary(alloc: Global, op: BinOp, left: Box<Expr>, right: Expr) -> Result<Expr, Fault>
+    ensures ok { IfOk result (λ e. expr_shape e ≡ tree.binary (sign_tree (sign_of op)) (expr_shape left.value) (expr_shape right)) }
+    ensures err { IfErr result (λ e. e ≡ Memory) }
+{
     let right = Box::new(alloc, right)?;
     Ok(Expr::Binary(op, left, right))
 }
 
-pub fn choose(alloc: Global, test: Expr, yes: Expr, no: Expr) -> Result<Expr, Fault>
-    ensures ok { IfOk result (λ e. expr_shape e ≡ tree.choose (expr_shape test) (expr_shape yes) (expr_shape no)) }
+pub fn choose(alloc: Global, test: Box<Expr>, yes: Box<Expr>, no: Expr) -> Result<Expr, Fault>
+    ensures ok { IfOk result (λ e. expr_shape e ≡ tree.choose (expr_shape test.value) (expr_shape yes.value) (expr_shape no)) }
     ensures err { IfErr result (λ e. e ≡ Memory) }
 {
-    let test = Box::new(alloc, test)?;
-    let yes = Box::new(alloc, yes)?;
     let no = Box::new(alloc, no)?;
     Ok(Expr::Choose(test, yes, no))
 }
@@ -142,18 +147,16 @@ pub fn not(alloc: Global, inner: Expr) -> Result<Expr, Fault>
     Ok(Expr::Not(Box::new(alloc, inner)?))
 }
 
-pub fn paren(alloc: Global, inner: Expr) -> Result<Expr, Fault>
-    ensures ok { IfOk result (λ e. expr_shape e ≡ tree.paren (expr_shape inner)) }
-    ensures err { IfErr result (λ e. e ≡ Memory) }
+pub fn paren(inner: Box<Expr>) -> Expr
+    ensures { expr_shape result ≡ tree.paren (expr_shape inner.value) }
 {
-    Ok(Expr::Paren(Box::new(alloc, inner)?))
+    Expr::Paren(inner)
 }
 
-pub fn slice(alloc: Global, inner: Expr, high: Fixed, low: Fixed) -> Result<Expr, Fault>
-    ensures ok { IfOk result (λ e. expr_shape e ≡ tree.slice (expr_shape inner) (fixed_shape high) (fixed_shape low)) }
-    ensures err { IfErr result (λ e. e ≡ Memory) }
+pub fn slice(inner: Box<Expr>, high: Fixed, low: Fixed) -> Expr
+    ensures { expr_shape result ≡ tree.slice (expr_shape inner.value) (fixed_shape high) (fixed_shape low) }
 {
-    Ok(Expr::Slice(Box::new(alloc, inner)?, high, low))
+    Expr::Slice(inner, high, low)
 }
 
 pub fn call(name: Name, arguments: Vec<Expr>) -> Expr

@@ -4,7 +4,7 @@ ghost use Rattle.std.specs.Prelude.{IfOk, IfErr, map};
 ghost use Rattle.pr_lang.specs.Grammar.{rule, level, operand as operand_of, TheExpr, TheCompare, ThePrefix, ThePostfix, ThePrimary, ListOf, MaybeListOf, Exprs};
 ghost use Rattle.pr_lang.specs.Shape.{expr_shape, comma_listed};
 ghost use Rattle.pr_parse.specs.Reads.{IsRead, Fails};
-ghost use Rattle.pr_parse.specs.Levels.{level_seen, call_or_stream};
+ghost use Rattle.pr_parse.specs.Levels.{level_seen, paren_part, cat_part, call_or_stream};
 
 use crate::build;
 use crate::fault::Fault;
@@ -28,11 +28,13 @@ pub fn expr<'a>(
     if !is(rest, Kind::Mark(Symbol::Ask)) {
         return Ok((test, rest));
     }
+    let condition = build::boxed(alloc, test)?;
     let rest = take(rest, Kind::Mark(Symbol::Ask))?;
     let (yes, rest) = expr(alloc, text, rest)?;
+    let chosen = build::boxed(alloc, yes)?;
     let rest = take(rest, Kind::Mark(Symbol::Colon))?;
     let (no, rest) = expr(alloc, text, rest)?;
-    let whole = build::choose(alloc, test, yes, no)?;
+    let whole = build::choose(alloc, condition, chosen, no)?;
     Ok((whole, rest))
 }
 
@@ -49,8 +51,9 @@ fn chain<'a>(
 {
     let (mut left, mut rest) = operand(alloc, text, tokens, at)?;
     while let Some((op, after)) = operator(rest, operators(at)) {
+        let first = build::boxed(alloc, left)?;
         let (right, end) = operand(alloc, text, after, at)?;
-        left = build::binary(alloc, op, left, right)?;
+        left = build::binary(alloc, op, first, right)?;
         rest = end;
     }
     Ok((left, rest))
@@ -91,8 +94,9 @@ fn comparison<'a>(
     let Some((op, after)) = operator(rest, &COMPARISONS) else {
         return Ok((left, rest));
     };
+    let first = build::boxed(alloc, left)?;
     let (right, end) = chain(alloc, text, after, Level::Shifts)?;
-    let whole = build::binary(alloc, op, left, right)?;
+    let whole = build::binary(alloc, op, first, right)?;
     Ok((whole, end))
 }
 
@@ -122,12 +126,13 @@ fn postfix<'a>(
 {
     let (mut whole, mut rest) = primary(alloc, text, tokens)?;
     while is(rest, Kind::Mark(Symbol::OpenCurly)) {
+        let sliced = build::boxed(alloc, whole)?;
         let inside = take(rest, Kind::Mark(Symbol::OpenCurly))?;
         let (high, after) = fixed(alloc, text, inside)?;
         let after = take(after, Kind::Mark(Symbol::Dots))?;
         let (low, after) = fixed(alloc, text, after)?;
         let after = take(after, Kind::Mark(Symbol::CloseCurly))?;
-        whole = build::slice(alloc, whole, high, low)?;
+        whole = build::slice(sliced, high, low);
         rest = after;
     }
     Ok((whole, rest))
@@ -146,20 +151,46 @@ fn primary<'a>(
         return Ok((build::number(value), rest));
     }
     if is(tokens, Kind::Mark(Symbol::OpenRound)) {
-        let inside = take(tokens, Kind::Mark(Symbol::OpenRound))?;
-        let (inner, after) = expr(alloc, text, inside)?;
-        let rest = take(after, Kind::Mark(Symbol::CloseRound))?;
-        let whole = build::paren(alloc, inner)?;
-        return Ok((whole, rest));
+        return grouped(alloc, text, tokens);
     }
     if is(tokens, Kind::Word(Keyword::Cat)) {
-        let after = take(tokens, Kind::Word(Keyword::Cat))?;
-        let inside = take(after, Kind::Mark(Symbol::OpenRound))?;
-        let (parts, after) = exprs(alloc, text, inside)?;
-        let rest = take(after, Kind::Mark(Symbol::CloseRound))?;
-        return Ok((build::cat(parts), rest));
+        return concatenation(alloc, text, tokens);
     }
     named(alloc, text, tokens)
+}
+
+/// An expression in parentheses.
+#[cycle(expressions)]
+fn grouped<'a>(
+    alloc: Global,
+    text: &[u8],
+    tokens: &'a [Token],
+) -> Result<(Expr, &'a [Token]), Fault>
+    ensures ok { IfOk result (λ x. IsRead paren_part text.now tokens.now x.1.now (expr_shape x.0)) }
+    ensures err { IfErr result (λ e. Fails paren_part text.now tokens.now e) }
+{
+    let inside = take(tokens, Kind::Mark(Symbol::OpenRound))?;
+    let (inner, after) = expr(alloc, text, inside)?;
+    let held = build::boxed(alloc, inner)?;
+    let rest = take(after, Kind::Mark(Symbol::CloseRound))?;
+    Ok((build::paren(held), rest))
+}
+
+/// A concatenation.
+#[cycle(expressions)]
+fn concatenation<'a>(
+    alloc: Global,
+    text: &[u8],
+    tokens: &'a [Token],
+) -> Result<(Expr, &'a [Token]), Fault>
+    ensures ok { IfOk result (λ x. IsRead cat_part text.now tokens.now x.1.now (expr_shape x.0)) }
+    ensures err { IfErr result (λ e. Fails cat_part text.now tokens.now e) }
+{
+    let after = take(tokens, Kind::Word(Keyword::Cat))?;
+    let inside = take(after, Kind::Mark(Symbol::OpenRound))?;
+    let (parts, after) = exprs(alloc, text, inside)?;
+    let rest = take(after, Kind::Mark(Symbol::CloseRound))?;
+    Ok((build::cat(parts), rest))
 }
 
 /// A call, or a stream, perhaps some samples earlier.

@@ -4,6 +4,7 @@ ghost use Rattle.std.specs.Prelude.{IfOk, IfErr, map};
 ghost use Rattle.pr_lang.specs.Grammar.{rule, level, FixedSums, FixedProducts, TheFixedPrimary, TheIndex, TheTarget, TheWidth, ListOf, Entries};
 ghost use Rattle.pr_lang.specs.Shape.{fixed_shape, index_shape, ref_shape, width_tree, comma_listed};
 ghost use Rattle.pr_parse.specs.Reads.{IsRead, Fails};
+ghost use Rattle.pr_parse.specs.Levels.{fixed_paren_part};
 
 use crate::build;
 use crate::fault::Fault;
@@ -66,16 +67,29 @@ pub fn primary<'a>(
         return Ok((build::fixed_number(value), rest));
     }
     if is(tokens, Kind::Mark(Symbol::OpenRound)) {
-        let inside = take(tokens, Kind::Mark(Symbol::OpenRound))?;
-        let (inner, after) = fixed(alloc, text, inside)?;
-        let rest = take(after, Kind::Mark(Symbol::CloseRound))?;
-        let whole = build::fixed_paren(alloc, inner)?;
-        return Ok((whole, rest));
+        return grouped(alloc, text, tokens);
     }
     let (bytes, after) = name(text, tokens)?;
-    let (index, rest) = index(alloc, text, after)?;
     let name = build::name(alloc, bytes)?;
+    let (index, rest) = index(alloc, text, after)?;
     let whole = build::fixed_refer(alloc, name, index)?;
+    Ok((whole, rest))
+}
+
+/// A constant expression in parentheses.
+#[cycle(fixed)]
+fn grouped<'a>(
+    alloc: Global,
+    text: &[u8],
+    tokens: &'a [Token],
+) -> Result<(Fixed, &'a [Token]), Fault>
+    ensures ok { IfOk result (λ x. IsRead fixed_paren_part text.now tokens.now x.1.now (fixed_shape x.0)) }
+    ensures err { IfErr result (λ e. Fails fixed_paren_part text.now tokens.now e) }
+{
+    let inside = take(tokens, Kind::Mark(Symbol::OpenRound))?;
+    let (inner, after) = fixed(alloc, text, inside)?;
+    let rest = take(after, Kind::Mark(Symbol::CloseRound))?;
+    let whole = build::fixed_paren(alloc, inner)?;
     Ok((whole, rest))
 }
 
@@ -108,8 +122,8 @@ pub fn target<'a>(
     ensures err { IfErr result (λ e. Fails (rule TheTarget) text.now tokens.now e) }
 {
     let (bytes, after) = name(text, tokens)?;
-    let (index, rest) = index(alloc, text, after)?;
     let name = build::name(alloc, bytes)?;
+    let (index, rest) = index(alloc, text, after)?;
     Ok((Ref { name, index }, rest))
 }
 

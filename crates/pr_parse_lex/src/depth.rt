@@ -6,6 +6,7 @@ ghost use Rattle.pr_lang.specs.Word.{words};
 ghost use Rattle.pr_lang.specs.declared.tokens.Kind.TheVariants.{Word, Mark};
 ghost use Rattle.pr_parse_lex.specs.Depth.{loads_seen, effect_seen, after_kind};
 
+use pr_base::Cap;
 use pr_lang::{Keyword, Kind, Symbol, Token};
 use std::alloc::{AllocError, Global};
 
@@ -146,7 +147,7 @@ fn after(loads: Loads, kind: Kind) -> Result<Loads, AllocError>
     }
 }
 
-/// The place of the first token whose load passes 256.
+/// The place of the first token whose load passes its limit.
 pub fn first_deep(alloc: Global, tokens: &[Token]) -> Result<Option<usize>, AllocError>
     ensures { (text : List ℕ) → IfOk result (λ place. place ≡ first_deep_of (words text tokens.now)) }
 {
@@ -156,7 +157,7 @@ pub fn first_deep(alloc: Global, tokens: &[Token]) -> Result<Option<usize>, Allo
     };
     for (place, token) in tokens.iter().enumerate() {
         loads = after(loads, token.kind)?;
-        if loads.load > 256 {
+        if loads.load > Cap::MOST_NESTING {
             return Ok(Some(place));
         }
     }

@@ -2,12 +2,13 @@
 use Rattle.std.specs.Prelude.{◌≡◌, ◌≢◌, ℕ, ◌<◌, ◌+◌, ◌-◌, ◌^◌, Bool, false, List, [], Vec, length, map, replicate, slice_index, slice_index_or}
 use Rattle.std.specs.List.{All}
 use Rattle.std.specs.declared.alloc.Global.{Global}
+use Rattle.pr_net.specs.declared.cells.Cell.{Cell}
 use Rattle.pr_net.specs.Shape.{NetShape}
 use Rattle.pr_place.specs.declared.celltables.CellTables.{CellTables}
 use Rattle.pr_place.specs.declared.lookups.Tables.{Tables}
 use Rattle.pr_place.specs.declared.starts.Start.{Start}
 use Rattle.pr_place.specs.Registers.{count_of}
-use Rattle.pr_place.specs.Numbering.{IsNumbered, reads_from, marked_outputs}
+use Rattle.pr_place.specs.Numbering.{IsNumbered, group_numbers, group_reads_of, needs_in, reads_from, marked_outputs}
 use Rattle.pr_place.specs.Tracking.{IsCellOf, ops_of, uses_of, needs_of, Fixed, Filling}
 use Rattle.pr_place.specs.Waits.{waits_of, Owned}
 
@@ -32,6 +33,16 @@ pub record AreCells (net : NetShape) (t : CellTables) : Type 0 where
   pub kept : t.kept.items ≡ marked_outputs t.first.items (replicate (length t.owner.items) false) net.outputs
   pub uses_long : length t.uses.items ≡ length t.owner.items
   pub uses : (x : ℕ) → slice_index t.uses.items x ≡ uses_of (reads_from net.units t.first.items t.owner.items 0 net.groups) [] x
+
+-- the numbers of the cells of a group's units, which of them need a register, and what the group reads, by the tables
+abbrev pub cells_by : CellTables → List (List Cell) → List ℕ → List ℕ
+cells_by t units us = group_numbers units t.first.items us
+
+abbrev pub needs_by : CellTables → List (List Cell) → List ℕ → List Bool
+needs_by t units us = needs_in t.kept.items t.uses.items (cells_by t units us)
+
+abbrev pub reads_by : CellTables → List (List Cell) → ℕ → List ℕ → List ℕ
+reads_by t units g us = group_reads_of units t.first.items t.owner.items g us
 
 -- the tables of a net: who reads a group stands there as often as it reads a cell of it
 pub record AreTables (N P : ℕ) (net : NetShape) (t : Tables) : Type 0 where

@@ -46,7 +46,8 @@ fn owners<const N: usize>(
     requires net { IsNet N (shape_of net.now) }
     requires numbered { IsNumbered net.now.units.items numbering.now.first.items numbering.now.cells }
     ensures long { IfOk result (λ owner. length owner.items ≡ numbering.now.cells) }
-    ensures owner { IfOk result (λ owner. (g u i : ℕ) → IsCellOf (shape_of net.now) g u i → slice_index owner.items (slice_index numbering.now.first.items u + i) ≡ g) }
+    ensures owner { IfOk result (λ owner. (g u i : ℕ) → IsCellOf (shape_of net.now) g u i
+        → slice_index owner.items (slice_index numbering.now.first.items u + i) ≡ g) }
 {
     let mut owner = vec![in alloc; 0; numbering.cells]?;
     for group in 0..net.groups.len() {
@@ -80,7 +81,8 @@ fn uses<const N: usize>(
     requires net { IsNet N (shape_of net.now) }
     requires numbered { IsNumbered net.now.units.items first.now (length owner.now) }
     ensures long { IfOk result (λ uses. length uses.items ≡ length owner.now) }
-    ensures uses { IfOk result (λ uses. (x : ℕ) → slice_index uses.items x ≡ uses_of (reads_from net.now.units.items first.now owner.now 0 net.now.groups.items) [] x) }
+    ensures uses { IfOk result (λ uses. (x : ℕ) → slice_index uses.items x
+        ≡ uses_of (reads_from net.now.units.items first.now owner.now 0 net.now.groups.items) [] x) }
 {
     let mut uses = vec![in alloc; 0; owner.len()]?;
     for group in 0..net.groups.len() {
@@ -106,7 +108,8 @@ fn kept<const N: usize>(
 ) -> Result<Vec<bool>, AllocError>
     requires net { IsNet N (shape_of net.now) }
     requires numbered { IsNumbered net.now.units.items numbering.now.first.items numbering.now.cells }
-    ensures { IfOk result (λ kept. kept.items ≡ marked_outputs numbering.now.first.items (replicate numbering.now.cells false) net.now.outputs.items) }
+    ensures { IfOk result (λ kept. kept.items
+        ≡ marked_outputs numbering.now.first.items (replicate numbering.now.cells false) net.now.outputs.items) }
 {
     let mut kept = vec![in alloc; false; numbering.cells]?;
     mark_outputs(&numbering.first, &mut kept, &net.outputs);

@@ -3,10 +3,10 @@
 ghost use Rattle.std.specs.Prelude.{◌≡◌, ◌≢◌, ◌<◌, ◌≤◌, ℕ, [], ◌++◌, ◌^◌, IfOk, OnOk, IfSome, All, length, map, replicate, vec_len, slice_index, slice_index_or};
 ghost use Rattle.pr_net.specs.Nets.{IsNet};
 ghost use Rattle.pr_net.specs.Whole.{shape_of};
-ghost use Rattle.pr_place.specs.Numbering.{group_numbers, group_reads_of, needs_in, reads_from, readers_from};
+ghost use Rattle.pr_place.specs.Numbering.{needs_in, reads_from, readers_from};
 ghost use Rattle.pr_place.specs.Registers.{count_of};
-ghost use Rattle.pr_place.specs.Tables.{AreCells, kinds_of, numbers_of};
-ghost use Rattle.pr_place.specs.Tracking.{ops_of};
+ghost use Rattle.pr_place.specs.Tables.{AreCells, cells_by, needs_by, reads_by, kinds_of, numbers_of};
+ghost use Rattle.pr_place.specs.Tracking.{needs_at, ops_of};
 
 use crate::candidates::OTHERS;
 use crate::celltables::CellTables;
@@ -44,9 +44,12 @@ fn plan_of<const N: usize>(
     requires net { IsNet N (shape_of net.now) }
     requires tables { AreCells (shape_of net.now) tables.now }
     requires there { group < length net.now.groups.items }
-    ensures cells { IfOk result (λ plan. plan.cells.items ≡ group_numbers net.now.units.items tables.now.first.items (slice_index_or net.now.groups.items group [])) }
-    ensures needs { IfOk result (λ plan. plan.needs.items ≡ needs_in tables.now.kept.items tables.now.uses.items (group_numbers net.now.units.items tables.now.first.items (slice_index_or net.now.groups.items group []))) }
-    ensures reads { IfOk result (λ plan. plan.reads.items ≡ group_reads_of net.now.units.items tables.now.first.items tables.now.owner.items group (slice_index_or net.now.groups.items group [])) }
+    ensures cells { IfOk result (λ plan. plan.cells.items
+        ≡ cells_by tables.now net.now.units.items (slice_index_or net.now.groups.items group [])) }
+    ensures needs { IfOk result (λ plan. plan.needs.items
+        ≡ needs_by tables.now net.now.units.items (slice_index_or net.now.groups.items group [])) }
+    ensures reads { IfOk result (λ plan. plan.reads.items
+        ≡ reads_by tables.now net.now.units.items group (slice_index_or net.now.groups.items group [])) }
 {
     let members = &net.groups[group];
     let cells = group_cells(alloc, &net.units, &tables.first, &members.units)?;
@@ -74,9 +77,12 @@ pub fn plans<const N: usize>(
 ) -> Result<Vec<Plan>, AllocError>
     requires net { IsNet N (shape_of net.now) }
     requires tables { AreCells (shape_of net.now) tables.now }
-    ensures cells { IfOk result (λ plans. map (λ p. p.cells.items) plans.items ≡ map (group_numbers net.now.units.items tables.now.first.items) net.now.groups.items) }
-    ensures needs { IfOk result (λ plans. map (λ p. p.needs.items) plans.items ≡ map (λ us. needs_in tables.now.kept.items tables.now.uses.items (group_numbers net.now.units.items tables.now.first.items us)) net.now.groups.items) }
-    ensures reads { IfOk result (λ plans. ops_of plans.items ≡ reads_from net.now.units.items tables.now.first.items tables.now.owner.items 0 net.now.groups.items) }
+    ensures cells { IfOk result (λ plans. map (λ p. p.cells.items) plans.items
+        ≡ map (cells_by tables.now net.now.units.items) net.now.groups.items) }
+    ensures needs { IfOk result (λ plans. map (λ p. p.needs.items) plans.items
+        ≡ map (needs_by tables.now net.now.units.items) net.now.groups.items) }
+    ensures reads { IfOk result (λ plans. ops_of plans.items
+        ≡ reads_from net.now.units.items tables.now.first.items tables.now.owner.items 0 net.now.groups.items) }
 {
     let mut plans = Vec::with_capacity(alloc, net.groups.len())?;
     for group in 0..net.groups.len() {
@@ -87,7 +93,8 @@ pub fn plans<const N: usize>(
 
 /// The class of groups with these needs, if there is one.
 fn known_class(classes: &[Vec<bool>], needs: &[bool]) -> Option<usize>
-    ensures { IfSome result (λ class. (class < length classes.now) × (slice_index_or (kinds_of classes.now) class [] ≡ needs.now)) }
+    ensures { IfSome result (λ class. (class < length classes.now)
+        × (slice_index_or (kinds_of classes.now) class [] ≡ needs.now)) }
 {
     for class in 0..classes.len() {
         if classes[class].as_slice() == needs {
@@ -102,8 +109,10 @@ fn class_of(alloc: Global, classes: &mut Vec<Vec<bool>>, needs: &[bool]) -> Resu
     requires few { vec_len classes.old ≤ 63 }
     ensures few { OnOk result (vec_len classes.new ≤ 63) }
     ensures small { IfOk result (λ class. class < 64) }
-    ensures kind { IfOk result (λ class. class ≢ 63 → (class < length classes.new.items) × (slice_index_or (kinds_of classes.new.items) class [] ≡ needs.now)) }
-    ensures more { OnOk result ((k : ℕ) → k < length classes.old.items → (k < length classes.new.items) × (slice_index_or (kinds_of classes.new.items) k [] ≡ slice_index_or (kinds_of classes.old.items) k [])) }
+    ensures kind { IfOk result (λ class. class ≢ 63 → (class < length classes.new.items)
+        × (slice_index_or (kinds_of classes.new.items) class [] ≡ needs.now)) }
+    ensures more { OnOk result ((k : ℕ) → k < length classes.old.items → (k < length classes.new.items)
+        × (slice_index_or (kinds_of classes.new.items) k [] ≡ slice_index_or (kinds_of classes.old.items) k [])) }
 {
     if let Some(class) = known_class(classes, needs) {
         return Ok(class as u8);
@@ -120,7 +129,9 @@ fn class_of(alloc: Global, classes: &mut Vec<Vec<bool>>, needs: &[bool]) -> Resu
 pub fn classes(alloc: Global, plans: &[Plan]) -> Result<Vec<u8>, AllocError>
     ensures long { IfOk result (λ class. length class.items ≡ length plans.now) }
     ensures small { IfOk result (λ class. (g : ℕ) → slice_index class.items g < 64) }
-    ensures alike { IfOk result (λ class. (g h : ℕ) → g < length plans.now → h < length plans.now → slice_index class.items g ≡ slice_index class.items h → slice_index class.items g ≢ 63 → slice_index_or (map (λ p. p.needs.items) plans.now) g [] ≡ slice_index_or (map (λ p. p.needs.items) plans.now) h []) }
+    ensures alike { IfOk result (λ class. (g h : ℕ) → g < length plans.now → h < length plans.now
+        → slice_index class.items g ≡ slice_index class.items h → slice_index class.items g ≢ 63
+        → needs_at plans.now g ≡ needs_at plans.now h) }
 {
     let mut kinds = Vec::new(alloc);
     let mut class = Vec::with_capacity(alloc, plans.len())?;
@@ -140,7 +151,8 @@ fn add_reader(
     requires cells { All (λ x. x < length owner.now) reads.now }
     requires groups { All (λ x. slice_index owner.now x < length readers.old) reads.now }
     ensures long { length readers.new ≡ length readers.old }
-    ensures readers { OnOk result ((g : ℕ) → g < length readers.old → slice_index_or (numbers_of readers.new) g [] ≡ slice_index_or (numbers_of readers.old) g [] ++ replicate (count_of g (map (λ x. slice_index owner.now x) reads.now)) group) }
+    ensures readers { OnOk result ((g : ℕ) → g < length readers.old → slice_index_or (numbers_of readers.new) g []
+        ≡ slice_index_or (numbers_of readers.old) g [] ++ replicate (count_of g (map (λ x. slice_index owner.now x) reads.now)) group) }
 {
     for &cell in reads {
         let list = &mut readers[owner[cell as usize] as usize];
@@ -166,7 +178,8 @@ pub fn readers(alloc: Global, owner: &[u32], plans: &[Plan]) -> Result<Vec<Vec<u
     requires cells { All (All (λ x. x < length owner.now)) (ops_of plans.now) }
     requires groups { All (All (λ x. slice_index owner.now x < length plans.now)) (ops_of plans.now) }
     ensures long { IfOk result (λ readers. length readers.items ≡ length plans.now) }
-    ensures readers { IfOk result (λ readers. (g : ℕ) → g < length plans.now → slice_index_or (numbers_of readers.items) g [] ≡ readers_from owner.now g 0 (ops_of plans.now)) }
+    ensures readers { IfOk result (λ readers. (g : ℕ) → g < length plans.now
+        → slice_index_or (numbers_of readers.items) g [] ≡ readers_from owner.now g 0 (ops_of plans.now)) }
 {
     let mut readers = lists(alloc, plans.len())?;
     for group in 0..plans.len() {

@@ -20,7 +20,8 @@ fn mark(first: &[u32], kept: &mut [bool], slice: Slice)
 
 /// Marks the cells of these slices.
 fn mark_all(first: &[u32], kept: &mut [bool], slices: &[Slice])
-    requires there { (i : ℕ) (d : Slice) → i < length slices.now → IsSliceBelow first.now (length kept.old) (slice_index_or slices.now i d) }
+    requires there { (i : ℕ) (d : Slice) → i < length slices.now
+        → IsSliceBelow first.now (length kept.old) (slice_index_or slices.now i d) }
     requires small { length kept.old < 2 ^ 32 }
     ensures { kept.new ≡ marked_all first.now kept.old slices.now }
 {
@@ -31,7 +32,9 @@ fn mark_all(first: &[u32], kept: &mut [bool], slices: &[Slice])
 
 /// Marks the cells of the outputs.
 pub fn mark_outputs(first: &[u32], kept: &mut [bool], outputs: &[NetOutput])
-    requires there { (o i : ℕ) (e : OutputShape) (d : Slice) → o < length outputs.now → i < length (slice_index_or outputs.now o e).slices → IsSliceBelow first.now (length kept.old) (slice_index_or (slice_index_or outputs.now o e).slices i d) }
+    requires there { (o i : ℕ) (e : OutputShape) (d : Slice) → o < length outputs.now
+        → i < length (slice_index_or outputs.now o e).slices
+        → IsSliceBelow first.now (length kept.old) (slice_index_or (slice_index_or outputs.now o e).slices i d) }
     requires small { length kept.old < 2 ^ 32 }
     ensures { kept.new ≡ marked_outputs first.now kept.old outputs.now }
 {

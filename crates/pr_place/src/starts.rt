@@ -41,7 +41,8 @@ fn waits(alloc: Global, plans: &[Plan]) -> Result<Vec<usize>, AllocError>
 fn candidates(alloc: Global, waits: &[usize], class: &[u8]) -> Result<Vec<u8>, AllocError>
     requires { length class.now ≡ length waits.now }
     ensures long { IfOk result (λ ready. length ready.items ≡ length waits.now) }
-    ensures ready { IfOk result (λ ready. (g : ℕ) → g < length waits.now → slice_index ready.items g ≡ (if slice_index waits.now g == 0 then slice_index class.now g else 255)) }
+    ensures ready { IfOk result (λ ready. (g : ℕ) → g < length waits.now
+        → slice_index ready.items g ≡ (if slice_index waits.now g == 0 then slice_index class.now g else 255)) }
 {
     let mut ready = Vec::with_capacity(alloc, waits.len())?;
     for group in 0..waits.len() {

@@ -1,7 +1,8 @@
 -- What holds between the steps of a run's turns.
-use Rattle.std.specs.Prelude.{◌≡◌, ◌≢◌, ◌≤◌, ℕ, Bool, true, false, not, List, [], ◌++◌, length, take, replicate, ⊤, Some}
+use Rattle.std.specs.Prelude.{◌≡◌, ◌≢◌, ◌≤◌, ℕ, Bool, true, false, not, List, [], ◌++◌, length, take, replicate, ⊤, Some, if◌then◌else◌}
 use Rattle.pr_edge.specs.Files.{IsMissing, HasReadCause}
 use Rattle.pr_edge.specs.Tape.{Tape, Appends, AppendsFront}
+use Rattle.pr_log.specs.Lines.{end_line_of}
 use Rattle.pr_samples.specs.declared.feed.Feed.{Feed}
 use Rattle.pr_samples.specs.declared.feed.Got.{Got}
 use Rattle.pr_samples.specs.Feed.{name_of, given_of, place_of, reads_nothing, SameFile, Tells, fed, StandsFor, Gives}
@@ -41,6 +42,10 @@ all_taken s h = h ++ replicate (waiting (stages_of s) (account (stages_of s) s.s
 abbrev pub drained : Bool → Setting → History → History
 drained true s h = h
 drained false s h = all_taken s h
+
+-- the last line of the log, where the log is asked for
+abbrev pub logged_end : Bool → ℕ → ℕ → ℕ → List ℕ
+logged_end log cycles stalls results = if log then end_line_of cycles stalls results else []
 
 -- ---- the feed
 -- what the last answer of a feed says of its file; a sample says that more may follow

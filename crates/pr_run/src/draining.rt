@@ -40,8 +40,10 @@ fn write_one<const N: usize, const P: usize, K: Sink>(
     requires widths { widths.now ≡ output_widths (conf_of machine.old) }
     requires bytes { length bytes.old ≡ result_bytes_of machine.old }
     requires waiting { 0 < length (waiting_results machine.old) }
-    ensures done { (s : Setting) (h : History) → HasDone s machine.old (K.told out.old) h → OnOk result (HasDone s machine.new (K.told out.new) (h ++ Take ∷ [])) }
-    ensures begun { (s : Setting) (h : History) → HasDone s machine.old (K.told out.old) h → OnErr result (HasBegun s machine.new (K.told out.new) (h ++ Take ∷ [])) }
+    ensures done { (s : Setting) (h : History) → HasDone s machine.old (K.told out.old) h
+        → OnOk result (HasDone s machine.new (K.told out.new) (h ++ Take ∷ [])) }
+    ensures begun { (s : Setting) (h : History) → HasDone s machine.old (K.told out.old) h
+        → OnErr result (HasBegun s machine.new (K.told out.new) (h ++ Take ∷ [])) }
     ensures kept { IsKept machine.old machine.new }
     ensures fewer { length (waiting_results machine.new) + 1 ≡ length (waiting_results machine.old) }
     ensures length { length bytes.new ≡ length bytes.old }
@@ -61,8 +63,10 @@ fn drain<const N: usize, const P: usize, K: Sink>(
 ) -> Result<(), WriteFault>
     requires widths { widths.now ≡ output_widths (conf_of machine.old) }
     requires bytes { length bytes.old ≡ result_bytes_of machine.old }
-    ensures done { (s : Setting) (h : History) → HasDone s machine.old (K.told out.old) h → OnOk result (HasDone s machine.new (K.told out.new) (all_taken s h)) }
-    ensures begun { (s : Setting) (h : History) → HasDone s machine.old (K.told out.old) h → OnErr result (HasBegun s machine.new (K.told out.new) (all_taken s h)) }
+    ensures done { (s : Setting) (h : History) → HasDone s machine.old (K.told out.old) h
+        → OnOk result (HasDone s machine.new (K.told out.new) (all_taken s h)) }
+    ensures begun { (s : Setting) (h : History) → HasDone s machine.old (K.told out.old) h
+        → OnErr result (HasBegun s machine.new (K.told out.new) (all_taken s h)) }
     ensures kept { IsKept machine.old machine.new }
     ensures cause { OnErr result (Rose (K.faults out.old) (K.faults out.new)) }
     ensures later { K.faults out.old ≤ K.faults out.new }
@@ -86,8 +90,10 @@ pub fn drain_step<const N: usize, const P: usize, K: Sink>(
 ) -> Result<(), WriteFault>
     requires widths { widths.now ≡ output_widths (conf_of machine.old) }
     requires bytes { length bytes.old ≡ 1024 }
-    ensures done { (s : Setting) (h : History) → HasDone s machine.old (K.told out.old) h → OnOk result (HasDone s machine.new (K.told out.new) (drained held s h)) }
-    ensures begun { (s : Setting) (h : History) → HasDone s machine.old (K.told out.old) h → OnErr result (HasBegun s machine.new (K.told out.new) (drained held s h)) }
+    ensures done { (s : Setting) (h : History) → HasDone s machine.old (K.told out.old) h
+        → OnOk result (HasDone s machine.new (K.told out.new) (drained held s h)) }
+    ensures begun { (s : Setting) (h : History) → HasDone s machine.old (K.told out.old) h
+        → OnErr result (HasBegun s machine.new (K.told out.new) (drained held s h)) }
     ensures kept { IsKept machine.old machine.new }
     ensures cause { OnErr result (Rose (K.faults out.old) (K.faults out.new)) }
     ensures later { K.faults out.old ≤ K.faults out.new }

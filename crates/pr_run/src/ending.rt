@@ -1,12 +1,12 @@
 //! The end of a run.
-ghost use Rattle.std.specs.Prelude.{ℕ, ◌≡◌, ◌≤◌, [], false, if◌then◌else◌, IfOk, OnOk, OnErr};
+ghost use Rattle.std.specs.Prelude.{ℕ, ◌≡◌, ◌≤◌, false, IfOk, OnOk, OnErr};
 ghost use Rattle.pr_edge.specs.Count.{Rose};
 ghost use Rattle.pr_edge.specs.Tape.{Appends, AppendsFront};
-ghost use Rattle.pr_log.specs.Lines.{end_line_of};
 ghost use Rattle.pr_samples.specs.declared.feed.Feed.{Feed};
 ghost use Rattle.pr_samples.specs.Got.{is_sample};
 ghost use Rattle.pr_machine.specs.Stands.{time_of};
 ghost use Rattle.pr_run.specs.Setting.{Setting, View, IsSet};
+ghost use Rattle.pr_run.specs.Turns.{logged_end};
 ghost use Rattle.pr_run.specs.Runs.{IsEnded, IsFinished, Ran};
 
 use pr_base::Cap;
@@ -52,8 +52,8 @@ fn write_end<K: Sink>(
     stalls: u64,
     results: u64,
 ) -> Result<(), WriteFault>
-    ensures all { OnOk result (Appends (K.told out.old) (K.told out.new) (if log then end_line_of cycles stalls results else [])) }
-    ensures front { OnErr result (AppendsFront (K.told out.old) (K.told out.new) (if log then end_line_of cycles stalls results else [])) }
+    ensures all { OnOk result (Appends (K.told out.old) (K.told out.new) (logged_end log cycles stalls results)) }
+    ensures front { OnErr result (AppendsFront (K.told out.old) (K.told out.new) (logged_end log cycles stalls results)) }
     ensures cause { OnErr result (Rose (K.faults out.old) (K.faults out.new)) }
     ensures later { K.faults out.old ≤ K.faults out.new }
 {
@@ -72,7 +72,8 @@ fn close<const N: usize, const P: usize, K: Sink>(
     asked: u64,
 ) -> RunEnd
     requires { time_of machine.now ≤ asked }
-    ensures ran { (s : Setting) (f : Feed) (now : View) → IsSet s → s.log ≡ log → IsFinished s machine.now f now (K.told out.old) (record { last = Got.End; asked = asked })
+    ensures ran { (s : Setting) (f : Feed) (now : View) → IsSet s → s.log ≡ log
+        → IsFinished s machine.now f now (K.told out.old) (record { last = Got.End; asked = asked })
         → Ran s machine.now f now (K.told out.new) result }
     ensures cause { result ≡ RunEnd.WriteFault → Rose (K.faults out.old) (K.faults out.new) }
     ensures later { K.faults out.old ≤ K.faults out.new }
@@ -99,8 +100,10 @@ pub fn finish<const N: usize, const P: usize, K: Sink>(
 ) -> RunEnd
     requires ended { IfOk end (λ e. is_sample e.last ≡ false) }
     requires asked { IfOk end (λ e. time_of machine.now ≤ e.asked) }
-    ensures ran { (s : Setting) (f : Feed) (now : View) → IsSet s → s.log ≡ log → IsEnded s machine.now f now (K.told out.old) end → Ran s machine.now f now (K.told out.new) result }
-    ensures cause { (before : ℕ) → before ≤ K.faults out.old → OnErr end (Rose before (K.faults out.old)) → result ≡ RunEnd.WriteFault → Rose before (K.faults out.new) }
+    ensures ran { (s : Setting) (f : Feed) (now : View) → IsSet s → s.log ≡ log
+        → IsEnded s machine.now f now (K.told out.old) end → Ran s machine.now f now (K.told out.new) result }
+    ensures cause { (before : ℕ) → before ≤ K.faults out.old → OnErr end (Rose before (K.faults out.old))
+        → result ≡ RunEnd.WriteFault → Rose before (K.faults out.new) }
     ensures later { K.faults out.old ≤ K.faults out.new }
 {
     match end {

@@ -53,7 +53,8 @@ pub fn offer_sample<const N: usize, const P: usize>(
     requires numbers { length numbers.now ≡ length (conf_of machine.old).inputs }
     requires room { length (waiting_samples machine.old) < 16 }
     ensures bytes { length bytes.new ≡ 64 }
-    ensures stands { (c : Shape) (p : ℕ) (h : History) → Stands machine.old c p h → Stands machine.new c p (h ++ Offer (row_bytes c.inputs numbers.now) ∷ []) }
+    ensures stands { (c : Shape) (p : ℕ) (h : History) → Stands machine.old c p h
+        → Stands machine.new c p (h ++ Offer (row_bytes c.inputs numbers.now) ∷ []) }
     ensures kept { IsKept machine.old machine.new }
 {
     let size = machine.conf().sample_bytes();
@@ -87,9 +88,11 @@ fn read_one<const N: usize, const P: usize, S: Shelf>(
     requires numbers { length numbers.old ≡ length (conf_of machine.old).inputs }
     requires bytes { length bytes.old ≡ 64 }
     requires room { length (waiting_samples machine.old) < 16 }
-    ensures on { (s : Setting) (runs : List (List ℕ) → Run (List ℕ)) (turn : Held) (t : Tape) → IsSet s → turn.input ≡ false
+    ensures on { (s : Setting) (runs : List (List ℕ) → Run (List ℕ)) (turn : Held) (t : Tape)
+        → IsSet s → turn.input ≡ false
         → IsOn s runs machine.old feed.old (view (S.told shelf.old) (S.reach shelf.old) (S.faults shelf.old)) t Got.Sample
-        → IsOn s (λ xs. fed (stages_of s) s.stripes turn (runs xs)) machine.new feed.new (view (S.told shelf.new) (S.reach shelf.new) (S.faults shelf.new)) t result }
+        → IsOn s (λ xs. fed (stages_of s) s.stripes turn (runs xs)) machine.new feed.new
+        (view (S.told shelf.new) (S.reach shelf.new) (S.faults shelf.new)) t result }
     ensures inputs { widths_of feed.new ≡ widths_of feed.old }
     ensures kept { IsKept machine.old machine.new }
     ensures bytes { length bytes.new ≡ 64 }
@@ -115,9 +118,11 @@ pub fn feed_step<const N: usize, const P: usize, S: Shelf>(
     requires inputs { widths_of feed.old ≡ (conf_of machine.old).inputs }
     requires numbers { length numbers.old ≡ 64 }
     requires bytes { length bytes.old ≡ 64 }
-    ensures on { (s : Setting) (runs : List (List ℕ) → Run (List ℕ)) (turn : Held) (t : Tape) → IsSet s → turn.input ≡ held
+    ensures on { (s : Setting) (runs : List (List ℕ) → Run (List ℕ)) (turn : Held) (t : Tape)
+        → IsSet s → turn.input ≡ held
         → IsOn s runs machine.old feed.old (view (S.told shelf.old) (S.reach shelf.old) (S.faults shelf.old)) t last
-        → IsOn s (λ xs. fed (stages_of s) s.stripes turn (runs xs)) machine.new feed.new (view (S.told shelf.new) (S.reach shelf.new) (S.faults shelf.new)) t result }
+        → IsOn s (λ xs. fed (stages_of s) s.stripes turn (runs xs)) machine.new feed.new
+        (view (S.told shelf.new) (S.reach shelf.new) (S.faults shelf.new)) t result }
     ensures inputs { widths_of feed.new ≡ widths_of feed.old }
     ensures kept { IsKept machine.old machine.new }
 {

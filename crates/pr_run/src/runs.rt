@@ -34,8 +34,11 @@ fn take_turns<const N: usize, const P: usize, S: Shelf, K: Sink>(
     requires inputs { widths_of feed.old ≡ (conf_of machine.old).inputs }
     requires outputs { widths.now ≡ output_widths (conf_of machine.old) }
     requires turns { length (turns_left stall.old) ≤ 1048576 }
-    ensures ended { (s : Setting) → s ≡ setting_of machine.old stall.old feed.old (view (S.told shelf.old) (S.reach shelf.old) (S.faults shelf.old)) (K.told out.old) log
-        → IsEnded s machine.new feed.new (view (S.told shelf.new) (S.reach shelf.new) (S.faults shelf.new)) (K.told out.new) result }
+    ensures ended { (s : Setting)
+        → s ≡ setting_of machine.old stall.old feed.old
+        (view (S.told shelf.old) (S.reach shelf.old) (S.faults shelf.old)) (K.told out.old) log
+        → IsEnded s machine.new feed.new
+        (view (S.told shelf.new) (S.reach shelf.new) (S.faults shelf.new)) (K.told out.new) result }
     ensures last { IfOk result (λ e. is_sample e.last ≡ false) }
     ensures asked { IfOk result (λ e. time_of machine.new ≤ e.asked) }
     ensures conf { machine.new.parts.conf ≡ machine.old.parts.conf }
@@ -80,19 +83,24 @@ pub fn run<const N: usize, const P: usize, S: Shelf, K: Sink>(
     requires turns { length (turns_left stall.old) ≤ 1048576 }
 
     // The machine, the text, the number of cycles and the answer, over the samples that the feed gave.
-    ensures ran { Ran (setting_of machine.old stall.old feed.old (view (S.told shelf.old) (S.reach shelf.old) (S.faults shelf.old)) (K.told out.old) log)
+    ensures ran { Ran
+        (setting_of machine.old stall.old feed.old
+        (view (S.told shelf.old) (S.reach shelf.old) (S.faults shelf.old)) (K.told out.old) log)
         machine.new feed.new (view (S.told shelf.new) (S.reach shelf.new) (S.faults shelf.new)) (K.told out.new) result }
 
     // How the file ends, where it is told.
     ensures ends { (file : List ℕ) → Tells (S.told shelf.old) (name_of feed.old) file → EndsRun result feed.new file }
     ensures missing { IsMissing (S.told shelf.old) (name_of feed.old) → IsFault result × (given_of feed.new ≡ 0) }
-    ensures reached { S.reach shelf.old (name_of feed.old) ≡ Some 0 → S.reach shelf.new (name_of feed.old) ≡ Some (place_of feed.new) }
+    ensures reached { S.reach shelf.old (name_of feed.old) ≡ Some 0
+        → S.reach shelf.new (name_of feed.old) ≡ Some (place_of feed.new) }
 
-    ensures read_fault { result ≡ RunEnd.ReadFault → HasReadCause (S.told shelf.old) (name_of feed.old) (S.faults shelf.old) (S.faults shelf.new) }
+    ensures read_fault { result ≡ RunEnd.ReadFault
+        → HasReadCause (S.told shelf.old) (name_of feed.old) (S.faults shelf.old) (S.faults shelf.new) }
     ensures write_fault { result ≡ RunEnd.WriteFault → Rose (K.faults out.old) (K.faults out.new) }
 
     // Without a stall text the numbers are exact.
-    ensures counted { turns_left stall.old ≡ [] → IsCounted (length (conf_of machine.old).stages) (stripes_of machine.old) (given_of feed.new) result }
+    ensures counted { turns_left stall.old ≡ []
+        → IsCounted (length (conf_of machine.old).stages) (stripes_of machine.old) (given_of feed.new) result }
 
     ensures conf { machine.new.parts.conf ≡ machine.old.parts.conf }
     ensures stripes { stripes_of machine.new ≡ stripes_of machine.old }

@@ -38,7 +38,9 @@ fn is_over<const N: usize, const P: usize>(
     last: Got,
 ) -> bool
     ensures { (c : Shape) (p : ℕ) (h : History) → Stands machine.now c p h
-        → result ≡ (not (is_sample last) && (left (length c.stages) (account_of c p h) == given_of feed.now) && (waiting (length c.stages) (account_of c p h) == 0)) }
+        → result ≡ (not (is_sample last)
+        && (left (length c.stages) (account_of c p h) == given_of feed.now)
+        && (waiting (length c.stages) (account_of c p h) == 0)) }
 {
     !goes_on(last) && machine.left() == feed.given() && machine.waiting_out() == 0
 }
@@ -53,7 +55,8 @@ fn close_turn<const N: usize, const P: usize, K: Sink>(
 ) -> Turned
     requires { time_of machine.old < 2 ^ 63 }
     ensures after { (s : Setting) (first runs next : List (List ℕ) → Run (List ℕ)) (now : View) → IsSet s → s.log ≡ log
-        → ((xs : List (List ℕ)) → (runs xs).over ≡ false → ((first xs).over ≡ false) × (next xs ≡ closed (stages_of s) s.stripes (runs xs)))
+        → ((xs : List (List ℕ)) → (runs xs).over ≡ false
+        → ((first xs).over ≡ false) × (next xs ≡ closed (stages_of s) s.stripes (runs xs)))
         → IsOn s runs machine.old feed.now now (K.told out.old) last
         → IsTurned s first next machine.new feed.now now (K.told out.new) result }
     ensures conf { machine.new.parts.conf ≡ machine.old.parts.conf }
@@ -91,8 +94,10 @@ pub fn turn<const N: usize, const P: usize, S: Shelf, K: Sink>(
     requires time { time_of machine.old < 2 ^ 63 }
     ensures after { (s : Setting) (first next : List (List ℕ) → Run (List ℕ)) → IsSet s → s.log ≡ log
         → ((xs : List (List ℕ)) → next xs ≡ turned (stages_of s) s.stripes (held_of held) (first xs))
-        → IsOn s first machine.old feed.old (view (S.told shelf.old) (S.reach shelf.old) (S.faults shelf.old)) (K.told out.old) last
-        → IsTurned s first next machine.new feed.new (view (S.told shelf.new) (S.reach shelf.new) (S.faults shelf.new)) (K.told out.new) result }
+        → IsOn s first machine.old feed.old
+        (view (S.told shelf.old) (S.reach shelf.old) (S.faults shelf.old)) (K.told out.old) last
+        → IsTurned s first next machine.new feed.new
+        (view (S.told shelf.new) (S.reach shelf.new) (S.faults shelf.new)) (K.told out.new) result }
     ensures inputs { widths_of feed.new ≡ widths_of feed.old }
     ensures conf { machine.new.parts.conf ≡ machine.old.parts.conf }
     ensures stripes { stripes_of machine.new ≡ stripes_of machine.old }

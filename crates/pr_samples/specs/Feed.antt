@@ -3,11 +3,12 @@ use Rattle.std.specs.Prelude.{◌≡◌, ◌≢◌, ℕ, ◌+◌, ◌-◌, ◌<�
 use Rattle.std.specs.List.{list_any}
 use Rattle.pr_edge.specs.Files.{Told, OfFile}
 use Rattle.pr_samples.specs.declared.tails.Tail.{Tail}
+use Rattle.pr_samples.specs.declared.scan.Cursor.{Cursor}
 use Rattle.pr_samples.specs.declared.feed.Feed.{Feed}
 use Rattle.pr_samples.specs.declared.feed.Got.{Got}
 use Rattle.pr_samples.specs.Lines.{lines_of, words_of, without_return, is_empty}
 use Rattle.pr_samples.specs.Fed.{Taken, Fed, Ending, End, BadSample, Limit, ending_by, before, line_and, fed_text, fed_of, fed_within}
-use Rattle.pr_samples.specs.Scan.{Scan, fresh, First, Missing, Found, first_line, whole_end, cut_end}
+use Rattle.pr_samples.specs.Scan.{Scan, scan_of, fresh, First, Missing, Found, first_line, whole_end, cut_end}
 
 abbrev pub name_of : Feed → List ℕ
 name_of f = string_bytes f.name
@@ -111,6 +112,10 @@ IsMet f taken number file = IsMeeting f.widths.items f.limit f.most f.place f.gi
 abbrev pub IsReadBy : Feed → Scan → List ℕ → Type 0
 IsReadBy f s file = IsReading f.widths.items f.limit f.most f.place f.given f.passed f.tail (pending_of f) s file
 
+-- such a feed, of the line that it read up to a cursor
+abbrev pub IsReadTo : Feed → Cursor → List ℕ → Type 0
+IsReadTo f cursor file = IsReadBy f (scan_of f.widths.items f.numbers.items cursor) file
+
 -- the feed has given the first samples of this file, as many as it counts, and none of its other lines that are not blank
 abbrev pub StandsFor : Feed → List ℕ → Type 0
 StandsFor f file = IsReadBy f (fresh f.widths.items) file
@@ -145,6 +150,10 @@ Gives Got.End given f numbers file = IsOver f file End
 Gives (Got.BadSample line) given f numbers file = IsOver f file (BadSample line)
 Gives (Got.Limit cap) given f numbers file = IsOver f file (Limit cap)
 Gives Got.ReadFault given f numbers file = f.given ≡ length (fed_within f.widths.items f.limit f.most file f.place).samples
+
+-- what the answer of a feed says of the file, where it was so before
+abbrev pub GivesNext : Got → Feed → Feed → List ℕ → List ℕ → Type 0
+GivesNext got old new numbers file = Gives got (given_of old) new numbers file
 
 -- ---- a file by the bytes that were read of it
 -- the file begins with these bytes, and where its end was met it has no others

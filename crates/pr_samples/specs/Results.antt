@@ -1,8 +1,12 @@
 -- How the line of a result is put down piece by piece.
 use Rattle.std.specs.Prelude.{◌≡◌, ℕ, Bool, true, false, List, [], ◌∷◌, ◌++◌, decimal}
 use Rattle.std.specs.List.{flat_map}
-use Rattle.pr_base.specs.Rows.{row_line}
+use Rattle.pr_base.specs.Rows.{row_numbers, row_line}
 use Rattle.pr_edge.specs.Tape.{Tape, Appends}
+
+-- the line of a result, by the outputs' widths and its bytes
+abbrev pub result_line : List ℕ → List ℕ → List ℕ
+result_line widths bytes = row_line (row_numbers widths bytes)
 
 -- what is left of a line of which numbers stand already, or none
 abbrev pub rest_line : Bool → List ℕ → List ℕ

@@ -16,12 +16,6 @@ use std::alloc::{AllocError, Global};
 /// The bytes of the buffer of a feed.
 const BUFFER: usize = 65_536;
 
-/// The bytes of a file that a feed reads at most.
-const LIMIT: u64 = 17_592_186_044_416;
-
-/// The samples that a feed gives at most.
-const MOST: u64 = 1_099_511_627_776;
-
 /// What a feed answers.
 #[derive(Clone, Copy, PartialEq, Eq, Debug)]
 pub enum Got {
@@ -76,7 +70,7 @@ fn is_wrong(cursor: Cursor) -> bool
 }
 
 impl Feed {
-    ghost use Rattle.pr_samples.specs.Feed.{name_of, widths_of, limit_of, most_of, given_of, place_of, pending_of, reads_nothing, has_line, IsReady, SameFile, SameBytes, StandsFor, IsReadBy, IsMet, Tells, Gives, IsSeen, ReadsOn, tail_after};
+    ghost use Rattle.pr_samples.specs.Feed.{name_of, widths_of, limit_of, most_of, given_of, place_of, pending_of, reads_nothing, has_line, IsReady, SameFile, SameBytes, StandsFor, IsReadTo, IsMet, Tells, GivesNext, IsSeen, ReadsOn, tail_after};
 
     /// A feed over the file of this name, with an input of each of these widths.
     pub fn make(alloc: Global, name: &str, widths: &[u8]) -> Result<Feed, AllocError>
@@ -88,7 +82,7 @@ impl Feed {
         ensures start { IfOk result (λ f. reads_nothing f × (given_of f ≡ 0)) }
         ensures stands { IfOk result (λ f. (file : List ℕ) → StandsFor f file) }
     {
-        Feed::make_within(alloc, name, widths, MOST)
+        Feed::make_within(alloc, name, widths, Cap::MOST_SAMPLES)
     }
 
     /// A feed that gives at most so many samples.
@@ -107,7 +101,7 @@ impl Feed {
         ensures start { IfOk result (λ f. reads_nothing f × (given_of f ≡ 0)) }
         ensures stands { IfOk result (λ f. (file : List ℕ) → StandsFor f file) }
     {
-        Feed::make_bounded(alloc, name, widths, most, LIMIT)
+        Feed::make_bounded(alloc, name, widths, most, Cap::MOST_SAMPLE_BYTES)
     }
 
     /// A feed that gives at most so many samples from so many bytes.
@@ -160,9 +154,11 @@ impl Feed {
         requires { cursor.done + begun cursor.phase ≤ length (widths_of self.old) }
         ensures all { IfNone result.1 (self.new.start ≡ self.new.end) }
         ensures met { IfSome result.1 (λ met. met ≢ Met.Skipped) }
-        ensures first { (more : List ℕ) →
-            met_first (widths_of self.old) result.1 self.new.numbers.items (scan_of (widths_of self.old) self.new.numbers.items result.0) self.new.passed (pending_of self.new ++ more)
-            ≡ first_line (widths_of self.old) (scan_of (widths_of self.old) self.old.numbers.items cursor) self.old.passed (pending_of self.old ++ more) }
+        ensures first { let widths = widths_of self.old in (more : List ℕ) →
+            met_first widths result.1 self.new.numbers.items (scan_of widths self.new.numbers.items result.0)
+            self.new.passed (pending_of self.new ++ more)
+            ≡ first_line widths (scan_of widths self.old.numbers.items cursor)
+            self.old.passed (pending_of self.old ++ more) }
         ensures room { result.0.done + begun result.0.phase ≤ length (widths_of self.old) }
         ensures file { SameFile self.old self.new }
         ensures bytes { SameBytes self.old self.new }
@@ -202,7 +198,8 @@ impl Feed {
     fn settle(&mut self, met: Met, line: u64, into: &mut [Num]) -> Got
         requires into { length into.old ≡ length (widths_of self.old) }
         requires met { met ≢ Met.Skipped }
-        ensures told { (file : List ℕ) → IsMet self.old (taken_of met self.old.numbers.items) line file → Gives result (given_of self.old) self.new into.new file }
+        ensures told { (file : List ℕ) → IsMet self.old (taken_of met self.old.numbers.items) line file
+            → GivesNext result self.old self.new into.new file }
         ensures given { given_of self.new ≡ given_of self.old + given_by result }
         ensures into { (is_sample result ≡ false) → into.new ≡ into.old }
         ensures fault { result ≢ Got.ReadFault }
@@ -231,7 +228,7 @@ impl Feed {
         requires room { cursor.done + begun cursor.phase ≤ length (widths_of self.old) }
         requires spent { self.old.start ≡ self.old.end }
         requires tail { self.old.tail ≢ Tail.Open }
-        ensures told { (file : List ℕ) → IsReadBy self.old (scan_of (widths_of self.old) self.old.numbers.items cursor) file → Gives result (given_of self.old) self.new into.new file }
+        ensures told { (file : List ℕ) → IsReadTo self.old cursor file → GivesNext result self.old self.new into.new file }
         ensures given { given_of self.new ≡ given_of self.old + given_by result }
         ensures into { (is_sample result ≡ false) → into.new ≡ into.old }
         ensures fault { result ≢ Got.ReadFault }
@@ -258,16 +255,19 @@ impl Feed {
         requires spent { self.old.start ≡ self.old.end }
         requires open { self.old.tail ≡ Tail.Open }
         requires fresh { cursor.phase ≢ Phase.Wrong }
-        ensures seen { (bytes : List ℕ) → IsSeen (S.told shelf.old) bytes self.old → ReadsOn (S.told shelf.old) bytes self.old self.new
-            (λ file. IsReadBy self.old (scan_of (widths_of self.old) self.old.numbers.items cursor) file → Gives result (given_of self.old) self.new into.new file) }
+        ensures seen { (bytes : List ℕ) → IsSeen (S.told shelf.old) bytes self.old
+            → ReadsOn (S.told shelf.old) bytes self.old self.new
+            (λ file. IsReadTo self.old cursor file → GivesNext result self.old self.new into.new file) }
         ensures given { given_of self.new ≡ given_of self.old + given_by result }
         ensures into { (is_sample result ≡ false) → into.new ≡ into.old }
         ensures file { SameFile self.old self.new }
-        ensures cause { result ≡ Got.ReadFault → HasReadCause (S.told shelf.old) (name_of self.old) (S.faults shelf.old) (S.faults shelf.new) }
+        ensures cause { result ≡ Got.ReadFault
+            → HasReadCause (S.told shelf.old) (name_of self.old) (S.faults shelf.old) (S.faults shelf.new) }
         ensures missing { IsMissing (S.told shelf.old) (name_of self.old) → result ≡ Got.ReadFault }
         ensures later { S.faults shelf.old ≤ S.faults shelf.new }
         ensures same { S.told shelf.new ≡ S.told shelf.old }
-        ensures reached { S.reach shelf.old (name_of self.old) ≡ Some (place_of self.old) → S.reach shelf.new (name_of self.old) ≡ Some (place_of self.new) }
+        ensures reached { S.reach shelf.old (name_of self.old) ≡ Some (place_of self.old)
+            → S.reach shelf.new (name_of self.old) ≡ Some (place_of self.new) }
         ensures others { (q : List ℕ) → q ≢ name_of self.old → S.reach shelf.new q ≡ S.reach shelf.old q }
     {
         let mut cursor = cursor;
@@ -293,28 +293,33 @@ impl Feed {
     /// Gives the next sample: the numbers of the next line that is not blank, one for each input.
     ///
     /// It reads the file only where no such line stands whole in the bytes that it read before, and no further than up to a
-    /// byte at which a line is bad. `into` is left as it was where no sample is given. A feed that answered otherwise than with a sample has nothing more to give.
+    /// byte at which a line is bad. `into` is left as it was where no sample is given. A feed that answered otherwise than
+    /// with a sample has nothing more to give.
     pub fn next<S: Shelf>(&mut self, shelf: &mut S, into: &mut [Num]) -> Got
         requires { length into.old ≡ length (widths_of self.old) }
 
         // Where the bytes of the file are told, and the feed has given its first samples.
-        ensures told { (file : List ℕ) → Tells (S.told shelf.old) (name_of self.old) file → StandsFor self.old file → Gives result (given_of self.old) self.new into.new file }
+        ensures told { (file : List ℕ) → Tells (S.told shelf.old) (name_of self.old) file → StandsFor self.old file
+            → GivesNext result self.old self.new into.new file }
 
         // Where they are not told too, they are bytes of some file, and the sample is that of every file that begins so.
-        ensures seen { (bytes : List ℕ) → IsSeen (S.told shelf.old) bytes self.old → ReadsOn (S.told shelf.old) bytes self.old self.new
-            (λ file. StandsFor self.old file → Gives result (given_of self.old) self.new into.new file) }
+        ensures seen { (bytes : List ℕ) → IsSeen (S.told shelf.old) bytes self.old
+            → ReadsOn (S.told shelf.old) bytes self.old self.new
+            (λ file. StandsFor self.old file → GivesNext result self.old self.new into.new file) }
 
         ensures given { given_of self.new ≡ given_of self.old + given_by result }
         ensures into { (is_sample result ≡ false) → into.new ≡ into.old }
         ensures file { SameFile self.old self.new }
 
-        ensures cause { result ≡ Got.ReadFault → HasReadCause (S.told shelf.old) (name_of self.old) (S.faults shelf.old) (S.faults shelf.new) }
+        ensures cause { result ≡ Got.ReadFault
+            → HasReadCause (S.told shelf.old) (name_of self.old) (S.faults shelf.old) (S.faults shelf.new) }
         ensures missing { IsMissing (S.told shelf.old) (name_of self.old) → reads_nothing self.old → result ≡ Got.ReadFault }
         ensures quiet { IsReady self.old → (S.faults shelf.new ≡ S.faults shelf.old) × (result ≢ Got.ReadFault) }
         ensures later { S.faults shelf.old ≤ S.faults shelf.new }
 
         ensures same { S.told shelf.new ≡ S.told shelf.old }
-        ensures reached { S.reach shelf.old (name_of self.old) ≡ Some (place_of self.old) → S.reach shelf.new (name_of self.old) ≡ Some (place_of self.new) }
+        ensures reached { S.reach shelf.old (name_of self.old) ≡ Some (place_of self.old)
+            → S.reach shelf.new (name_of self.old) ≡ Some (place_of self.new) }
         ensures others { (q : List ℕ) → q ≢ name_of self.old → S.reach shelf.new q ≡ S.reach shelf.old q }
     {
         let (cursor, met) = self.meet(START);
@@ -336,7 +341,8 @@ impl Feed {
     ///
     /// The lines that it reads are given no more.
     pub fn is_too_long<S: Shelf>(&mut self, shelf: &mut S) -> Result<bool, Failed>
-        ensures seen { (bytes : List ℕ) → IsSeen (S.told shelf.old) bytes self.old → ReadsOn (S.told shelf.old) bytes self.old self.new
+        ensures seen { (bytes : List ℕ) → IsSeen (S.told shelf.old) bytes self.old
+            → ReadsOn (S.told shelf.old) bytes self.old self.new
             (λ file. IfOk result (λ long. long ≡ nat_lt (limit_of self.old) (length file))) }
         ensures file { SameFile self.old self.new }
         ensures cause { OnErr result (HasReadCause (S.told shelf.old) (name_of self.old) (S.faults shelf.old) (S.faults shelf.new)) }
@@ -353,6 +359,3 @@ impl Feed {
         Ok(self.place > self.limit)
     }
 }
-
-#[cfg(test)]
-mod tests;

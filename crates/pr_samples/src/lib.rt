@@ -3,6 +3,7 @@
 
 mod feed;
 mod laws;
+mod lines;
 mod results;
 mod scan;
 mod stall;
@@ -10,6 +11,7 @@ mod tails;
 
 pub use feed::{Feed, Got};
 pub use laws::{cut_law, last_line_law, samples_law};
+pub use lines::line_end;
 pub use results::put_result;
 pub use stall::{BadStall, Held, Stall};
 pub use tails::Tail;

@@ -2,10 +2,9 @@
 ghost use Rattle.std.specs.Prelude.{◌≡◌, ◌<◌, ◌+◌, ◌≤◌, ◌++◌, ◌∷◌, ◌==◌, List, ℕ, [], All, length, drop, sum_by, decimal, not, OnOk, OnErr, if◌then◌else◌};
 ghost use Rattle.arrayvec.specs.ArrayString.{array_string_len};
 ghost use Rattle.pr_base.specs.Numbers.{slices_of};
-ghost use Rattle.pr_base.specs.Rows.{row_numbers, row_line};
 ghost use Rattle.pr_edge.specs.Count.{Rose};
 ghost use Rattle.pr_edge.specs.Tape.{Tape, Appends, AppendsFront};
-ghost use Rattle.pr_samples.specs.Results.{rest_line, IsPut};
+ghost use Rattle.pr_samples.specs.Results.{rest_line, result_line, IsPut};
 
 use arrayvec::ArrayString;
 use itoa::Buffer;
@@ -39,8 +38,10 @@ fn make_room<K: Sink, const ROOM: usize>(
 ) -> Result<(), WriteFault>
     requires least { 42 ≤ ROOM }
     requires most { ROOM ≤ 4096 }
-    ensures put { (old : Tape) (rest line : List ℕ) → IsPut old (K.told sink.old) text.old.bytes rest line → OnOk result (IsPut old (K.told sink.new) text.new.bytes rest line) }
-    ensures front { (old : Tape) (rest line : List ℕ) → IsPut old (K.told sink.old) text.old.bytes rest line → OnErr result (AppendsFront old (K.told sink.new) line) }
+    ensures put { (old : Tape) (rest line : List ℕ) → IsPut old (K.told sink.old) text.old.bytes rest line
+        → OnOk result (IsPut old (K.told sink.new) text.new.bytes rest line) }
+    ensures front { (old : Tape) (rest line : List ℕ) → IsPut old (K.told sink.old) text.old.bytes rest line
+        → OnErr result (AppendsFront old (K.told sink.new) line) }
     ensures room { OnOk result (array_string_len text.new + 42 ≤ ROOM) }
     ensures cause { OnErr result (Rose (K.faults sink.old) (K.faults sink.new)) }
     ensures later { K.faults sink.old ≤ K.faults sink.new }
@@ -67,8 +68,8 @@ fn put_line<K: Sink, const ROOM: usize>(
     requires most { ROOM ≤ 4096 }
     requires widths { All (λ w. (1 ≤ w) × (w ≤ 128)) widths.now }
     requires bytes { length bytes.now ≡ sum_by slices_of widths.now }
-    ensures all { OnOk result (Appends (K.told sink.old) (K.told sink.new) (row_line (row_numbers widths.now bytes.now))) }
-    ensures front { OnErr result (AppendsFront (K.told sink.old) (K.told sink.new) (row_line (row_numbers widths.now bytes.now))) }
+    ensures all { OnOk result (Appends (K.told sink.old) (K.told sink.new) (result_line widths.now bytes.now)) }
+    ensures front { OnErr result (AppendsFront (K.told sink.old) (K.told sink.new) (result_line widths.now bytes.now)) }
     ensures cause { OnErr result (Rose (K.faults sink.old) (K.faults sink.new)) }
     ensures later { K.faults sink.old ≤ K.faults sink.new }
 {
@@ -94,8 +95,8 @@ fn put_line<K: Sink, const ROOM: usize>(
 pub fn put_result<K: Sink>(sink: &mut K, widths: &[u8], bytes: &[u8]) -> Result<(), WriteFault>
     requires widths { All (λ w. (1 ≤ w) × (w ≤ 128)) widths.now }
     requires bytes { length bytes.now ≡ sum_by slices_of widths.now }
-    ensures all { OnOk result (Appends (K.told sink.old) (K.told sink.new) (row_line (row_numbers widths.now bytes.now))) }
-    ensures front { OnErr result (AppendsFront (K.told sink.old) (K.told sink.new) (row_line (row_numbers widths.now bytes.now))) }
+    ensures all { OnOk result (Appends (K.told sink.old) (K.told sink.new) (result_line widths.now bytes.now)) }
+    ensures front { OnErr result (AppendsFront (K.told sink.old) (K.told sink.new) (result_line widths.now bytes.now)) }
     ensures cause { OnErr result (Rose (K.faults sink.old) (K.faults sink.new)) }
     ensures later { K.faults sink.old ≤ K.faults sink.new }
 {
@@ -103,39 +104,5 @@ pub fn put_result<K: Sink>(sink: &mut K, widths: &[u8], bytes: &[u8]) -> Result<
         put_line::<K, 256>(sink, widths, bytes)
     } else {
         put_line::<K, 2688>(sink, widths, bytes)
-    }
-}
-
-#[cfg(test)]
-mod tests {
-    use super::*;
-    use pr_edge::MemSink;
-    use std::test::Fail;
-
-    #[test]
-    fn line_of_three_outputs(rt: HostRuntime) -> Result<(), Fail> {
-        let mut sink = MemSink::make(rt.alloc(), 100, Vec::new(rt.alloc()))?;
-        let mut bytes = [255; 19];
-        bytes[0] = 0;
-        bytes[2] = 0;
-        assert!(rt; put_result(&mut sink, &[16, 1, 128], &bytes).is_ok());
-        assert_eq!(rt;
-            sink.bytes(),
-            b"65280 0 340282366920938463463374607431768211455\n".as_slice()
-        );
-        Ok(())
-    }
-
-    #[test]
-    fn line_of_seventy_outputs(rt: HostRuntime) -> Result<(), Fail> {
-        let failing = vec![in rt.alloc(); 2u64]?;
-        let mut sink = MemSink::make(rt.alloc(), 10_000, failing)?;
-        assert!(rt; put_result(&mut sink, &[128; 70], &[255; 1120]).is_err());
-        assert!(rt;
-            sink.bytes()
-                .starts_with(b"340282366920938463463374607431768211455 ")
-        );
-        assert!(rt; sink.bytes().len() >= 2_560);
-        Ok(())
     }
 }

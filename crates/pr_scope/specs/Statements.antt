@@ -9,11 +9,12 @@ use Rattle.pr_lang.specs.declared.trees.Stmt.TheFolds.{fold-Stmt}
 use Rattle.pr_scope_names.specs.declared.rules.Rule.TheVariants.{Introduced, Bounds, Recurrences}
 use Rattle.pr_scope_names.specs.declared.rules.Offence.{Offence}
 use Rattle.pr_scope_names.specs.declared.counts.Count.{Count}
+use Rattle.pr_scope_names.specs.declared.streams.Streams.{Streams}
 use Rattle.pr_scope.specs.declared.statements.Ready.{Ready}
 use Rattle.pr_scope.specs.declared.statements.Span.{Span}
 use Rattle.pr_scope_names.specs.declared.names.Static.TheVariants.{Index}
 use Rattle.pr_scope_names.specs.Outcomes.{and_then, provided, in_turn, counted}
-use Rattle.pr_scope_names.specs.Names.{Known, Streaming, is_free, assign, bind}
+use Rattle.pr_scope_names.specs.Names.{Known, Streaming, is_free, assign, bind, streams_in}
 use Rattle.pr_scope_names.specs.Constants.{constant_of, place_of}
 use Rattle.pr_scope.specs.Expressions.{walk_of, past_of, pasts_of}
 
@@ -67,6 +68,9 @@ for_ready index low high known streams count =
 pub record Progress : Type 0 where
   pub streams : Streaming
   pub count : Count
+
+abbrev pub progress_of : Streams → Count → Progress
+progress_of streams count = record { streams = streams_in streams; count = count }
 
 -- what a statement does, where these names are visible, and whether it stands in a function's body
 abbrev pub Change : Type 0

@@ -20,7 +20,6 @@ use Rattle.pr_scope_names.specs.declared.names.Static.{Static}
 use Rattle.pr_scope_names.specs.declared.names.Static.TheVariants as static
 use Rattle.pr_scope.specs.declared.statements.Ready.{Ready}
 use Rattle.pr_scope.specs.declared.progress.Made.{Made}
-use Rattle.pr_scope.specs.declared.checking.Scoped.{Scoped}
 use Rattle.pr_scope.specs.declared.checking.ScopeFault.{ScopeFault}
 use Rattle.pr_scope.specs.declared.checking.ScopeFault.TheVariants.{Scope, Limit, Memory}
 use Rattle.pr_scope_names.specs.Outcomes.{and_then, provided, in_turn, all_of, counted, number_of}
@@ -180,11 +179,6 @@ inputs_after (Err r) = []
 abbrev pub turns_after : Result World Refusal → ℕ
 turns_after (Ok w) = w.count.turns
 turns_after (Err r) = 0
-
--- a program without an offence, the widths of its inputs, and the walk's count
-abbrev pub IsScoped : Program → Scoped → Type 0
-IsScoped program s =
-    (offence program ≡ None) × (s.program ≡ program) × (s.inputs.items ≡ inputs_after (program_walk program)) × (s.turns ≡ turns_after (program_walk program))
 
 -- a fault that says just this
 abbrev pub IsRefusal : ScopeFault → Option Refusal → Type 0

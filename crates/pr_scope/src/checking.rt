@@ -1,5 +1,7 @@
 //! What the walk over a program answers.
-ghost use Rattle.std.specs.Prelude.{◌≤◌, vec_len};
+ghost use Rattle.std.specs.Prelude.{◌≡◌, ◌≤◌, None, vec_len};
+ghost use Rattle.std.proofs.Props.{props};
+ghost use Rattle.pr_scope.specs.Walk.{inputs_after, offence, program_walk, turns_after};
 
 use pr_base::Cap;
 use pr_lang::Program;
@@ -15,6 +17,9 @@ pub struct Scoped {
     /// The turns of the walk, at most 65,536.
     pub turns: u32,
     pub ghost few: { vec_len program.items ≤ turns },
+    pub ghost lawful: { offence program ≡ None } by { Prim.hlevel props },
+    pub ghost declared: { inputs.items ≡ inputs_after (program_walk program) },
+    pub ghost walked: { turns ≡ turns_after (program_walk program) },
 }
 
 /// Why a program is refused.

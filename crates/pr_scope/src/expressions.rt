@@ -75,7 +75,8 @@ fn use_name(
     name: &Name,
     index: Option<u64>,
 ) -> Result<Count, Offence>
-    ensures value { result ≡ used (known_in statics.now name.now) (is_instance scene.now.own name.now index) (held (streams_in streams.now name.now) index) index count }
+    ensures value { result ≡ used (known_in statics.now name.now) (is_instance scene.now.own name.now index)
+        (held (streams_in streams.now name.now) index) index count }
     ensures grows { IfOk result (λ c. count.turns ≤ c.turns) }
 {
     match statics.get(name) {
@@ -96,7 +97,11 @@ fn refer(
     count: Count,
     target: &Ref,
 ) -> Result<Count, Offence>
-    ensures value { result ≡ and_then (place_of target.now (known_in statics.now)) (λ index. used (known_in statics.now target.now.name) (is_instance scene.now.own target.now.name index) (held (streams_in streams.now target.now.name) index) index count) }
+    ensures value { let known = known_in statics.now in
+        let name = target.now.name in
+        result ≡ and_then (place_of target.now known) (λ index.
+        used (known name) (is_instance scene.now.own name index) (held (streams_in streams.now name) index)
+        index count) }
     ensures grows { IfOk result (λ c. count.turns ≤ c.turns) }
 {
     let index = place(statics, target)?;
@@ -123,7 +128,8 @@ fn delay_name(
     name: &Name,
     index: Option<u64>,
 ) -> Result<Count, Offence>
-    ensures value { result ≡ delayed (known_in statics.now name.now) own (held (streams_in streams.now name.now) index) count }
+    ensures value { result
+        ≡ delayed (known_in statics.now name.now) own (held (streams_in streams.now name.now) index) count }
     ensures grows { IfOk result (λ c. count.turns ≤ c.turns) }
 {
     match statics.get(name) {
@@ -160,7 +166,13 @@ fn delay(
     target: &Ref,
     back: &Fixed,
 ) -> Result<Count, Offence>
-    ensures value { result ≡ and_then (place_of target.now (known_in statics.now)) (λ index. and_then (delayed (known_in statics.now target.now.name) (is_instance scene.now.own target.now.name index) (held (streams_in streams.now target.now.name) index) count) (back_by (is_instance scene.now.own target.now.name index) (constant_of back.now (known_in statics.now)))) }
+    ensures value { let known = known_in statics.now in
+        let name = target.now.name in
+        result ≡ and_then (place_of target.now known) (λ index.
+        and_then
+        (delayed (known name) (is_instance scene.now.own name index)
+        (held (streams_in streams.now name) index) count)
+        (back_by (is_instance scene.now.own name index) (constant_of back.now known))) }
     ensures grows { IfOk result (λ c. count.turns ≤ c.turns) }
 {
     let index = place(statics, target)?;

@@ -1,6 +1,6 @@
 //! The walk over a program.
-ghost use Rattle.std.specs.Prelude.{◌≡◌, ◌≤◌, IfErr, IfOk, OnOk, length, vec_len};
-ghost use Rattle.pr_scope.specs.Walk.{IsFault, IsRefusal, IsScoped, Walked, ended, items_walk, offence, world_of};
+ghost use Rattle.std.specs.Prelude.{◌≡◌, ◌≤◌, IfErr, IfOk, Ok, OnOk, length, vec_len};
+ghost use Rattle.pr_scope.specs.Walk.{IsFault, IsRefusal, Walked, ended, items_walk, offence, program_walk, world_of};
 
 use crate::checking::{ScopeFault, Scoped};
 use crate::items::walk_item;
@@ -54,7 +54,7 @@ fn walk_items(alloc: Global, made: &mut Made, items: &[Item]) -> Result<(), Scop
 /// The program, where it keeps the rules of scope; else the first point of the walk that breaks one, or that passes the
 /// number of turns. A refusal gives the program up.
 pub fn check(alloc: Global, program: Program) -> Result<Scoped, ScopeFault>
-    ensures ok { IfOk result (IsScoped program) }
+    ensures ok { IfOk result (λ s. s.program ≡ program) }
     ensures err { IfErr result (λ e. IsRefusal e (offence program)) }
 {
     let statics = match Statics::new(alloc) {
@@ -78,10 +78,9 @@ pub fn check(alloc: Global, program: Program) -> Result<Scoped, ScopeFault>
 }
 
 fn hand_over(program: Program, made: Made) -> Scoped
-    requires { vec_len program.items ≤ made.count.turns }
-    ensures program { result.program ≡ program }
-    ensures inputs { result.inputs.items ≡ made.inputs.items }
-    ensures turns { result.turns ≡ made.count.turns }
+    requires walk { program_walk program ≡ Ok (world_of made) }
+    requires few { vec_len program.items ≤ made.count.turns }
+    ensures { result.program ≡ program }
 {
     Scoped {
         program,

@@ -2,7 +2,7 @@
 ghost use Rattle.std.specs.Prelude.{◌≡◌, ◌<◌, ◌≤◌, ◌-◌, ◌^◌, IfOk, None, OnOk, map, nat_lt};
 ghost use Rattle.pr_scope_names.specs.Outcomes.{Gives, and_then};
 ghost use Rattle.pr_scope_names.specs.Names.{KeepsNames, assign, horizon_in, is_free, known_in, streams_in};
-ghost use Rattle.pr_scope.specs.Statements.{change_of, changes_of, completed, fits, for_ready, is_width, let_ready, rec_begun, rec_body, rec_ready, stmt_past_of, stmts_past_of, turn, turns};
+ghost use Rattle.pr_scope.specs.Statements.{change_of, changes_of, completed, fits, for_ready, is_width, let_ready, progress_of, rec_begun, rec_body, rec_ready, stmt_past_of, stmts_past_of, turn, turns};
 
 use crate::expressions::{Scene, has_past, walk};
 use pr_lang::{Expr, Fixed, Name, Ref, Stmt};
@@ -71,7 +71,8 @@ fn before_let(
     width: Option<u64>,
     value: &Expr,
 ) -> Result<Ready, Offence>
-    ensures value { result ≡ let_ready target.now width value.now (known_in statics.now) (streams_in streams.now) inside count }
+    ensures value { result
+        ≡ let_ready target.now width value.now (known_in statics.now) (streams_in streams.now) inside count }
     ensures grows { IfOk result (λ r. count.turns < r.count.turns) }
 {
     let count = count_one(count, 0)?;
@@ -95,7 +96,8 @@ pub fn assign_stream(
     name: &Name,
     place: Option<u64>,
 ) -> Result<(), Stop>
-    ensures { Gives result (λ _. streams_in streams.new) (assign name.now place (known_in statics.now) (streams_in streams.old)) }
+    ensures { Gives result (λ _. streams_in streams.new)
+        (assign name.now place (known_in statics.now) (streams_in streams.old)) }
 {
     if statics.get(name).is_some() || streams.has(name, place) {
         return Err(Stop::Offends(Offence::Breaks(Rule::Introduced)));
@@ -114,7 +116,8 @@ pub fn complete(
     name: &Name,
     ready: Ready,
 ) -> Result<Count, Stop>
-    ensures walk { Gives result (λ c. record { streams = streams_in streams.new; count = c }) (completed name.now (known_in statics.now) (streams_in streams.old) ready) }
+    ensures walk { Gives result (progress_of streams.new)
+        (completed name.now (known_in statics.now) (streams_in streams.old) ready) }
     ensures same_count { IfOk result (λ c. c ≡ ready.count) }
 {
     match assign_stream(alloc, statics, streams, name, ready.place) {
@@ -133,7 +136,9 @@ fn let_stmt(
     width: Option<u64>,
     value: &Expr,
 ) -> Result<Count, Stop>
-    ensures walk { Gives result (λ c. record { streams = streams_in streams.new; count = c }) (and_then (let_ready target.now width value.now (known_in statics.now) (streams_in streams.old) inside count) (completed target.now.name (known_in statics.now) (streams_in streams.old))) }
+    ensures walk { Gives result (progress_of streams.new) (and_then
+        (let_ready target.now width value.now (known_in statics.now) (streams_in streams.old) inside count)
+        (completed target.now.name (known_in statics.now) (streams_in streams.old))) }
     ensures grows { IfOk result (λ c. count.turns < c.turns) }
 {
     match before_let(statics, streams, inside, count, target, width, value) {
@@ -176,7 +181,8 @@ fn body_of_rec(
     name: &Name,
     body: &Expr,
 ) -> Result<Ready, Stop>
-    ensures walk { Gives result (λ r. r) (rec_body name.now body.now (known_in statics.now) (streams_in streams.now) inside begun) }
+    ensures walk { Gives result (λ r. r)
+        (rec_body name.now body.now (known_in statics.now) (streams_in streams.now) inside begun) }
     ensures grows { IfOk result (λ r. begun.count.turns ≤ r.count.turns) }
 {
     match name.copy(alloc) {
@@ -209,7 +215,8 @@ fn before_rec(
     init: &Fixed,
     body: &Expr,
 ) -> Result<Ready, Stop>
-    ensures walk { Gives result (λ r. r) (rec_ready target.now width init.now body.now (known_in statics.now) (streams_in streams.now) inside count) }
+    ensures walk { Gives result (λ r. r)
+        (rec_ready target.now width init.now body.now (known_in statics.now) (streams_in streams.now) inside count) }
     ensures grows { IfOk result (λ r. count.turns < r.count.turns) }
 {
     match begin_rec(statics, count, target, width, init) {
@@ -229,7 +236,9 @@ fn rec_stmt(
     init: &Fixed,
     body: &Expr,
 ) -> Result<Count, Stop>
-    ensures walk { Gives result (λ c. record { streams = streams_in streams.new; count = c }) (and_then (rec_ready target.now width init.now body.now (known_in statics.now) (streams_in streams.old) inside count) (completed target.now.name (known_in statics.now) (streams_in streams.old))) }
+    ensures walk { Gives result (progress_of streams.new) (and_then
+        (rec_ready target.now width init.now body.now (known_in statics.now) (streams_in streams.old) inside count)
+        (completed target.now.name (known_in statics.now) (streams_in streams.old))) }
     ensures grows { IfOk result (λ c. count.turns < c.turns) }
 {
     match before_rec(
@@ -272,7 +281,8 @@ pub fn walk_stmt(
     count: Count,
     stmt: &Stmt,
 ) -> Result<Count, Stop>
-    ensures walk { Gives result (λ c. record { streams = streams_in streams.new; count = c }) (change_of stmt.now (known_in statics.old) inside (record { streams = streams_in streams.old; count = count })) }
+    ensures walk { Gives result (progress_of streams.new)
+        (change_of stmt.now (known_in statics.old) inside (progress_of streams.old count)) }
     ensures same { OnOk result (known_in statics.new ≡ known_in statics.old) }
     ensures names { OnOk result (KeepsNames statics.old statics.new) }
     ensures horizon { horizon_in statics.new ≡ horizon_in statics.old }
@@ -319,7 +329,9 @@ fn walk_turns(
     body: &[Stmt],
 ) -> Result<Count, Stop>
     requires { known_in statics.old index.now ≡ None }
-    ensures walk { Gives result (λ c. record { streams = streams_in streams.new; count = c }) (turns (span.high - span.low) span.low (turn index.now (map change_of body.now) (known_in statics.old) inside) (record { streams = streams_in streams.old; count = span.count })) }
+    ensures walk { Gives result (progress_of streams.new)
+        (turns (span.high - span.low) span.low (turn index.now (map change_of body.now) (known_in statics.old) inside)
+        (progress_of streams.old span.count)) }
     ensures same { OnOk result (known_in statics.new ≡ known_in statics.old) }
     ensures names { OnOk result (KeepsNames statics.old statics.new) }
     ensures horizon { horizon_in statics.new ≡ horizon_in statics.old }
@@ -347,7 +359,8 @@ fn walk_turn(
     body: &[Stmt],
 ) -> Result<Count, Stop>
     requires { known_in statics.old index.now ≡ None }
-    ensures walk { Gives result (λ c. record { streams = streams_in streams.new; count = c }) (turn index.now (map change_of body.now) (known_in statics.old) inside at (record { streams = streams_in streams.old; count = count })) }
+    ensures walk { Gives result (progress_of streams.new)
+        (turn index.now (map change_of body.now) (known_in statics.old) inside at (progress_of streams.old count)) }
     ensures same { OnOk result (known_in statics.new ≡ known_in statics.old) }
     ensures names { OnOk result (KeepsNames statics.old statics.new) }
     ensures horizon { horizon_in statics.new ≡ horizon_in statics.old }
@@ -377,7 +390,8 @@ pub fn walk_stmts(
     count: Count,
     stmts: &[Stmt],
 ) -> Result<Count, Stop>
-    ensures walk { Gives result (λ c. record { streams = streams_in streams.new; count = c }) (changes_of stmts.now (known_in statics.old) inside (record { streams = streams_in streams.old; count = count })) }
+    ensures walk { Gives result (progress_of streams.new)
+        (changes_of stmts.now (known_in statics.old) inside (progress_of streams.old count)) }
     ensures same { OnOk result (known_in statics.new ≡ known_in statics.old) }
     ensures names { OnOk result (KeepsNames statics.old statics.new) }
     ensures horizon { horizon_in statics.new ≡ horizon_in statics.old }

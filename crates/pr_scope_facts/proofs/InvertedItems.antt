@@ -24,8 +24,8 @@ use Rattle.pr_scope_names.specs.Names.{Known, Streaming, assign, bind, is_free}
 use Rattle.pr_scope_names.specs.Constants.{constant_of}
 use Rattle.pr_scope.specs.Expressions.{walk_of, past_of}
 use Rattle.pr_scope.specs.Statements.{Progress, completed, is_width, change_of, changes_of, stmts_past_of}
-use Rattle.pr_scope.specs.Walk.{World, start, Refusal, broken, refusal, refusal_of, onward, is_empty, inputs_after, with_progress, with_known, with_input, with_output, input_ready, output_ready, introduced, have_widths, body_walk, params_from, callee_of, input_change, output_change, constant_change, table_change, function_change, step_change, item_change, items_walk, program_walk, offence, IsScoped}
-use Rattle.pr_scope_facts.specs.Items.{widths_of_inputs}
+use Rattle.pr_scope.specs.Walk.{World, start, Refusal, broken, refusal, refusal_of, onward, is_empty, inputs_after, with_progress, with_known, with_input, with_output, input_ready, output_ready, introduced, have_widths, body_walk, params_from, callee_of, input_change, output_change, constant_change, table_change, function_change, step_change, item_change, items_walk, program_walk, offence}
+use Rattle.pr_scope_facts.specs.Items.{AllItems, widths_of_inputs}
 use Rattle.pr_scope_facts.proofs.InvertedStatements.{Introduces, AllChange, assign-inverted, changes-inverted, completed-inverted, free-inverted}
 use Rattle.pr_scope_facts.proofs.Outcomes.{provided_ok, same_ok, then_ok}
 
@@ -228,11 +228,6 @@ step-inverted stmt w w' is =
     subst (StepWalk stmt w) (same_ok (with_progress w step.0) w' step.2) (record { walk = step.1; known = refl; inputs = refl; has_output = refl })
 
 -- ---- programs
--- the items from this number on, one after the other
-abbrev pub AllItems : ℕ → List Item → World → World → Type 0
-AllItems at [] w w' = w ≡ w'
-AllItems at (i ∷ is) w w' = (between : World) × (item_change at i w ≡ Ok between) × AllItems (at + 1) is between w'
-
 pub record ItemsWalk (at : ℕ) (items : List Item) (w w' : World) : Type 0 where
   pub all : AllItems at items w w'
   pub input : w'.inputs ≡ [] → ⊥
@@ -307,7 +302,7 @@ inputs-walked at (i ∷ is) w w' all =
     ∙ (append_assoc w.inputs (widths_of_inputs (i ∷ [])) (widths_of_inputs is)
     ∙ ap (λ (l : List ℕ). w.inputs ++ l) (one-more i is)))
 
-pub inputs-scoped : (program : Program) (s : Scoped) → IsScoped program s → s.inputs.items ≡ widths_of_inputs program.items.items
-inputs-scoped program s is =
-    let walked = program-inverted program is.0 in
-    is.2 ∙ (ap inputs_after walked.walk ∙ inputs-walked 0 program.items.items start walked.last walked.all)
+pub inputs-scoped : (s : Scoped) → s.inputs.items ≡ widths_of_inputs s.program.items.items
+inputs-scoped s =
+    let walked = program-inverted s.program s.lawful in
+    s.declared ∙ (ap inputs_after walked.walk ∙ inputs-walked 0 s.program.items.items start walked.last walked.all)

@@ -34,7 +34,8 @@ use Rattle.pr_scope.specs.Walk as scope
 use Rattle.pr_scope_facts.proofs.Statics.{constant-made, constant-meant, entries-made, entries-meant, plain}
 use Rattle.pr_scope_facts.proofs.Outcomes.{then_some}
 use Rattle.pr_scope_facts.proofs.InvertedStatements.{width-flat}
-use Rattle.pr_scope_facts.proofs.InvertedItems.{AllItems, CalleeWalk, ConstWalk, FunctionWalk, InputWalk, Names, OutputWalk, StepWalk, TableWalk}
+use Rattle.pr_scope_facts.specs.Items.{AllItems}
+use Rattle.pr_scope_facts.proofs.InvertedItems.{CalleeWalk, ConstWalk, FunctionWalk, InputWalk, Names, OutputWalk, StepWalk, TableWalk}
 use Rattle.pr_scope_facts.proofs.Worlds.{SameStreams, SameVisible, signed_callee, streams-introduced, streams-none, streams-weaker, visible-first, visible-function, visible-made, visible-static}
 
 -- what is visible, and the streams that are assigned

@@ -8,7 +8,7 @@
 ghost use Rattle.std.specs.Prelude.{◌≡◌, ◌≤◌, length, true, None};
 ghost use Rattle.pr_lang.specs.declared.trees.Program.{Program};
 ghost use Rattle.pr_scope.specs.declared.checking.Scoped.{Scoped};
-ghost use Rattle.pr_scope.specs.Walk.{IsScoped, offence};
+ghost use Rattle.pr_scope.specs.Walk.{offence};
 ghost use Rattle.pr_flat.specs.Facts.{IsFlat};
 ghost use Rattle.pr_flat.specs.Values.{input_widths};
 ghost use Rattle.pr_expand_spec.specs.Programs.{equations_of};
@@ -18,7 +18,7 @@ ghost use Rattle.pr_scope_facts.specs.Numbers.{have_numbers};
 /// The inputs of a program without an offence, and those of its equations, are the ones that its items declare, in their
 /// order.
 pub fn inputs_law()
-    ensures scoped { (program : Program) (s : Scoped) → IsScoped program s → s.inputs.items ≡ widths_of_inputs program.items.items }
+    ensures scoped { (s : Scoped) → s.inputs.items ≡ widths_of_inputs s.program.items.items }
     ensures equations { (program : Program) → offence program ≡ None → input_widths (equations_of program).equations ≡ widths_of_inputs program.items.items }
 {}
 

@@ -1,3 +1,4 @@
 pub mod Folds
 pub mod Maps
+pub mod Placing
 pub mod Seen

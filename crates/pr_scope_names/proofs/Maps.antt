@@ -1,13 +1,13 @@
 -- Maps by names: what a change at one name leaves at any name.
 use mathlib.Core.Path.{fun_ext}
-use Rattle.std.proofs.Common.{◌≡◌, ℕ, Bool, true, false, cond, ◌||◌, List, Option, None, Some, option_map, Vec, Global, BTreeMap, refl, sym, subst, ap, ◌∙◌, ⊎_elim, nat_cmp, is_eq, bytes_eq}
+use Rattle.std.proofs.Common.{◌≡◌, ℕ, Bool, true, false, cond, List, Option, None, Some, option_map, Vec, Global, BTreeMap, refl, sym, subst, ap, ◌∙◌, ⊎_elim, nat_cmp, is_eq, bytes_eq}
 use Rattle.std.specs.Cmp.{eq_by_cmp_equiv}
 use Rattle.std.specs.Cmp.Lexicographic.{slice_cmp, bytes_decides, nat_list_cmp_total, nat_list_eq_equiv}
 use Rattle.std.specs.Map.{update, lookup, IsKeyTest, AreApart, KeepsOthers}
 use Rattle.std.specs.BTreeMap.{UpdatesBy, IsEmpty}
 use Rattle.std.proofs.lemmas.Bool.{cases_Bool, cond-true, cond-false}
 use Rattle.std.proofs.lemmas.Map.Text.{is_eq-slice_cmp}
-use Rattle.pr_scope_names.specs.Names.{Streaming, at_name, bind, unbind, same_place, held, with_place}
+use Rattle.pr_scope_names.specs.Names.{at_name, bind, unbind}
 
 apart : (bs cs ks : List ℕ) → bytes_eq bs cs ≡ false → is_eq (slice_cmp nat_cmp bs ks) ≡ true → is_eq (slice_cmp nat_cmp cs ks) ≡ false
 apart bs cs ks n y = is_eq-slice_cmp cs ks ∙ (nat_list_eq_equiv.symm cs ks ∙ sym (nat_list_eq_equiv.congr bs ks cs (sym (is_eq-slice_cmp bs ks) ∙ y)) ∙ n)
@@ -43,13 +43,13 @@ read_updates {X} {Y} f m n bs w h =
     let P : (List ℕ → Option X) → Type 0 = λ k. read_of f k ≡ (λ q. update bytes_eq (read_of f m) bs (option_map f w) q) in
     subst P (sym h) (fun_ext (λ q. mapped f (bytes_eq bs q) w (m q)))
 
-twice : {X : Type 0} (b : Bool) (x y z : X) → cond b x (cond b y z) ≡ cond b x z
-twice true x y z = refl
-twice false x y z = refl
-
--- a name that is taken out and put back
-pub rebound : {X : Type 0} (name : List ℕ) (f g : X) (s t : List ℕ → Option X) → f ≡ g → t ≡ unbind name s → bind name f t ≡ bind name g s
-rebound name f g s t e h = rw (e, h) (fun_ext (λ q. twice (bytes_eq name q) (Some g) None (s q)))
+-- a name that gets what it has
+pub bound-same : {X : Type 0} (name : List ℕ) (x : X) (s : List ℕ → Option X) → s name ≡ Some x → bind name x s ≡ s
+bound-same name x s h =
+    fun_ext (λ q. ⊎_elim
+    (λ y. cond-true (bytes_eq name q) (Some x) (s q) y ∙ (sym h ∙ ap s ((bytes_decides name q).0 y)))
+    (λ n. cond-false (bytes_eq name q) (Some x) (s q) n)
+    (cases_Bool (bytes_eq name q)))
 
 -- a name that is put and taken out again
 pub unbound : {X : Type 0} (name : List ℕ) (x : X) (s : List ℕ → Option X) → s name ≡ None → unbind name (bind name x s) ≡ s
@@ -58,9 +58,3 @@ unbound name x s h =
     (λ y. cond-true (bytes_eq name q) None _ y ∙ (sym h ∙ ap s ((bytes_decides name q).0 y)))
     (λ n. cond-false (bytes_eq name q) None _ n ∙ cond-false (bytes_eq name q) (Some x) (s q) n)
     (cases_Bool (bytes_eq name q)))
-
--- a stream that is taken out and put back with another instance
-pub added : (name key : List ℕ) (place : Option ℕ) (s t : Streaming) (taken now : Option ℕ → Bool) → key ≡ name → t ≡ unbind name s → ((q : Option ℕ) → taken q ≡ held (s name) q) → ((q : Option ℕ) → now q ≡ same_place place q || taken q) → bind key now t ≡ with_place name place s
-added name key place s t taken now same rest was is =
-    ap (λ (k : List ℕ). bind k now t) same ∙
-    rebound name now (λ q. same_place place q || held (s name) q) s t (fun_ext (λ q. is q ∙ ap (λ (b : Bool). same_place place q || b) (was q))) rest

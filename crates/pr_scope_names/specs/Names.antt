@@ -1,19 +1,19 @@
 -- What names stand for where they are visible.
-use Rattle.std.specs.Prelude.{ℕ, Bool, true, false, not, ◌&&◌, ◌||◌, nat_eq, nat_lt, cond, ◌≡◌, List, Option, Some, None, is_none, option_map, Vec, bytes_eq, codes, Result, Ok}
+use Rattle.std.specs.Prelude.{ℕ, Bool, true, false, not, ◌&&◌, ◌||◌, nat_eq, nat_lt, cond, ◌≡◌, List, Option, Some, None, is_none, is_some, option_map, Vec, bytes_eq, codes, Result, Ok}
 use Rattle.std.specs.Ordering.{nat_cmp}
 use Rattle.std.specs.Cmp.Lexicographic.{slice_cmp}
 use Rattle.std.specs.Map.{update}
 use Rattle.std.specs.BTreeMap.{BTreeMap, get_by}
-use Rattle.std.specs.BTreeSet.{contains_by}
 use Rattle.std.specs.declared.alloc.Global.{Global}
 use Rattle.pr_scope_names.specs.declared.rules.Rule.TheVariants.{Introduced}
 use Rattle.pr_scope_names.specs.declared.rules.Offence.{Offence}
 use Rattle.pr_scope_names.specs.declared.names.Static.{Static}
 use Rattle.pr_scope_names.specs.declared.names.Static.TheVariants.{Function}
+use Rattle.pr_scope_names.specs.declared.instances.Instances.{Instances}
+use Rattle.pr_scope_names.specs.declared.instances.Places.{Places}
 use Rattle.pr_scope_names.specs.declared.names.Entry.{Entry}
 use Rattle.pr_scope_names.specs.declared.names.Frame.{Frame}
 use Rattle.pr_scope_names.specs.declared.names.Statics.{Statics}
-use Rattle.pr_scope_names.specs.declared.streams.Places.{Places}
 use Rattle.pr_scope_names.specs.declared.streams.Streams.{Streams}
 use Rattle.pr_scope_names.specs.Outcomes.{provided}
 
@@ -109,12 +109,33 @@ indices_of f name = at_name f.indices name
 abbrev pub horizon_of : Frame → Option ℕ
 horizon_of f = f.horizon
 
-abbrev pub has_place : Places → Option ℕ → Bool
-has_place p None = p.alone
-has_place p (Some n) = contains_by (nat_cmp n) p.indexed
+-- what the instances of each name stand for; none where it has no instance
+abbrev pub ByInstance : Type 0 → Type 0
+ByInstance X = List ℕ → Option (Option ℕ → Option X)
+
+abbrev pub placed : {X : Type 0} → Option (Option ℕ → Option X) → Option ℕ → Option X
+placed None place = None
+placed (Some places) place = places place
+
+abbrev pub put_at : {X : Type 0} → Option ℕ → X → (Option ℕ → Option X) → Option ℕ → Option X
+put_at place x places q = cond (same_place place q) (Some x) (places q)
+
+-- a name gets an instance, or one of its instances comes to stand for something else
+abbrev pub with_instance : {X : Type 0} → List ℕ → Option ℕ → X → ByInstance X → ByInstance X
+with_instance name place x s = bind name (put_at place x (placed (s name))) s
+
+abbrev pub placed_in : {X : Type 0} → Places X → Option ℕ → Option X
+placed_in p None = p.alone
+placed_in p (Some n) = get_by (nat_cmp n) p.indexed
+
+abbrev pub instances_in : {X : Type 0} → Instances X → ByInstance X
+instances_in s name = option_map placed_in (at_name s.map name)
+
+abbrev pub are_there : {X : Type 0} → (Option ℕ → Option X) → Option ℕ → Bool
+are_there places place = is_some (places place)
 
 abbrev pub streams_in : Streams → Streaming
-streams_in s name = option_map has_place (at_name s.map name)
+streams_in s name = option_map are_there (instances_in s.instances name)
 
 -- what all items that are entered introduce
 abbrev pub whole : Entries → Known

@@ -3,9 +3,7 @@ ghost use Rattle.std.specs.Prelude.{◌≡◌, ◌<◌, IfOk};
 ghost use Rattle.pr_scope_names.specs.Outcomes.{counted};
 
 use crate::rules::Offence;
-
-/// The most turns that a count may have.
-const MOST_TURNS: u64 = 65_536;
+use pr_base::Cap;
 
 /// How many turns there were, and in a function's body the greatest depth of the functions that were called.
 #[derive(Clone, Copy)]
@@ -20,7 +18,7 @@ pub fn count_one(count: Count, body: u32) -> Result<Count, Offence>
     ensures grows { IfOk result (λ c. count.turns < c.turns) }
 {
     let turns = u64::from(count.turns) + 1 + u64::from(body);
-    if turns > MOST_TURNS {
+    if turns > Cap::MOST_TURNS {
         return Err(Offence::Turns);
     }
     Ok(Count {

@@ -5,6 +5,7 @@
 mod amounts;
 mod constants;
 mod counts;
+mod instances;
 mod laws;
 mod names;
 mod rules;
@@ -13,59 +14,8 @@ mod streams;
 pub use amounts::amount;
 pub use constants::{apply, constant, place, read_name, read_static};
 pub use counts::{Count, count_one};
+pub use instances::Instances;
 pub use laws::{later_names_law, next_item_law};
 pub use names::{Callee, Frame, Static, Statics, Table};
 pub use rules::{Offence, Rule, Stop};
 pub use streams::{Instance, Streams};
-
-#[cfg(test)]
-mod tests {
-    use super::*;
-    use pr_lang::{Fixed, FixedOp, Name};
-    use std::alloc::{AllocError, Global};
-    use std::test::Fail;
-
-    fn name(alloc: Global, text: &str) -> Result<Name, AllocError> {
-        Ok(Name::new(Vec::from_slice(alloc, text.as_bytes())?))
-    }
-
-    #[test]
-    fn a_constant_that_is_read(rt: HostRuntime) -> Result<(), Fail> {
-        let alloc = rt.alloc();
-        let mut statics = Statics::new(alloc)?;
-        let k = name(alloc, "k")?;
-        assert!(rt; statics.get(&k).is_none());
-        statics.set(alloc, &k, 0, Static::Constant(5))?;
-        assert_eq!(rt; read_name(&statics, &k, None), Ok(5));
-        statics.set_index(alloc, &k, 9)?;
-        assert_eq!(rt; read_name(&statics, &k, None), Ok(9));
-        let frame = statics.enter(alloc, 0);
-        assert_eq!(rt;
-            read_name(&statics, &k, None),
-            Err(Offence::Breaks(Rule::Kinds))
-        );
-        statics.leave(frame);
-        statics.unset_index(&k);
-        let left = Box::new(alloc, Fixed::Refer(k, None))?;
-        let right = Box::new(alloc, Fixed::Number(7))?;
-        let less = Fixed::Binary(FixedOp::Sub, left, right);
-        assert_eq!(rt;
-            constant(&statics, &less),
-            Err(Offence::Breaks(Rule::Steps))
-        );
-        Ok(())
-    }
-
-    #[test]
-    fn instances_of_a_stream(rt: HostRuntime) -> Result<(), Fail> {
-        let alloc = rt.alloc();
-        let mut streams = Streams::new(alloc);
-        let t = name(alloc, "t")?;
-        assert!(rt; !streams.has_name(&t));
-        streams.add(alloc, &t, Some(3))?;
-        assert!(rt; streams.has_name(&t));
-        assert!(rt; streams.has(&t, Some(3)));
-        assert!(rt; !streams.has(&t, None));
-        Ok(())
-    }
-}

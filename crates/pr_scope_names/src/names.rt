@@ -1,5 +1,5 @@
 //! The names that are known without any sample: constants, tables, indices and functions.
-ghost use Rattle.std.specs.Prelude.{◌≡◌, IfOk, None, OnOk, Some, bytes_eq, option_map, slice_get};
+ghost use Rattle.std.specs.Prelude.{◌≡◌, IfOk, None, OnErr, OnOk, Some, bytes_eq, option_map, slice_get};
 ghost use Rattle.std.specs.Map.{update};
 ghost use Rattle.pr_scope_names.specs.Names.{IsOutside, before, bind, built_in, entries_in, horizon_in, horizon_of, indices_in, indices_of, is_seen, known_in, unbind, what_before, whole};
 
@@ -161,6 +161,7 @@ impl Statics {
         requires free { known_in self.old name.now ≡ None }
         ensures known { OnOk result (known_in self.new ≡ bind name.now what (known_in self.old)) }
         ensures entries { OnOk result (entries_in self.new ≡ bind name.now (record { item = Some item; what = what }) (entries_in self.old)) }
+        ensures same { OnErr result (entries_in self.new ≡ entries_in self.old) }
         ensures indices { indices_in self.new ≡ indices_in self.old }
         ensures horizon { horizon_in self.new ≡ horizon_in self.old }
     {
@@ -174,6 +175,7 @@ impl Statics {
 
     fn put(&mut self, name: Vec<u8>, entry: Entry) -> Result<(), AllocError>
         ensures entries { OnOk result (entries_in self.new ≡ bind name.items entry (entries_in self.old)) }
+        ensures same { OnErr result (entries_in self.new ≡ entries_in self.old) }
         ensures indices { indices_in self.new ≡ indices_in self.old }
         ensures horizon { horizon_in self.new ≡ horizon_in self.old }
     {
@@ -185,6 +187,7 @@ impl Statics {
     pub fn set_index(&mut self, alloc: Global, name: &Name, index: u64) -> Result<(), AllocError>
         ensures known { OnOk result (known_in self.new ≡ bind name.now (Static.Index index) (known_in self.old)) }
         ensures indices { OnOk result (indices_in self.new ≡ bind name.now (Static.Index index) (indices_in self.old)) }
+        ensures same { OnErr result (indices_in self.new ≡ indices_in self.old) }
         ensures entries { entries_in self.new ≡ entries_in self.old }
         ensures horizon { horizon_in self.new ≡ horizon_in self.old }
     {
@@ -211,6 +214,7 @@ impl Statics {
     ) -> Result<Option<Static>, AllocError>
         ensures was { IfOk result (λ was. was ≡ indices_in self.old name.now) }
         ensures indices { OnOk result (indices_in self.new ≡ (λ q. update bytes_eq (indices_in self.old) name.now index q)) }
+        ensures same { OnErr result (indices_in self.new ≡ indices_in self.old) }
         ensures entries { entries_in self.new ≡ entries_in self.old }
         ensures horizon { horizon_in self.new ≡ horizon_in self.old }
     {

@@ -4,8 +4,9 @@
 ghost use Rattle.std.specs.Prelude.{◌≤◌, length};
 
 use pr_base::Cap;
+use pr_lang::Program;
 use pr_parse::{ParseFault, parse, tokens};
-use pr_scope::{ScopeFault, check};
+use pr_scope::{ScopeFault, Scoped, check};
 use std::alloc::{AllocError, Global};
 use std::test::Fail;
 
@@ -25,21 +26,36 @@ type Case = (&'static str, u32);
 /// A case, and what is answered to it.
 type Wrong = (&'static str, Answer);
 
-/// What is answered to the program of a text.
-fn answer_to(alloc: Global, text: &[u8]) -> Result<Answer, AllocError>
+/// The program of a text, if it has one.
+fn program_of(alloc: Global, text: &[u8]) -> Result<Option<Program>, AllocError>
     requires { length text.now ≤ 1048576 }
 {
     let tokens = tokens(alloc, text)?;
     match parse(alloc, text, &tokens) {
-        Ok(program) => match check(alloc, program) {
-            Ok(scoped) => Ok(Answer::Kept(scoped.turns)),
-            Err(ScopeFault::Scope { rule, item }) => Ok(Answer::Breaks(rule, item)),
-            Err(ScopeFault::Limit(Cap::Turns)) => Ok(Answer::TooLong),
-            Err(ScopeFault::Limit(_)) => Ok(Answer::NoProgram),
-            Err(ScopeFault::Memory(error)) => Err(error),
-        },
+        Ok(program) => Ok(Some(program)),
         Err(ParseFault::Memory(error)) => Err(error),
-        Err(_) => Ok(Answer::NoProgram),
+        Err(_) => Ok(None),
+    }
+}
+
+/// What is answered to a program.
+fn judged(alloc: Global, program: Program) -> Result<Answer, AllocError> {
+    match check(alloc, program) {
+        Ok(scoped) => Ok(Answer::Kept(scoped.turns)),
+        Err(ScopeFault::Scope { rule, item }) => Ok(Answer::Breaks(rule, item)),
+        Err(ScopeFault::Limit(Cap::Turns)) => Ok(Answer::TooLong),
+        Err(ScopeFault::Limit(_)) => Ok(Answer::NoProgram),
+        Err(ScopeFault::Memory(error)) => Err(error),
+    }
+}
+
+/// What is answered to the program of a text.
+fn answer_to(alloc: Global, text: &[u8]) -> Result<Answer, AllocError>
+    requires { length text.now ≤ 1048576 }
+{
+    match program_of(alloc, text)? {
+        Some(program) => judged(alloc, program),
+        None => Ok(Answer::NoProgram),
     }
 }
 
@@ -77,7 +93,7 @@ fn kept_otherwise(alloc: Global, cases: &[Case]) -> Result<Option<Wrong>, AllocE
     Ok(None)
 }
 
-const INTRODUCED_REFUSED: [Case; 22] = [
+const INTRODUCED_REFUSED: [Case; 23] = [
     ("input a:8; const a = 3; output y = a;", 1),
     (
         "input a:8; for a in 0..2 { let t[a] = 1; } output y = a;",
@@ -86,6 +102,7 @@ const INTRODUCED_REFUSED: [Case; 22] = [
     ("input a:8; for a in 0..0 { } output y = a;", 1),
     ("input a:8; let t[1] = a; let t[1] = a; output y = a;", 2),
     ("input a:8; let signed = a; output y = a;", 1),
+    ("input a:8; let signed = a;", 1),
     ("input a:8; output a = a;", 1),
     ("input a:8; input a:8; output y = a;", 1),
     ("input a:8; fn f(b, b) { return b; } output y = a;", 1),
@@ -467,87 +484,51 @@ const LONG_KEPT: [Case; 2] = [
     ),
 ];
 
-#[test]
-fn introduced(rt: HostRuntime) -> Result<(), Fail> {
-    assert_eq!(rt;
-        refused_otherwise(rt.alloc(), 1, &INTRODUCED_REFUSED)?,
-        None
-    );
-    assert_eq!(rt; kept_otherwise(rt.alloc(), &INTRODUCED_KEPT)?, None);
-    Ok(())
-}
+/// Of each rule the programs that break it, and those that keep it.
+const RULES: [(u8, &[Case], &[Case]); 10] = [
+    (1, &INTRODUCED_REFUSED, &INTRODUCED_KEPT),
+    (2, &ASSIGNED_REFUSED, &ASSIGNED_KEPT),
+    (3, &KINDS_REFUSED, &KINDS_KEPT),
+    (4, &CALLS_REFUSED, &CALLS_KEPT),
+    (5, &STEPS_REFUSED, &STEPS_KEPT),
+    (6, &DIVISORS_REFUSED, &DIVISORS_KEPT),
+    (7, &ENTRIES_REFUSED, &ENTRIES_KEPT),
+    (8, &BOUNDS_REFUSED, &BOUNDS_KEPT),
+    (9, &RECURRENCES_REFUSED, &RECURRENCES_KEPT),
+    (10, &ENDS_REFUSED, &ENDS_KEPT),
+];
 
 #[test]
-fn assigned(rt: HostRuntime) -> Result<(), Fail> {
-    assert_eq!(rt; refused_otherwise(rt.alloc(), 2, &ASSIGNED_REFUSED)?, None);
-    assert_eq!(rt; kept_otherwise(rt.alloc(), &ASSIGNED_KEPT)?, None);
-    Ok(())
-}
-
-#[test]
-fn kinds(rt: HostRuntime) -> Result<(), Fail> {
-    assert_eq!(rt; refused_otherwise(rt.alloc(), 3, &KINDS_REFUSED)?, None);
-    assert_eq!(rt; kept_otherwise(rt.alloc(), &KINDS_KEPT)?, None);
-    Ok(())
-}
-
-#[test]
-fn calls(rt: HostRuntime) -> Result<(), Fail> {
-    assert_eq!(rt; refused_otherwise(rt.alloc(), 4, &CALLS_REFUSED)?, None);
-    assert_eq!(rt; kept_otherwise(rt.alloc(), &CALLS_KEPT)?, None);
-    Ok(())
-}
-
-#[test]
-fn steps(rt: HostRuntime) -> Result<(), Fail> {
-    assert_eq!(rt; refused_otherwise(rt.alloc(), 5, &STEPS_REFUSED)?, None);
-    assert_eq!(rt; kept_otherwise(rt.alloc(), &STEPS_KEPT)?, None);
-    Ok(())
-}
-
-#[test]
-fn divisors(rt: HostRuntime) -> Result<(), Fail> {
-    assert_eq!(rt; refused_otherwise(rt.alloc(), 6, &DIVISORS_REFUSED)?, None);
-    assert_eq!(rt; kept_otherwise(rt.alloc(), &DIVISORS_KEPT)?, None);
-    Ok(())
-}
-
-#[test]
-fn entries(rt: HostRuntime) -> Result<(), Fail> {
-    assert_eq!(rt; refused_otherwise(rt.alloc(), 7, &ENTRIES_REFUSED)?, None);
-    assert_eq!(rt; kept_otherwise(rt.alloc(), &ENTRIES_KEPT)?, None);
-    Ok(())
-}
-
-#[test]
-fn bounds(rt: HostRuntime) -> Result<(), Fail> {
-    assert_eq!(rt; refused_otherwise(rt.alloc(), 8, &BOUNDS_REFUSED)?, None);
-    assert_eq!(rt; kept_otherwise(rt.alloc(), &BOUNDS_KEPT)?, None);
-    Ok(())
-}
-
-#[test]
-fn recurrences(rt: HostRuntime) -> Result<(), Fail> {
-    assert_eq!(rt;
-        refused_otherwise(rt.alloc(), 9, &RECURRENCES_REFUSED)?,
-        None
-    );
-    assert_eq!(rt; kept_otherwise(rt.alloc(), &RECURRENCES_KEPT)?, None);
-    Ok(())
-}
-
-#[test]
-fn ends(rt: HostRuntime) -> Result<(), Fail> {
-    assert_eq!(rt; refused_otherwise(rt.alloc(), 10, &ENDS_REFUSED)?, None);
-    assert_eq!(rt; kept_otherwise(rt.alloc(), &ENDS_KEPT)?, None);
+fn rules(rt: HostRuntime) -> Result<(), Fail> {
+    let alloc = rt.alloc();
+    for (rule, refused, kept) in RULES {
+        assert_eq!(rt; refused_otherwise(alloc, rule, refused)?, None);
+        assert_eq!(rt; kept_otherwise(alloc, kept)?, None);
+    }
     Ok(())
 }
 
 #[test]
 fn turns(rt: HostRuntime) -> Result<(), Fail> {
+    let alloc = rt.alloc();
     for text in TOO_LONG {
-        assert_eq!(rt; judge(rt.alloc(), text, Answer::TooLong)?, None);
+        assert_eq!(rt; judge(alloc, text, Answer::TooLong)?, None);
     }
-    assert_eq!(rt; kept_otherwise(rt.alloc(), &LONG_KEPT)?, None);
+    assert_eq!(rt; kept_otherwise(alloc, &LONG_KEPT)?, None);
+    Ok(())
+}
+
+/// Whether this is what is kept of two items, of which one is an input of eight bits.
+fn has_one_input(scoped: &Scoped) -> bool {
+    scoped.inputs.as_slice() == [8].as_slice()
+        && scoped.turns == 2
+        && scoped.program.items.len() == 2
+}
+
+#[test]
+fn an_input_and_an_output(rt: HostRuntime) -> Result<(), Fail> {
+    let alloc = rt.alloc();
+    let program = program_of(alloc, b"input a:8; output y = a;")?.expect(&rt, "a program");
+    assert!(rt; check(alloc, program).is_ok_and(|scoped| has_one_input(&scoped)));
     Ok(())
 }

@@ -50,6 +50,17 @@ mapped_at f [] i x y e g = absurd (let z = e in cc)
 mapped_at f (z ∷ xs) zero x y e g = let a : z ≡ x = cc in let b : f z ≡ y = cc in sym b ∙ ap f a
 mapped_at f (z ∷ xs) (suc i) x y e g = mapped_at f xs i x y e g
 
+-- what is made of an element that is set, where that is the same as before
+pub map_set : {X Y : Type 0} (f : X → Y) (xs : List X) (i : ℕ) (x new : X) → slice_get xs i ≡ Some x → f new ≡ f x → map f (set xs i new) ≡ map f xs
+map_set f [] i x new e same = refl
+map_set f (z ∷ xs) zero x new e same = let a : z ≡ x = cc in ap (λ y. y ∷ map f xs) (same ∙ ap f (sym a))
+map_set f (z ∷ xs) (suc i) x new e same = ap (λ ys. f z ∷ ys) (map_set f xs i x new e same)
+
+pub map_at : {X Y : Type 0} (f : X → Y) (xs : List X) (i : ℕ) (x : X) → slice_get xs i ≡ Some x → slice_get (map f xs) i ≡ Some (f x)
+map_at f [] i x e = absurd (let z = e in cc)
+map_at f (z ∷ xs) zero x e = let a : z ≡ x = cc in ap (λ y. Some (f y)) a
+map_at f (z ∷ xs) (suc i) x e = map_at f xs i x e
+
 -- ---- two lists side by side
 pub zip_at : {X Y Z : Type 0} (f : X → Y → Z) (xs : List X) (ys : List Y) (i : ℕ) (x : X) (y : Y) → slice_get xs i ≡ Some x → slice_get ys i ≡ Some y → slice_get (zip2 f xs ys) i ≡ Some (f x y)
 zip_at f [] ys i x y a b = absurd (let z = a in cc)

@@ -1,5 +1,5 @@
 -- Programs that take turns.
-use Rattle.std.specs.Prelude.{◌≡◌, ◌≢◌, ◌≤◌, ◌<◌, ◌+◌, ◌*◌, ◌^◌, ◌&&◌, not, ℕ, Bool, true, false, nat_lt, List, [], ◌∷◌, ◌++◌, length, ⊤, Option, Some, None, slice_get, is_some, if◌then◌else◌}
+use Rattle.std.specs.Prelude.{◌≡◌, ◌≢◌, ◌≤◌, ◌<◌, ◌+◌, ◌*◌, ◌^◌, ◌&&◌, not, ℕ, Bool, true, false, nat_lt, List, [], ◌∷◌, ◌++◌, length, map, ⊤, Option, Some, None, slice_get, is_some, if◌then◌else◌}
 use Rattle.std.specs.List.{count_by}
 use Rattle.std.specs.Simd.Lanes.{zip2}
 use Rattle.pr_edge.specs.Count.{RoseBy}
@@ -35,6 +35,14 @@ last_of (Some got) = got
 -- how samples have ended, by the last answer of their feed; none where more may follow
 abbrev pub ended_after : Got → Option Got
 ended_after last = if is_sample last then None else Some last
+
+-- the names of the files of samples
+abbrev pub names_of : {N P : ℕ} → List (ShareItem N P) → List (List ℕ)
+names_of items = map (λ item. name_of item.feed) items
+
+-- none of these names is this one
+abbrev pub IsNoneOf : List (List ℕ) → List ℕ → Type 0
+IsNoneOf names q = (i : ℕ) (name : List ℕ) → slice_get names i ≡ Some name → q ≢ name
 
 -- a program that can begin: its configuration is parked, and nothing of its samples was read
 pub record IsReady {N P : ℕ} (item : ShareItem N P) : Type 0 where

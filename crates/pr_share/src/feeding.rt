@@ -1,5 +1,5 @@
 //! The samples of a turn.
-ghost use Rattle.std.specs.Prelude.{ℕ, ◌≡◌, ◌≤◌, ◌<◌, ◌+◌, ◌-◌, ◌^◌, ◌⊎◌, true, false, List, length};
+ghost use Rattle.std.specs.Prelude.{ℕ, ◌≡◌, ◌≢◌, ◌≤◌, ◌<◌, ◌+◌, ◌-◌, ◌^◌, ◌⊎◌, true, false, List, length};
 ghost use Rattle.pr_edge.specs.Files.{HasReadCause};
 ghost use Rattle.pr_edge.specs.Tape.{Tape};
 ghost use Rattle.pr_samples.specs.declared.feed.Got.{Got};
@@ -43,6 +43,7 @@ fn read_one<const N: usize, const P: usize, S: Shelf>(
         → HasReadCause (S.told shelf.old) (name_of feed.old) (S.faults shelf.old) (S.faults shelf.new) }
     ensures later { S.faults shelf.old ≤ S.faults shelf.new }
     ensures told { S.told shelf.new ≡ S.told shelf.old }
+    ensures others { (q : List ℕ) → q ≢ name_of feed.old → S.reach shelf.new q ≡ S.reach shelf.old q }
     ensures file { SameFile feed.old feed.new }
     ensures kept { IsKept machine.old machine.new }
     ensures bytes { length bytes.new ≡ 64 }
@@ -88,6 +89,7 @@ pub(crate) fn feed_step<const N: usize, const P: usize, S: Shelf>(
         → (used.last ≡ Got.ReadFault) ⊎ HasReadCause (S.told shelf.old) (name_of feed.old) (S.faults shelf.old) (S.faults shelf.new) }
     ensures later { S.faults shelf.old ≤ S.faults shelf.new }
     ensures told { S.told shelf.new ≡ S.told shelf.old }
+    ensures others { (q : List ℕ) → q ≢ name_of feed.old → S.reach shelf.new q ≡ S.reach shelf.old q }
     ensures file { SameFile feed.old feed.new }
     ensures kept { IsKept machine.old machine.new }
 {

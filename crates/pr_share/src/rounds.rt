@@ -1,9 +1,10 @@
 //! Rounds of programs.
-ghost use Rattle.std.specs.Prelude.{ℕ, ◌≡◌, ◌≤◌, ◌<◌, ◌+◌, true, false, List, OnOk, OnErr, length, None};
+ghost use Rattle.std.specs.Prelude.{ℕ, ◌≡◌, ◌≢◌, ◌≤◌, ◌<◌, ◌+◌, true, false, List, OnOk, OnErr, length, None};
 ghost use Rattle.pr_edge.specs.Count.{Rose};
+ghost use Rattle.pr_samples.specs.Feed.{name_of};
 ghost use Rattle.pr_share.specs.declared.items.ShareItem.{ShareItem};
 ghost use Rattle.pr_share.specs.Items.{World, world, ended_after, HasTaken, IsTurn, IsHalf, IsSharing};
-ghost use Rattle.pr_share.specs.Items.{AreReady, AreShared, AreStopped, IsGoing, AreEnded};
+ghost use Rattle.pr_share.specs.Items.{AreReady, AreShared, AreStopped, IsGoing, AreEnded, names_of, IsNoneOf};
 
 use crate::items::ShareItem;
 use crate::turns::run_turn;
@@ -50,6 +51,8 @@ fn take_turn<const N: usize, const P: usize, S: Shelf, K: Sink>(
         → OnErr result (IsHalf first item.new rows number old new) }
     ensures cause { OnErr result (Rose (K.faults out.old) (K.faults out.new)) }
     ensures told { S.told shelf.new ≡ S.told shelf.old }
+    ensures others { (q : List ℕ) → q ≢ name_of item.old.feed → S.reach shelf.new q ≡ S.reach shelf.old q }
+    ensures name { name_of item.new.feed ≡ name_of item.old.feed }
     ensures shelf_later { S.faults shelf.old ≤ S.faults shelf.new }
     ensures out_later { K.faults out.old ≤ K.faults out.new }
 {
@@ -103,6 +106,8 @@ fn take_place<const N: usize, const P: usize, S: Shelf, K: Sink>(
     ensures count { length items.new ≡ length items.old }
     ensures cause { OnErr result (Rose (K.faults out.old) (K.faults out.new)) }
     ensures told { S.told shelf.new ≡ S.told shelf.old }
+    ensures others { (q : List ℕ) → IsNoneOf (names_of items.old) q → S.reach shelf.new q ≡ S.reach shelf.old q }
+    ensures names { names_of items.new ≡ names_of items.old }
     ensures shelf_later { S.faults shelf.old ≤ S.faults shelf.new }
     ensures out_later { K.faults out.old ≤ K.faults out.new }
 {
@@ -134,6 +139,8 @@ fn make_round<const N: usize, const P: usize, S: Shelf, K: Sink>(
     ensures count { length items.new ≡ length items.old }
     ensures cause { OnErr result (Rose (K.faults out.old) (K.faults out.new)) }
     ensures told { S.told shelf.new ≡ S.told shelf.old }
+    ensures others { (q : List ℕ) → IsNoneOf (names_of items.old) q → S.reach shelf.new q ≡ S.reach shelf.old q }
+    ensures names { names_of items.new ≡ names_of items.old }
     ensures shelf_later { S.faults shelf.old ≤ S.faults shelf.new }
     ensures out_later { K.faults out.old ≤ K.faults out.new }
 {
@@ -183,6 +190,8 @@ pub fn share<const N: usize, const P: usize, S: Shelf, K: Sink>(
         result ≡ ShareEnd.WriteFault → AreStopped parts.old parts.new old new }
     ensures write_fault { result ≡ ShareEnd.WriteFault → Rose (K.faults out.old) (K.faults out.new) }
     ensures told { S.told shelf.new ≡ S.told shelf.old }
+    ensures others { (q : List ℕ) → IsNoneOf (names_of parts.old) q → S.reach shelf.new q ≡ S.reach shelf.old q }
+    ensures names { names_of parts.new ≡ names_of parts.old }
     ensures shelf_later { S.faults shelf.old ≤ S.faults shelf.new }
     ensures out_later { K.faults out.old ≤ K.faults out.new }
 {

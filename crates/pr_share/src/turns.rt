@@ -1,5 +1,5 @@
 //! The turns of a machine until nothing is in flight.
-ghost use Rattle.std.specs.Prelude.{ℕ, ◌≡◌, ◌≤◌, ◌<◌, [], true, List, OnOk, OnErr, IfOk, length};
+ghost use Rattle.std.specs.Prelude.{ℕ, ◌≡◌, ◌≢◌, ◌≤◌, ◌<◌, [], true, List, OnOk, OnErr, IfOk, length};
 ghost use Rattle.pr_edge.specs.Count.{Rose};
 ghost use Rattle.pr_edge.specs.Files.{HasReadCause};
 ghost use Rattle.pr_samples.specs.declared.feed.Feed.{Feed};
@@ -57,6 +57,7 @@ pub(crate) fn run_turn<const N: usize, const P: usize, S: Shelf, K: Sink>(
     ensures conf { machine.new.parts.conf ≡ machine.old.parts.conf }
     ensures stripes { stripes_of machine.new ≡ stripes_of machine.old }
     ensures told { S.told shelf.new ≡ S.told shelf.old }
+    ensures others { (q : List ℕ) → q ≢ name_of feed.old → S.reach shelf.new q ≡ S.reach shelf.old q }
     ensures shelf_later { S.faults shelf.old ≤ S.faults shelf.new }
     ensures out_later { K.faults out.old ≤ K.faults out.new }
 {

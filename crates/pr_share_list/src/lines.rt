@@ -1,11 +1,12 @@
 //! The lines of a list.
-ghost use Rattle.std.specs.Prelude.{◌≡◌, ◌<◌, ◌==◌, [], ◌∷◌, true, false, None, IfOk, IfSome, MatchOption, length, position, option_map};
+ghost use Rattle.std.specs.Prelude.{◌≡◌, ◌<◌, [], ◌∷◌, true, false, None, IfOk, MatchOption, length, option_map};
 ghost use Rattle.std.specs.Str.{is_utf8};
 ghost use Rattle.pr_samples.specs.Lines.{words_of, without_return};
 ghost use Rattle.pr_share_list.specs.List.{entry_by, list_lines};
 ghost use Rattle.pr_share_list.specs.Line.{IsLine, entry_said};
 
 use crate::words::{begins_apart, next_word};
+use pr_samples::line_end;
 use pr_tool_words::number_in;
 use std::alloc::{AllocError, Global};
 use std::str::from_utf8;
@@ -43,21 +44,13 @@ pub enum Line {
 /// The greatest quota.
 const GREATEST_QUOTA: u32 = 1_000_000;
 
-/// The place of the first LF.
-fn first_end(text: &[u8]) -> Option<usize>
-    ensures place { result ≡ position (λ b. b == 10) text.now }
-    ensures within { IfSome result (λ n. n < length text.now) }
-{
-    text.iter().position(|b| *b == b'\n')
-}
-
 /// The first line of a text, without its LF, and the text after it.
 pub(crate) fn split_line(text: &[u8]) -> (&[u8], &[u8])
     requires { 0 < length text.now }
     ensures lines { list_lines text.now ≡ result.0.now ∷ list_lines result.1.now }
     ensures shorter { length result.1.now < length text.now }
 {
-    match first_end(text) {
+    match line_end(text) {
         None => (text, &text[text.len()..]),
         Some(end) => (&text[..end], &text[end + 1..]),
     }

@@ -15,7 +15,8 @@ use Rattle.pr_flat.specs.Shape.{EquationShape}
 use Rattle.pr_flat.specs.Facts.{is_input, is_lawful_operand, IsFlat}
 use Rattle.pr_flat.specs.Widths.{operand_width, AreWidths}
 use Rattle.pr_flat.specs.Values.{init_of, initial_of, input_widths, number_before, operand_number, number_in, row_after, row_of}
-use Rattle.pr_flat.proofs.NumberLemmas.{number_width-holds, initial-holds, AllHaveWidths, row_of-holds, IsSampleFor-from_IsRow}
+use Rattle.pr_flat.specs.Laws.{AllHaveWidths}
+use Rattle.pr_flat.proofs.NumberLemmas.{number_width-holds, initial-holds, row_of-holds, IsSampleFor-from_IsRow}
 use Rattle.pr_flat.proofs.ValueLemmas.{row_after-kept, length-row_of}
 use Rattle.pr_flat.proofs.WidthLemmas.{PastOf, past_of}
 use Rattle.pr_source.specs.Reading.{IsWhole, IsPast, AreNumbers}

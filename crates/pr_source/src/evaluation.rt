@@ -1,11 +1,11 @@
 //! The rows of equations on samples.
 
-ghost use Rattle.std.specs.Prelude.{◌≡◌, map, All, IfOk};
+ghost use Rattle.std.specs.Prelude.{◌≡◌, All, IfOk};
 ghost use Rattle.pr_base.specs.Rows.{IsRow};
-ghost use Rattle.pr_flat.specs.Shape.{shapes_of};
+ghost use Rattle.pr_flat.specs.Flats.{equations_of};
 ghost use Rattle.pr_flat.specs.Widths.{AreWidths};
-ghost use Rattle.pr_flat.specs.Values.{input_widths, rows_of};
-ghost use Rattle.pr_source.specs.Outputs.{given};
+ghost use Rattle.pr_flat.specs.Values.{input_widths};
+ghost use Rattle.pr_source.specs.Outputs.{given_all};
 
 use crate::evaluator::Evaluator;
 use pr_base::Sample;
@@ -20,9 +20,10 @@ pub fn eval(
     widths: &Widths,
     samples: &[Sample],
 ) -> Result<Vec<Sample>, AllocError>
-    requires widths { AreWidths (shapes_of flat.now.equations.items) widths.now }
-    requires samples { All (IsRow (input_widths (shapes_of flat.now.equations.items))) samples.now }
-    ensures { IfOk result (λ rows. rows.items ≡ map (given (shapes_of flat.now.equations.items) flat.now.outputs.items) (rows_of (shapes_of flat.now.equations.items) widths.now samples.now)) }
+    requires widths { AreWidths (equations_of flat.now) widths.now }
+    requires samples { All (IsRow (input_widths (equations_of flat.now))) samples.now }
+    ensures { IfOk result (λ rows. rows.items ≡
+        given_all (equations_of flat.now) flat.now.outputs.items widths.now samples.now) }
 {
     let mut evaluator = Evaluator::new(alloc, flat)?;
     let mut rows = Vec::new(alloc);

@@ -1,14 +1,15 @@
 //! Equations that are given one sample after the other.
 
-ghost use Rattle.std.specs.Prelude.{◌≡◌, ◌≤◌, ◌++◌, [], ◌∷◌, true, ℕ, List, length, reverse, vec_len, IfOk};
+ghost use Rattle.std.specs.Prelude.{◌≡◌, ◌≤◌, ◌++◌, [], ◌∷◌, true, ℕ, List, length, vec_len, IfOk};
 ghost use Rattle.std.specs.List.{list_all};
 ghost use Rattle.pr_base.specs.Rows.{IsRow};
 ghost use Rattle.pr_flat.specs.Facts.{is_lawful_output};
-ghost use Rattle.pr_flat.specs.Shape.{EquationShape, shapes_of};
+ghost use Rattle.pr_flat.specs.Flats.{equations_of};
+ghost use Rattle.pr_flat.specs.Shape.{EquationShape};
 ghost use Rattle.pr_flat.specs.Widths.{AreWidths};
-ghost use Rattle.pr_flat.specs.Values.{input_widths, operand_number, row_of, rows_of};
+ghost use Rattle.pr_flat.specs.Values.{input_widths, operand_number, row_of};
 ghost use Rattle.pr_source.specs.Keeping.{is_near, AreNear, kept};
-ghost use Rattle.pr_source.specs.Outputs.{given};
+ghost use Rattle.pr_source.specs.Outputs.{given, given_next};
 ghost use Rattle.pr_source.specs.Reading.{IsPast};
 
 use crate::reader::{Reader, is_input};
@@ -44,7 +45,7 @@ fn slots_of_operands(operands: &[Operand]) -> usize
 /// How many rows equations look back on, and one more.
 fn slots_of(flat: &Flat) -> usize
     ensures some { 1 ≤ result }
-    ensures near { AreNear result (shapes_of flat.now.equations.items) }
+    ensures near { AreNear result (equations_of flat.now) }
 {
     let mut slots = 1;
     for equation in &flat.equations {
@@ -55,11 +56,11 @@ fn slots_of(flat: &Flat) -> usize
 
 /// The row of a sample after these rows.
 fn fill(flat: &Flat, widths: &Widths, recent: &Recent, sample: &[Num], row: &mut Row)
-    requires widths { AreWidths (shapes_of flat.now.equations.items) widths.now }
-    requires sample { IsRow (input_widths (shapes_of flat.now.equations.items)) sample.now }
-    requires before { IsPast (shapes_of flat.now.equations.items) widths.now (kept recent.now) }
+    requires widths { AreWidths (equations_of flat.now) widths.now }
+    requires sample { IsRow (input_widths (equations_of flat.now)) sample.now }
+    requires before { IsPast (equations_of flat.now) widths.now (kept recent.now) }
     requires room { length row.old ≡ vec_len flat.now.equations }
-    ensures { row.new ≡ row_of (shapes_of flat.now.equations.items) widths.now (kept recent.now) sample.now }
+    ensures { row.new ≡ row_of (equations_of flat.now) widths.now (kept recent.now) sample.now }
 {
     let numbers = &mut row.numbers;
     let mut input = 0;
@@ -92,7 +93,7 @@ fn number_of(output: Operand, row: &[Num]) -> Num
 fn give(flat: &Flat, row: &Row, into: &mut [Num])
     requires row { length row.now ≡ vec_len flat.now.equations }
     requires into { length into.old ≡ vec_len flat.now.outputs }
-    ensures { into.new ≡ given (shapes_of flat.now.equations.items) flat.now.outputs.items row.now }
+    ensures { into.new ≡ given (equations_of flat.now) flat.now.outputs.items row.now }
 {
     let numbers = &row.numbers;
     for i in 0..into.len() {
@@ -113,7 +114,7 @@ impl Evaluator {
 
     /// An evaluator of these equations that was given no sample.
     pub fn new(alloc: Global, flat: &Flat) -> Result<Evaluator, AllocError>
-        ensures { IfOk result (λ v. (widths : List ℕ) → Stands (shapes_of flat.now.equations.items) widths [] v) }
+        ensures { IfOk result (λ v. (widths : List ℕ) → Stands (equations_of flat.now) widths [] v) }
     {
         let size = flat.equations.len();
         let recent = Recent::new(alloc, slots_of(flat), size)?;
@@ -123,12 +124,14 @@ impl Evaluator {
 
     /// The numbers of the outputs at the next sample.
     pub fn next(&mut self, flat: &Flat, widths: &Widths, sample: &[Num], into: &mut [Num])
-        requires widths { AreWidths (shapes_of flat.now.equations.items) widths.now }
-        requires sample { IsRow (input_widths (shapes_of flat.now.equations.items)) sample.now }
-        requires stands { HasStood (shapes_of flat.now.equations.items) widths.now self.old }
+        requires widths { AreWidths (equations_of flat.now) widths.now }
+        requires sample { IsRow (input_widths (equations_of flat.now)) sample.now }
+        requires stands { HasStood (equations_of flat.now) widths.now self.old }
         requires into { length into.old ≡ vec_len flat.now.outputs }
-        ensures stands { (samples : List (List ℕ)) → Stands (shapes_of flat.now.equations.items) widths.now samples self.old → Stands (shapes_of flat.now.equations.items) widths.now (samples ++ sample.now ∷ []) self.new }
-        ensures given { (samples : List (List ℕ)) → Stands (shapes_of flat.now.equations.items) widths.now samples self.old → into.new ≡ given (shapes_of flat.now.equations.items) flat.now.outputs.items (row_of (shapes_of flat.now.equations.items) widths.now (reverse (rows_of (shapes_of flat.now.equations.items) widths.now samples)) sample.now) }
+        ensures stands { (samples : List (List ℕ)) → Stands (equations_of flat.now) widths.now samples self.old →
+            Stands (equations_of flat.now) widths.now (samples ++ sample.now ∷ []) self.new }
+        ensures given { (samples : List (List ℕ)) → Stands (equations_of flat.now) widths.now samples self.old →
+            into.new ≡ given_next (equations_of flat.now) flat.now.outputs.items widths.now samples sample.now }
     {
         fill(flat, widths, &self.recent, sample, &mut self.row);
         give(flat, &self.row, into);

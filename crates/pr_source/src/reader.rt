@@ -1,14 +1,15 @@
 //! What equations read.
 
-ghost use Rattle.std.specs.Prelude.{IfSome, ◌≡◌, ◌<◌, ◌≤◌, ℕ, ◌^◌, true, false, Some, List, length, take, count_by, slice_get, slice_index, map, vec_len};
+ghost use Rattle.std.specs.Prelude.{IfSome, ◌≡◌, ◌<◌, ◌≤◌, ℕ, ◌^◌, true, false, Some, List, length, slice_get, slice_index, vec_len};
 ghost use Rattle.pr_base.specs.Rows.{IsRow};
-ghost use Rattle.pr_flat.specs.Shape.{EquationShape, equation_shape, shapes_of};
-ghost use Rattle.pr_flat.specs.Facts.{arity, is_input, is_lawful_operand};
+ghost use Rattle.pr_flat.specs.Flats.{equations_of};
+ghost use Rattle.pr_flat.specs.Shape.{EquationShape, equation_shape};
+ghost use Rattle.pr_flat.specs.Facts.{arity, is_input};
 ghost use Rattle.pr_flat.specs.Forms.{IsPoint};
 ghost use Rattle.pr_flat.specs.Widths.{operand_width};
-ghost use Rattle.pr_flat.specs.Values.{delayed_number, initial_of, input_widths, number_in, operand_number, points_in};
+ghost use Rattle.pr_flat.specs.Values.{delayed_number, initial_of, input_widths, operand_number};
 ghost use Rattle.pr_source.specs.Keeping.{kept};
-ghost use Rattle.pr_source.specs.Reading.{IsPlain, IsReady, operates, sight_of};
+ghost use Rattle.pr_source.specs.Reading.{CanRead, IsNext, IsPlain, IsReady, inputs_before, next_number, operates, points_of};
 
 use crate::recent::Recent;
 use pr_base::{Num, Width, cut};
@@ -37,7 +38,7 @@ fn plain_number(op: Op, a: Num, b: Num) -> Option<Num>
 /// The number that a recurrence begins with.
 fn initial_of(flat: &Flat, rec: u32) -> Num
     requires { rec < vec_len flat.now.equations }
-    ensures { result ≡ initial_of (shapes_of flat.now.equations.items) rec }
+    ensures { result ≡ initial_of (equations_of flat.now) rec }
 {
     match flat.equations[rec as usize].op {
         Op::Rec { init, .. } => Num::from(init),
@@ -58,8 +59,9 @@ impl<'a> Reader<'a> {
     /// The number of an operand.
     fn number(&self, operand: Operand) -> Num
         requires ready { IsReady self.now }
-        requires operand { is_lawful_operand (shapes_of self.now.flat.now.equations.items) (length self.now.row.now) operand ≡ true }
-        ensures { result ≡ operand_number (shapes_of self.now.flat.now.equations.items) (kept self.now.recent.now) self.now.row.now operand }
+        requires operand { CanRead self.now operand }
+        ensures { result ≡ operand_number (equations_of self.now.flat.now)
+            (kept self.now.recent.now) self.now.row.now operand }
     {
         match operand {
             Operand::Const(c) => Num::from(c),
@@ -74,9 +76,9 @@ impl<'a> Reader<'a> {
     /// The number of an operand one row earlier, and this one in the first row.
     fn earlier(&self, operand: Operand, constant: u64) -> Num
         requires ready { IsReady self.now }
-        requires operand { is_lawful_operand (shapes_of self.now.flat.now.equations.items) (length self.now.row.now) operand ≡ true }
+        requires operand { CanRead self.now operand }
         requires within { length self.now.row.now < vec_len self.now.flat.now.equations }
-        ensures { result ≡ delayed_number (shapes_of self.now.flat.now.equations.items) (kept self.now.recent.now) operand constant }
+        ensures { result ≡ delayed_number (equations_of self.now.flat.now) (kept self.now.recent.now) operand constant }
     {
         if self.recent.is_empty() {
             return Num::from(constant);
@@ -94,7 +96,7 @@ impl<'a> Reader<'a> {
     /// The width of an operand.
     fn width(&self, operand: Operand) -> Width
         requires ready { IsReady self.now }
-        requires operand { is_lawful_operand (shapes_of self.now.flat.now.equations.items) (length self.now.row.now) operand ≡ true }
+        requires operand { CanRead self.now operand }
         requires within { length self.now.row.now < vec_len self.now.flat.now.equations }
         ensures { result.bits ≡ operand_width self.now.widths.now operand }
     {
@@ -118,10 +120,11 @@ impl<'a> Reader<'a> {
     /// An operand as it is read.
     fn point(&self, equation: &Equation, place: usize) -> Point
         requires ready { IsReady self.now }
-        requires next { slice_get (shapes_of self.now.flat.now.equations.items) (length self.now.row.now) ≡ Some (equation_shape equation.now) }
+        requires next { IsNext self.now (equation_shape equation.now) }
         requires args { place < vec_len equation.now.args }
         requires kinds { place < vec_len equation.now.kinds }
-        ensures point { (sample : List ℕ) → slice_get (points_in (sight_of self.now sample) equation.now.args.items equation.now.kinds.items) place ≡ Some result }
+        ensures point { (sample : List ℕ) →
+            slice_get (points_of self.now sample (equation_shape equation.now)) place ≡ Some result }
         ensures lawful { IsPoint result }
     {
         let operand = equation.args[place];
@@ -138,11 +141,11 @@ impl<'a> Reader<'a> {
     #[tactic(auto, using(crate::proofs::Points::arity_some, crate::proofs::Points::arity_few))]
     fn operated(&self, equation: &Equation) -> Num
         requires ready { IsReady self.now }
-        requires next { slice_get (shapes_of self.now.flat.now.equations.items) (length self.now.row.now) ≡ Some (equation_shape equation.now) }
+        requires next { IsNext self.now (equation_shape equation.now) }
         requires operator { operates equation.now.op ≡ true }
         requires args { vec_len equation.now.args ≡ arity equation.now.op }
         requires kinds { vec_len equation.now.kinds ≡ arity equation.now.op }
-        ensures { (sample : List ℕ) → result ≡ number_in (sight_of self.now sample) (length self.now.row.now) equation.now.op equation.now.args.items equation.now.kinds.items }
+        ensures { (sample : List ℕ) → result ≡ next_number self.now sample (equation_shape equation.now) }
     {
         let width = self.width_at(self.row.len());
         let first = self.point(equation, 0);
@@ -160,10 +163,11 @@ impl<'a> Reader<'a> {
     /// The number of the next equation where it is a sum or a product of unsigned operands: it takes no widths but its own.
     fn plain(&self, equation: &Equation) -> Option<Num>
         requires ready { IsReady self.now }
-        requires next { slice_get (shapes_of self.now.flat.now.equations.items) (length self.now.row.now) ≡ Some (equation_shape equation.now) }
+        requires next { IsNext self.now (equation_shape equation.now) }
         requires args { vec_len equation.now.args ≡ arity equation.now.op }
         requires kinds { vec_len equation.now.kinds ≡ arity equation.now.op }
-        ensures { IfSome result (λ n. (sample : List ℕ) → n ≡ number_in (sight_of self.now sample) (length self.now.row.now) equation.now.op equation.now.args.items equation.now.kinds.items) }
+        ensures { IfSome result (λ n. (sample : List ℕ) → n ≡
+            next_number self.now sample (equation_shape equation.now)) }
     {
         if equation.args.len() != 2 || equation.kinds[0] || equation.kinds[1] {
             return None;
@@ -180,9 +184,9 @@ impl<'a> Reader<'a> {
     pub fn next(&self, sample: &[Num], input: usize) -> Num
         requires ready { IsReady self.now }
         requires within { length self.now.row.now < vec_len self.now.flat.now.equations }
-        requires sample { IsRow (input_widths (shapes_of self.now.flat.now.equations.items)) sample.now }
-        requires input { input ≡ count_by (λ (e : EquationShape). is_input e.op) (take (length self.now.row.now) (shapes_of self.now.flat.now.equations.items)) }
-        ensures { (e : EquationShape) → slice_get (shapes_of self.now.flat.now.equations.items) (length self.now.row.now) ≡ Some e → result ≡ number_in (sight_of self.now sample.now) (length self.now.row.now) e.op e.args e.kinds }
+        requires sample { IsRow (input_widths (equations_of self.now.flat.now)) sample.now }
+        requires input { input ≡ inputs_before self.now }
+        ensures { (e : EquationShape) → IsNext self.now e → result ≡ next_number self.now sample.now e }
     {
         let at = self.row.len();
         let equation = &self.flat.equations[at];

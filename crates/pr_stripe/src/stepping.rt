@@ -9,9 +9,8 @@ use pr_conf::Stage;
 use pr_stripe_prepared::{Prepared, first_step, step};
 
 impl<const N: usize, const P: usize> Stripe<N, P, Live> {
-    ghost use Rattle.pr_conf.specs.StageMap.{step_of};
     ghost use Rattle.pr_conf.specs.Rules.{are_lawful_pes, site_of};
-    ghost use Rattle.pr_machine_account.specs.Flow.{input_of, row_with, state_with};
+    ghost use Rattle.pr_stripe.specs.Cycles.{cycled_row, cycled_state};
     ghost use Rattle.pr_stripe.specs.Rows.{entering, shown};
     ghost use Rattle.pr_stripe_prepared.specs.Prepared.{IsPrepared};
 
@@ -28,8 +27,10 @@ impl<const N: usize, const P: usize> Stripe<N, P, Live> {
         requires valid { 0 < self.old.mark.stage → valid ≡ prev.now.valid }
         requires prepared { ForSome prepared.now (λ q. IsPrepared q stage.now.pes.items (P - 1)) }
         ensures stage { self.new.mark.stage ≡ self.old.mark.stage }
-        ensures state { self.new.state.items ≡ state_with (step_of N P (self.old.mark.stage == 0) stage.now.pes.items) self.old.state.items (input_of self.old.mark.stage (entering valid bus.now) (shown prev.now)) }
-        ensures row { shown self.new.row ≡ row_with (step_of N P (self.old.mark.stage == 0) stage.now.pes.items) self.old.state.items (input_of self.old.mark.stage (entering valid bus.now) (shown prev.now)) }
+        ensures state { self.new.state.items ≡ cycled_state N P self.old.mark.stage stage.now.pes.items
+            self.old.state.items (entering valid bus.now) (shown prev.now) }
+        ensures row { shown self.new.row ≡ cycled_row N P self.old.mark.stage stage.now.pes.items
+            self.old.state.items (entering valid bus.now) (shown prev.now) }
     {
         let Some(prepared) = prepared else {
             self.compute(prev, bus, valid, stage);

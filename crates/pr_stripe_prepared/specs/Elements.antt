@@ -1,5 +1,5 @@
 -- What a prepared stage needs to know of an element.
-use Rattle.std.specs.Prelude.{ℕ, suc, ◌==◌, ◌^◌, ◌≡◌, ◌<◌, nat_lt, Bool, true, false, List, slice_index_or, if◌then◌else◌}
+use Rattle.std.specs.Prelude.{ℕ, suc, ◌+◌, ◌-◌, ◌*◌, ◌/◌, ◌%◌, ◌==◌, ◌^◌, ◌≡◌, ◌<◌, nat_lt, Bool, true, false, List, slice_index, slice_index_or, if◌then◌else◌}
 use Rattle.pr_base.specs.Pe.{carry_in, next_state}
 use Rattle.pr_stripe_prepared.specs.Places.{is_suited}
 use Rattle.pr_base.specs.declared.choices.Mode.{Mode}
@@ -98,6 +98,22 @@ output_of pe = next_state pe.next 0 255 0
 
 abbrev pub a_of : Pe → ℕ
 a_of pe = next_state pe.next 0 0 255
+
+-- the sources of A, and then those of the bytes that B begins with
+abbrev pub both_source : List Pe → ℕ → Pe → Source
+both_source pes k d = if nat_lt k 16 then (slice_index_or pes k d).a else (slice_index_or pes (k - 16) d).hi
+
+-- the sources of the bytes that B ends with, and then those of C
+abbrev pub rest_source : List Pe → ℕ → Pe → Source
+rest_source pes k d = if nat_lt k 16 then (slice_index_or pes k d).lo else c_source (slice_index_or pes (k - 16) d).c
+
+-- this holds of the element of each of 16 columns
+abbrev pub EachColumn : List Pe → (ℕ → Pe → Type 0) → Type 0
+EachColumn pes Holds = (k : ℕ) (d : Pe) → k < 16 → Holds k (slice_index_or pes k d)
+
+-- all ones at each place of each register to which its column writes, and else 0
+abbrev pub AreMarks : ℕ → List Pe → List ℕ → Type 0
+AreMarks registers pes marks = (j : ℕ) (d : Pe) → j < registers * 16 → slice_index marks j ≡ (if (slice_index_or pes (j % 16) d).write == j / 16 + 1 then 255 else 0)
 
 -- an element that whole rows of so many registers give
 pub record IsSuited (registers : ℕ) (pe : Pe) : Type 0 where

@@ -1,5 +1,5 @@
 -- Bytes that are gathered from a row and a state.
-use Rattle.std.specs.Prelude.{ℕ, ◌+◌, ◌-◌, ◌*◌, List, [], ◌∷◌, slice_index, bit_or, nat_le, if◌then◌else◌}
+use Rattle.std.specs.Prelude.{◌≡◌, ◌<◌, ℕ, ◌+◌, ◌-◌, ◌*◌, List, [], ◌∷◌, slice_index, slice_index_or, bit_or, nat_le, if◌then◌else◌}
 use Rattle.pr_stripe_prepared.specs.declared.stages.Term.{Term}
 use Rattle.pr_stripe_prepared.specs.declared.stages.Gather.{Gather}
 use Rattle.pr_conf.specs.declared.pes.Source.{Source}
@@ -29,3 +29,7 @@ seen_byte row state made (Source.Prev col reg) = slice_index row ((reg - 1) * 16
 seen_byte row state made (Source.Here col) = slice_index made col
 seen_byte row state made (Source.State col) = slice_index state col
 seen_byte row state made (Source.Bus place) = slice_index row place
+
+-- what is gathered is the byte of each of 32 sources
+abbrev pub Gathers : Gather → List Source → Type 0
+Gathers g sources = (k : ℕ) (d : Source) (row st made : List ℕ) → k < 32 → gathered_byte g row st made k ≡ seen_byte row st made (slice_index_or sources k d)

@@ -10,11 +10,12 @@ use Rattle.pr_stripe_prepared.specs.Sums.{carry_from}
 abbrev pub bit_mark : Prepared → List ℕ → List ℕ → List ℕ → ℕ → ℕ
 bit_mark q row st made k = if q.has_rest then ones_where (gathered_byte q.rest row st made (16 + k)) (slice_index q.c_bits k) else 0
 
--- all ones where C is 1; the carries are those of the round before
+-- all ones where C is 1, by what it is as a bit of a byte; the carries are those of the round before
+abbrev pub with_carry : Prepared → ℕ → List ℕ → ℕ → ℕ
+with_carry q bit carries k = if q.has_carry then bit_or bit (ones_where (slice_index carries k) (slice_index q.c_carry k)) else bit
+
 abbrev pub mark_of : Prepared → List ℕ → List ℕ → List ℕ → List ℕ → ℕ → ℕ
-mark_of q row st made carries k = if q.has_carry
-    then bit_or (bit_mark q row st made k) (ones_where (slice_index carries k) (slice_index q.c_carry k))
-    else bit_mark q row st made k
+mark_of q row st made carries k = with_carry q (bit_mark q row st made k) carries k
 
 abbrev pub found_by : Table → List ℕ → List ℕ → ℕ → ℕ
 found_by t a b k = chosen (chosen (slice_index t.t1 k) (slice_index t.t2 k) (slice_index a k)) (chosen (slice_index t.t4 k) (slice_index t.t8 k) (slice_index a k)) (slice_index b k)

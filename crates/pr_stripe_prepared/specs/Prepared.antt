@@ -1,9 +1,9 @@
 -- When a prepared stage stands for the processing elements of a stage of 16 columns.
-use Rattle.std.specs.Prelude.{◌≡◌, ℕ, ◌+◌, ◌*◌, ◌/◌, ◌%◌, ◌^◌, ◌<◌, ◌==◌, true, false, List, length, slice_index, slice_index_or, vec_len, if◌then◌else◌}
+use Rattle.std.specs.Prelude.{◌≡◌, ℕ, ◌+◌, ◌*◌, ◌^◌, ◌<◌, true, false, List, length, slice_index, slice_index_or, vec_len}
 use Rattle.pr_base.specs.Pe.{carry_in, next_state}
 use Rattle.pr_conf.specs.declared.pes.Pe.{Pe}
 use Rattle.pr_stripe_prepared.specs.declared.stages.Prepared.{Prepared}
-use Rattle.pr_stripe_prepared.specs.Elements.{sum_mark, takes_carry, goes_on, low_mask, zero_mask, c_source, c_bit, c_carry, is_read_bit, from_c}
+use Rattle.pr_stripe_prepared.specs.Elements.{sum_mark, takes_carry, goes_on, low_mask, zero_mask, c_source, c_bit, c_carry, is_read_bit, from_c, AreMarks}
 use Rattle.pr_stripe_prepared.specs.Tables.{HasTable}
 use Rattle.pr_stripe_prepared.specs.Gather.{gathered_byte, seen_byte}
 use Rattle.pr_stripe_prepared.specs.Rounds.{IsOrdered}
@@ -44,7 +44,7 @@ pub record IsPrepared (q : Prepared) (pes : List Pe) (registers : ℕ) : Type 0 
   pub reads : (k : ℕ) (d : Pe) → k < 16 → ReadsColumn q k (slice_index_or pes k d)
   pub makes : (k : ℕ) (d : Pe) → k < 16 → MakesColumn q pes k (slice_index_or pes k d)
   pub ordered : (k : ℕ) (d : Pe) → k < 16 → IsOrdered q.levels q.rounds k (slice_index_or pes k d)
-  pub marks : (j : ℕ) (d : Pe) → j < registers * 16 → slice_index q.marks.items j ≡ (if (slice_index_or pes (j % 16) d).write == j / 16 + 1 then 255 else 0)
+  pub marks : AreMarks registers pes q.marks.items
   pub reach : q.reach ≡ registers * 16
   pub marks_row : vec_len q.marks ≡ registers * 16
   pub output_row : length q.to_output ≡ 16

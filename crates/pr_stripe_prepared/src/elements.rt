@@ -5,7 +5,7 @@ ghost use Rattle.pr_base.specs.Pe.{carry_in, next_state};
 ghost use Rattle.pr_conf.specs.declared.pes.Pe.{Pe};
 ghost use Rattle.pr_conf.specs.declared.pes.Source.{Source};
 ghost use Rattle.pr_lanes.specs.Rows.{ones_where, half};
-ghost use Rattle.pr_stripe_prepared.specs.Elements.{sum_mark, c_source, c_bit, c_carry, is_read_bit, from_c, low_mask, zero_mask, takes_carry, is_chain, goes_on, table_of, bit_of, carry_bit_of, from_c_of, carry_of, shift_of, output_of, a_of, IsSuited};
+ghost use Rattle.pr_stripe_prepared.specs.Elements.{sum_mark, c_source, c_bit, c_carry, is_read_bit, from_c, low_mask, zero_mask, takes_carry, is_chain, goes_on, table_of, bit_of, carry_bit_of, from_c_of, carry_of, shift_of, output_of, a_of, both_source, rest_source, EachColumn, IsSuited};
 ghost use Rattle.pr_stripe_prepared.specs.Tables.{HasTable};
 
 use crate::places::suits;
@@ -328,7 +328,8 @@ pub(crate) fn shift_row(pes: &[Pe]) -> [u16; 16]
 pub(crate) fn low_row(pes: &[Pe]) -> [u8; 16]
     requires pes { length pes.now ≡ 16 }
     ensures long { length result ≡ 16 }
-    ensures each { (k : ℕ) (d e : Pe) → k < 16 → slice_index result k ≡ low_mask (slice_index_or pes.now k d).mode (goes_on pes.now k e) }
+    ensures each { (k : ℕ) (d e : Pe) → k < 16
+        → slice_index result k ≡ low_mask (slice_index_or pes.now k d).mode (goes_on pes.now k e) }
 {
     let mut row = [0; 16];
     for k in 0..16 {
@@ -340,7 +341,8 @@ pub(crate) fn low_row(pes: &[Pe]) -> [u8; 16]
 pub(crate) fn zero_row(pes: &[Pe]) -> [u8; 16]
     requires pes { length pes.now ≡ 16 }
     ensures long { length result ≡ 16 }
-    ensures each { (k : ℕ) (d e : Pe) → k < 16 → slice_index result k ≡ zero_mask (slice_index_or pes.now k d).mode (goes_on pes.now k e) }
+    ensures each { (k : ℕ) (d e : Pe) → k < 16
+        → slice_index result k ≡ zero_mask (slice_index_or pes.now k d).mode (goes_on pes.now k e) }
 {
     let mut row = [0; 16];
     for k in 0..16 {
@@ -353,7 +355,7 @@ pub(crate) fn zero_row(pes: &[Pe]) -> [u8; 16]
 pub(crate) fn any_rest(pes: &[Pe]) -> bool
     requires pes { length pes.now ≡ 16 }
     requires read { (k : ℕ) (d : Pe) → k < 16 → is_read_bit (slice_index_or pes.now k d).c ≡ true }
-    ensures { result ≡ false → (k : ℕ) (d : Pe) → k < 16 → ((slice_index_or pes.now k d).shift ≡ 0) × (c_bit (slice_index_or pes.now k d).c ≡ 0) }
+    ensures { result ≡ false → EachColumn pes.now (λ k pe. (pe.shift ≡ 0) × (c_bit pe.c ≡ 0)) }
 {
     for k in 0..16 {
         if pes[k].shift != 0 || bit_byte(pes[k].c) != 0 {
@@ -367,7 +369,7 @@ pub(crate) fn any_rest(pes: &[Pe]) -> bool
 pub(crate) fn any_c(pes: &[Pe]) -> bool
     requires pes { length pes.now ≡ 16 }
     requires read { (k : ℕ) (d : Pe) → k < 16 → is_read_bit (slice_index_or pes.now k d).c ≡ true }
-    ensures { result ≡ false → (k : ℕ) (d : Pe) → k < 16 → (c_bit (slice_index_or pes.now k d).c ≡ 0) × (c_carry (slice_index_or pes.now k d).c ≡ 0) }
+    ensures { result ≡ false → EachColumn pes.now (λ k pe. (c_bit pe.c ≡ 0) × (c_carry pe.c ≡ 0)) }
 {
     for k in 0..16 {
         if bit_byte(pes[k].c) != 0 || carry_bit(pes[k].c) != 0 {
@@ -380,7 +382,7 @@ pub(crate) fn any_c(pes: &[Pe]) -> bool
 /// Whether C is the carry-in in a column.
 pub(crate) fn any_carry(pes: &[Pe]) -> bool
     requires pes { length pes.now ≡ 16 }
-    ensures { result ≡ false → (k : ℕ) (d : Pe) → k < 16 → c_carry (slice_index_or pes.now k d).c ≡ 0 }
+    ensures { result ≡ false → EachColumn pes.now (λ k pe. c_carry pe.c ≡ 0) }
 {
     for k in 0..16 {
         if carry_bit(pes[k].c) != 0 {
@@ -393,7 +395,7 @@ pub(crate) fn any_carry(pes: &[Pe]) -> bool
 /// Whether a column takes a carry.
 pub(crate) fn any_sum(pes: &[Pe]) -> bool
     requires pes { length pes.now ≡ 16 }
-    ensures { result ≡ false → (k : ℕ) (d : Pe) → k < 16 → takes_carry (slice_index_or pes.now k d).mode (slice_index_or pes.now k d).c ≡ false }
+    ensures { result ≡ false → EachColumn pes.now (λ k pe. takes_carry pe.mode pe.c ≡ false) }
 {
     for k in 0..16 {
         if needs_carry(pes[k].mode, pes[k].c) {
@@ -406,7 +408,7 @@ pub(crate) fn any_sum(pes: &[Pe]) -> bool
 /// Whether a column changes its state.
 pub(crate) fn any_state(pes: &[Pe]) -> bool
     requires pes { length pes.now ≡ 16 }
-    ensures { result ≡ false → (k : ℕ) (d : Pe) → k < 16 → (output_of (slice_index_or pes.now k d) ≡ 0) × (a_of (slice_index_or pes.now k d) ≡ 0) }
+    ensures { result ≡ false → EachColumn pes.now (λ k pe. (output_of pe ≡ 0) × (a_of pe ≡ 0)) }
 {
     for k in 0..16 {
         if output_byte(pes[k].next) != 0 || a_byte(pes[k].next) != 0 {
@@ -419,7 +421,7 @@ pub(crate) fn any_state(pes: &[Pe]) -> bool
 /// The sources of A, and then those of the bytes that B begins with.
 pub(crate) fn both_sources(pes: &[Pe]) -> [Source; 32]
     requires pes { length pes.now ≡ 16 }
-    ensures { (k : ℕ) (d : Source) (e : Pe) → k < 32 → slice_index_or result k d ≡ (if nat_lt k 16 then (slice_index_or pes.now k e).a else (slice_index_or pes.now (k - 16) e).hi) }
+    ensures { (k : ℕ) (d : Source) (e : Pe) → k < 32 → slice_index_or result k d ≡ both_source pes.now k e }
 {
     let mut sources = [Source::Const(0); 32];
     for k in 0..32 {
@@ -431,7 +433,7 @@ pub(crate) fn both_sources(pes: &[Pe]) -> [Source; 32]
 /// The sources of the bytes that B ends with, and then those of C.
 pub(crate) fn rest_sources(pes: &[Pe]) -> [Source; 32]
     requires pes { length pes.now ≡ 16 }
-    ensures { (k : ℕ) (d : Source) (e : Pe) → k < 32 → slice_index_or result k d ≡ (if nat_lt k 16 then (slice_index_or pes.now k e).lo else c_source (slice_index_or pes.now (k - 16) e).c) }
+    ensures { (k : ℕ) (d : Source) (e : Pe) → k < 32 → slice_index_or result k d ≡ rest_source pes.now k e }
 {
     let mut sources = [Source::Const(0); 32];
     for k in 0..32 {

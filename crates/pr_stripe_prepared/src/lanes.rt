@@ -157,7 +157,8 @@ pub(crate) fn shifted_row(hi: u8x16, lo: u8x16, by: u16x16) -> u8x16
     requires lo { length lo ≡ 16 }
     requires by { length by ≡ 16 }
     ensures words { HasLanes 16 result (λ k. (slice_index hi k * 256 + slice_index lo k) * slice_index by k % 65536 / 256) }
-    ensures bytes { (k s : ℕ) → k < 16 → slice_index by k ≡ 2 ^ s → s < 8 → slice_index result k ≡ shifted (slice_index hi k) (slice_index lo k) s }
+    ensures bytes { (k s : ℕ) → k < 16 → slice_index by k ≡ 2 ^ s → s < 8
+        → slice_index result k ≡ shifted (slice_index hi k) (slice_index lo k) s }
 {
     let both = hi.cast::<u16>() * u16x16::splat(256) + lo.cast::<u16>();
     ((both * by) >> u16x16::splat(8)).cast::<u8>()
@@ -188,7 +189,9 @@ pub(crate) fn carries_of(first: u8x16, second: u8x16, given: u8x16) -> u8x16
     requires first { length first ≡ 16 }
     requires second { length second ≡ 16 }
     requires given { length given ≡ 16 }
-    ensures { HasLanes 16 result (λ k. (slice_index given k + carry_from 0 (λ j. slice_index first j + slice_index second j + slice_index given j) k) % 256) }
+    ensures { HasLanes 16 result
+        (λ k. (slice_index given k
+        + carry_from 0 (λ j. slice_index first j + slice_index second j + slice_index given j) k) % 256) }
 {
     let sum = number_of(first)
         .wrapping_add(number_of(second))

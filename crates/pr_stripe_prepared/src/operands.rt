@@ -1,11 +1,10 @@
 //! The operands of all columns.
 
-ghost use Rattle.std.specs.Prelude.{ℕ, false, ◌≡◌, ◌+◌, ◌<◌, ◌^◌, ◌≤◌, length, slice_index, bit_or, if◌then◌else◌};
+ghost use Rattle.std.specs.Prelude.{ℕ, false, ◌≡◌, ◌+◌, ◌<◌, ◌^◌, ◌≤◌, length, slice_index};
 ghost use Rattle.pr_stripe_prepared.specs.Lanes.{HasLanes};
 ghost use Rattle.pr_stripe_prepared.specs.Gather.{gathered_byte};
-ghost use Rattle.pr_stripe_prepared.specs.Operands.{mark_of};
+ghost use Rattle.pr_stripe_prepared.specs.Operands.{with_carry, mark_of};
 ghost use Rattle.pr_base.specs.Pe.{shifted};
-ghost use Rattle.pr_lanes.specs.Rows.{ones_where};
 
 use crate::gathers::gathered;
 use crate::lanes::{high_half, joined, low_half, ones_in, row_of, shifted_row, words_of};
@@ -17,7 +16,7 @@ use std::simd::prelude::*;
 fn mark(q: &Prepared, bits: u8x16, carries: u8x16) -> u8x16
     requires bits { length bits ≡ 16 }
     requires carries { length carries ≡ 16 }
-    ensures { HasLanes 16 result (λ k. if q.now.has_carry then bit_or (slice_index bits k) (ones_where (slice_index carries k) (slice_index q.now.c_carry k)) else slice_index bits k) }
+    ensures { HasLanes 16 result (λ k. with_carry q.now (slice_index bits k) carries k) }
 {
     if !q.has_carry {
         return bits;
@@ -41,7 +40,8 @@ pub(crate) fn operands(
     ensures a { HasLanes 16 result.0 (gathered_byte q.now.both row.now state made) }
     ensures long { length result.1 ≡ 16 }
     ensures b { (k s : ℕ) → k < 16 → slice_index q.now.shifts k ≡ 2 ^ s → s < 8 → (q.now.has_rest ≡ false → s ≡ 0)
-        → slice_index result.1 k ≡ shifted (gathered_byte q.now.both row.now state made (16 + k)) (gathered_byte q.now.rest row.now state made k) s }
+        → slice_index result.1 k
+        ≡ shifted (gathered_byte q.now.both row.now state made (16 + k)) (gathered_byte q.now.rest row.now state made k) s }
     ensures c { HasLanes 16 result.2 (mark_of q.now row.now state made carries) }
 {
     let both = gathered(&q.both, row, state, made, q.reach);

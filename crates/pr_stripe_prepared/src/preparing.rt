@@ -3,7 +3,8 @@
 ghost use Rattle.std.specs.Prelude.{true, ◌≡◌, ◌+◌, ◌*◌, ◌<◌, ◌≤◌, ℕ, List, All, IfOk, IfSome, length, vec_len, slice_index, slice_index_or, ◌/◌, ◌%◌, ◌==◌, if◌then◌else◌};
 ghost use Rattle.pr_conf.specs.declared.pes.Pe.{Pe};
 ghost use Rattle.pr_conf.specs.declared.pes.Source.{Source};
-ghost use Rattle.pr_stripe_prepared.specs.Gather.{gathered_byte, seen_byte};
+ghost use Rattle.pr_stripe_prepared.specs.Gather.{Gathers};
+ghost use Rattle.pr_stripe_prepared.specs.Elements.{AreMarks};
 ghost use Rattle.pr_stripe_prepared.specs.Places.{is_suited};
 ghost use Rattle.pr_stripe_prepared.specs.Prepared.{IsPrepared};
 
@@ -29,7 +30,7 @@ fn marks_of(alloc: Global, pes: &[Pe], registers: usize) -> Result<Vec<u8>, Allo
     requires few { registers ≤ 16 }
     requires pes { length pes.now ≡ 16 }
     ensures long { IfOk result (λ v. vec_len v ≡ registers * 16) }
-    ensures each { IfOk result (λ v. (j : ℕ) (d : Pe) → j < registers * 16 → slice_index v.items j ≡ (if (slice_index_or pes.now (j % 16) d).write == j / 16 + 1 then 255 else 0)) }
+    ensures each { IfOk result (λ v. AreMarks registers pes.now v.items) }
 {
     let mut marks = Vec::new(alloc);
     for reg in 0..registers {
@@ -44,7 +45,7 @@ fn marks_of(alloc: Global, pes: &[Pe], registers: usize) -> Result<Vec<u8>, Allo
 fn gather_of(alloc: Global, sources: &[Source; 32], registers: usize) -> Result<Gather, AllocError>
     requires few { registers ≤ 16 }
     requires suited { (k : ℕ) (d : Source) → k < 32 → is_suited registers (slice_index_or sources.now k d) ≡ true }
-    ensures gives { IfOk result (λ g. (k : ℕ) (d : Source) (row st made : List ℕ) → k < 32 → gathered_byte g row st made k ≡ seen_byte row st made (slice_index_or sources.now k d)) }
+    ensures gives { IfOk result (λ g. Gathers g sources.now) }
     ensures inside { IfOk result (λ g. All (λ t. t.from + 16 ≤ registers * 16) g.terms.items) }
 {
     let terms = terms_of(alloc, &row_row(sources), registers)?;

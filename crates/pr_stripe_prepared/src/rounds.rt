@@ -29,7 +29,8 @@ fn round(q: &Prepared, row: &[u8], state: u8x16, before: Known) -> Known
     ensures a { length result.a ≡ 16 }
     ensures output { length result.output ≡ 16 }
     ensures carries { length result.carries ≡ 16 }
-    ensures right { (pes : List Pe) (count r : ℕ) → IsPrepared q.now pes count → IsRight q.now pes row.now state before.a before.output before.carries r
+    ensures right { (pes : List Pe) (count r : ℕ) → IsPrepared q.now pes count
+        → IsRight q.now pes row.now state before.a before.output before.carries r
         → IsRight q.now pes row.now state result.a result.output result.carries (r + 1) }
 {
     let (a, b, c) = operands(q, row, state, before.output, before.carries);

@@ -5,6 +5,7 @@ ghost use Rattle.pr_conf.specs.declared.pes.Pe.{Pe};
 ghost use Rattle.pr_conf.specs.StageMap.{passed, made_from, registers_to, state_map};
 ghost use Rattle.pr_base.specs.Pe.{Made};
 ghost use Rattle.pr_stripe_columns.specs.Elements.{outputs_of};
+ghost use Rattle.pr_stripe_prepared.specs.Elements.{AreMarks};
 ghost use Rattle.pr_stripe_prepared.specs.Prepared.{IsPrepared};
 
 use crate::lanes::{choose, loaded, row_of, store};
@@ -36,8 +37,8 @@ fn pass(registers: &mut [u8], before: &[u8], marks: &[u8], output: &[u8], count:
     requires marks { length marks.now ≡ count * 16 }
     requires output { length output.now ≡ 16 }
     ensures { (pes : List Pe) (made : List Made) → length pes ≡ 16
-        → ((j : ℕ) (d : Pe) → j < count * 16 → slice_index marks.now j ≡ (if (slice_index_or pes (j % 16) d).write == j / 16 + 1 then 255 else 0))
-        → output.now ≡ outputs_of made → registers.new ≡ registers_to count 16 false pes made before.now }
+        → AreMarks count pes marks.now → output.now ≡ outputs_of made
+        → registers.new ≡ registers_to count 16 false pes made before.now }
 {
     for k in 0..count {
         let at = k * 16;
@@ -67,7 +68,8 @@ pub fn step(
     requires marks { vec_len q.now.marks ≡ count * 16 }
     requires row { q.now.reach ≤ length row.now }
     requires state { length state.old ≡ 16 }
-    ensures registers { (pes : List Pe) → IsPrepared q.now pes count → registers.new ≡ registers_to count 16 false pes (made_from 16 row.now state.old [] pes) before.now }
+    ensures registers { (pes : List Pe) → IsPrepared q.now pes count
+        → registers.new ≡ registers_to count 16 false pes (made_from 16 row.now state.old [] pes) before.now }
     ensures state { (pes : List Pe) → IsPrepared q.now pes count → state.new ≡ state_map 16 pes state.old row.now }
 {
     let was = loaded(state);
@@ -95,9 +97,11 @@ fn wide_step(
     requires marks { vec_len q.now.marks ≡ count * 16 }
     requires wide { q.now.reach ≤ length wide.now }
     requires state { length state.old ≡ 16 }
-    ensures registers { (pes : List Pe) (bus : List ℕ) (k : ℕ) → IsPrepared q.now pes count → wide.now ≡ bus ++ replicate k 0
+    ensures registers { (pes : List Pe) (bus : List ℕ) (k : ℕ) → IsPrepared q.now pes count
+        → wide.now ≡ bus ++ replicate k 0
         → registers.new ≡ registers_to count 16 true pes (made_from 16 bus state.old [] pes) bus }
-    ensures state { (pes : List Pe) (bus : List ℕ) (k : ℕ) → IsPrepared q.now pes count → wide.now ≡ bus ++ replicate k 0
+    ensures state { (pes : List Pe) (bus : List ℕ) (k : ℕ) → IsPrepared q.now pes count
+        → wide.now ≡ bus ++ replicate k 0
         → state.new ≡ state_map 16 pes state.old bus }
 {
     step(q, registers, state, wide, zeros, count);
@@ -130,7 +134,8 @@ pub fn first_step(
     requires marks { vec_len q.now.marks ≡ count * 16 }
     requires reach { q.now.reach ≡ count * 16 }
     requires state { length state.old ≡ 16 }
-    ensures registers { (pes : List Pe) → IsPrepared q.now pes count → registers.new ≡ registers_to count 16 true pes (made_from 16 bus.now state.old [] pes) bus.now }
+    ensures registers { (pes : List Pe) → IsPrepared q.now pes count
+        → registers.new ≡ registers_to count 16 true pes (made_from 16 bus.now state.old [] pes) bus.now }
     ensures state { (pes : List Pe) → IsPrepared q.now pes count → state.new ≡ state_map 16 pes state.old bus.now }
 {
     if bus.len() < 240 {

@@ -10,7 +10,8 @@ use std::alloc::{AllocError, Global};
 /// The places that are in a block of a row, as places of the block.
 fn picks_in(places: &[u16; 32], block: usize) -> [u8; 32]
     requires { block < 1024 }
-    ensures picks { (k : ℕ) → k < 32 → slice_index result k ≡ (if slice_index places.now k / 16 == block then slice_index places.now k % 16 else 128) }
+    ensures picks { (k : ℕ) → k < 32
+        → slice_index result k ≡ (if slice_index places.now k / 16 == block then slice_index places.now k % 16 else 128) }
 {
     let mut picks = [128; 32];
     for k in 0..32 {
@@ -42,7 +43,10 @@ pub(crate) fn terms_of(
 ) -> Result<Vec<Term>, AllocError>
     requires { blocks ≤ 1024 }
     ensures gives { IfOk result (λ v. (k x : ℕ) (row : List ℕ) → k < 32
-        → with_terms k row x v.items ≡ (if nat_lt (slice_index places.now k) (blocks * 16) then bit_or x (slice_index row (slice_index places.now k)) else x)) }
+        → with_terms k row x v.items
+        ≡ (if nat_lt (slice_index places.now k) (blocks * 16)
+        then bit_or x (slice_index row (slice_index places.now k))
+        else x)) }
     ensures inside { IfOk result (λ v. All (λ t. t.from + 16 ≤ blocks * 16) v.items) }
 {
     let mut terms = Vec::new(alloc);

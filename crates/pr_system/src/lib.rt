@@ -16,6 +16,3 @@ pub use streams::OutSink;
 
 /// How often an interrupted call is tried.
 const TRIES: usize = 16;
-
-#[cfg(test)]
-mod tests;

@@ -36,7 +36,7 @@ done_owed files (Moves r) k was bench a told done = move_owed files r k was benc
 done_owed files (Extends r) k was bench a told done = extend_owed files r k a told done.0
 done_owed files (Evaluates first second) k was bench a told done = eval_owed files first second k a told done.0
 done_owed files (Generates g) k was bench a told done = gen_owed g k.old k.new k.before.faults k.now.faults k.out_before k.out_now was bench a done
-done_owed files (Shares list stripes) k was bench a told done = share_owed files list k a told done.0
+done_owed files (Shares list stripes) k was bench a told done = share_owed files list stripes k a told done.0
 
 done_fault : (plan : Plan) (k : Call) (was bench : Bench) (a : Answer) → IsDone plan k was bench a → a ≡ Answer.ReadFault → k.before.told ≡ None → Rose k.before.faults k.now.faults
 done_fault (Texts form source) k was bench a done is untold = text_fault form source k a done.0 is untold
@@ -46,7 +46,7 @@ done_fault (Moves r) k was bench a done is untold = move_fault r k was bench a d
 done_fault (Extends r) k was bench a done is untold = extend_fault r k a done.0 is untold
 done_fault (Evaluates first second) k was bench a done is untold = eval_fault first second k a done.0 is untold
 done_fault (Generates g) k was bench a done is untold = absurd (gen_fault g k.old k.new k.out_before k.out_now was bench a done is)
-done_fault (Shares list stripes) k was bench a done is untold = share_fault list k a done.0 is untold
+done_fault (Shares list stripes) k was bench a done is untold = share_fault list stripes k a done.0 is untold
 
 done_write : (plan : Plan) (k : Call) (was bench : Bench) (a : Answer) → IsDone plan k was bench a → a ≡ Answer.WriteFault → Rose k.out_before k.out_now
 done_write (Texts form source) k was bench a done is = text_write form source k a done.0 is
@@ -56,7 +56,7 @@ done_write (Moves r) k was bench a done is = move_write r k was bench a done is
 done_write (Extends r) k was bench a done is = extend_write r k a done.0 is
 done_write (Evaluates first second) k was bench a done is = eval_write first second k a done.0 is
 done_write (Generates g) k was bench a done is = gen_write g k.old k.new k.out_before k.out_now was bench a done is
-done_write (Shares list stripes) k was bench a done is = share_write list k a done.0 is
+done_write (Shares list stripes) k was bench a done is = share_write list stripes k a done.0 is
 
 done_memory : (plan : Plan) (k : Call) (was bench : Bench) (a : Answer) → IsDone plan k was bench a → a ≡ Answer.Memory → (k.new ≡ k.old) × (bench ≡ was)
 done_memory (Texts form source) k was bench a done is = (text_memory form source k a done.0 is, done.1)
@@ -66,7 +66,7 @@ done_memory (Moves r) k was bench a done is = move_memory r k was bench a done i
 done_memory (Extends r) k was bench a done is = (extend_memory r k a done.0 is, done.1)
 done_memory (Evaluates first second) k was bench a done is = (eval_memory first second k a done.0 is, done.1)
 done_memory (Generates g) k was bench a done is = gen_memory g k.old k.new k.out_before k.out_now was bench a done is
-done_memory (Shares list stripes) k was bench a done is = (share_memory list k a done.0 is, done.1)
+done_memory (Shares list stripes) k was bench a done is = (share_memory list stripes k a done.0 is, done.1)
 
 done_usage : (plan : Plan) (k : Call) (was bench : Bench) (a : Answer) → IsDone plan k was bench a → a ≡ Answer.Usage → ⊥
 done_usage (Texts form source) k was bench a done is = text_usage form source k a done.0 is
@@ -76,7 +76,7 @@ done_usage (Moves r) k was bench a done is = move_usage r k was bench a done is
 done_usage (Extends r) k was bench a done is = extend_usage r k a done.0 is
 done_usage (Evaluates first second) k was bench a done is = eval_usage first second k a done.0 is
 done_usage (Generates g) k was bench a done is = gen_usage g k.old k.new k.out_before k.out_now was bench a done is
-done_usage (Shares list stripes) k was bench a done is = share_usage list k a done.0 is
+done_usage (Shares list stripes) k was bench a done is = share_usage list stripes k a done.0 is
 
 -- memory wanted before anything was done
 memory_lines : (files : List ℕ → Option (List ℕ)) (j : Job) (source : Source) (k : Call) (was bench : Bench) → IsUnchanged k was bench → AreLines files j source k was bench Answer.Memory
@@ -107,7 +107,7 @@ done_gained files (Moves r) k was bench a told done = move_lines files r k was b
 done_gained files (Extends r) k was bench a told done = (extend_bytes files r k a told done.0, done.1)
 done_gained files (Evaluates first second) k was bench a told done = (eval_lines files first second k a told done.0, done.1)
 done_gained files (Generates g) k was bench a told done = done
-done_gained files (Shares list stripes) k was bench a told done = (share_lines files list k a told done.0, done.1)
+done_gained files (Shares list stripes) k was bench a told done = (share_lines files list stripes k a told done.0, done.1)
 
 -- ---- calls
 -- by what was asked for

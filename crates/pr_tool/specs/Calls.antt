@@ -33,7 +33,7 @@ IsDone (Moves r) k was bench answer = HasMoved r k was bench answer
 IsDone (Extends r) k was bench answer = HasExtended r k answer × (bench ≡ was)
 IsDone (Evaluates first second) k was bench answer = IsEvaluated first second k answer × (bench ≡ was)
 IsDone (Generates g) k was bench answer = IsGenerated g k.old k.new k.out_before k.out_now was bench answer
-IsDone (Shares list stripes) k was bench answer = IsSharedBy list k answer × (bench ≡ was)
+IsDone (Shares list stripes) k was bench answer = IsSharedBy list stripes k answer × (bench ≡ was)
 
 -- what a call comes to: memory may want before anything is done
 abbrev pub IsCalled : Asked → Call → Bench → Bench → Answer → Type 0

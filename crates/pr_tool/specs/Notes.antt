@@ -1,6 +1,7 @@
 -- The line that goes to the note where the answer is not Ok.
 use Rattle.std.specs.Prelude.{ℕ, List, [], ◌∷◌, ◌++◌, codes, decimal}
 use Rattle.pr_base.specs.declared.caps.Cap.{Cap}
+use Rattle.pr_base.specs.Limits.{cap_number}
 use Rattle.pr_tool_answers.specs.declared.answers.Answer.{Answer}
 use Rattle.pr_tool_answers.specs.declared.answers.Cause.{Cause}
 use Rattle.pr_tool.specs.declared.notes.Bounds.{Bounds}
@@ -19,20 +20,10 @@ cap_name Cap.SampleBytes = codes "sample-bytes"
 cap_name Cap.Samples = codes "samples"
 cap_name Cap.ListBytes = codes "list-bytes"
 
--- the number that a quantity may not pass
-abbrev pub cap_number : Bounds → Cap → ℕ
-cap_number bounds Cap.ProgramBytes = 1048576
-cap_number bounds Cap.Nesting = 256
-cap_number bounds Cap.Turns = 65536
-cap_number bounds Cap.Equations = 16384
-cap_number bounds Cap.InputBytes = bounds.input_bytes
-cap_number bounds Cap.Outputs = 64
-cap_number bounds Cap.Units = 32768
-cap_number bounds Cap.StallBytes = 1048576
-cap_number bounds Cap.ConfigBytes = 16777216
-cap_number bounds Cap.SampleBytes = bounds.sample_bytes
-cap_number bounds Cap.Samples = 1099511627776
-cap_number bounds Cap.ListBytes = 65536
+-- the number that a quantity may not pass in a call
+abbrev pub bound_of : Bounds → Cap → ℕ
+bound_of bounds Cap.SampleBytes = bounds.sample_bytes
+bound_of bounds which = cap_number bounds.fabric which
 
 -- the line of a cause, without its end
 abbrev pub cause_text : Bounds → Cause → List ℕ
@@ -40,7 +31,7 @@ cause_text bounds (Cause.Syntax token) = codes "syntax: token " ++ decimal token
 cause_text bounds (Cause.Scope rule item) = codes "scope: rule " ++ decimal rule ++ codes " item " ++ decimal item
 cause_text bounds (Cause.NoWidth equation) = codes "no width: equation " ++ decimal equation
 cause_text bounds (Cause.NoFit unit) = codes "no fit: unit " ++ decimal unit
-cause_text bounds (Cause.Limit which) = codes "limit: " ++ cap_name which ++ codes " " ++ decimal (cap_number bounds which)
+cause_text bounds (Cause.Limit which) = codes "limit: " ++ cap_name which ++ codes " " ++ decimal (bound_of bounds which)
 cause_text bounds (Cause.BadSample line) = codes "bad sample: line " ++ decimal line
 
 -- the line of an answer, without its end; Ok has none

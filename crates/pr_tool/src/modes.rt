@@ -22,9 +22,11 @@ pub fn carry_out<S: Shelf, K: Sink>(
     bench: &mut Bench,
 ) -> Answer
     ensures done { IsDone (plan_in plan.now) (call
-        (view (S.told shelf.old) (S.reach shelf.old) (S.faults shelf.old)) (view (S.told shelf.new) (S.reach shelf.new) (S.faults shelf.new))
+        (view (S.told shelf.old) (S.reach shelf.old) (S.faults shelf.old))
+        (view (S.told shelf.new) (S.reach shelf.new) (S.faults shelf.new))
         (K.told out.old) (K.told out.new) (K.faults out.old) (K.faults out.new)) bench.old bench.new result }
-    ensures other_files { (q : List ℕ) → IsOtherFile (plan_in plan.now) q → S.reach shelf.new q ≡ S.reach shelf.old q }
+    ensures other_files { (q : List ℕ) → IsOtherFile (S.told shelf.old) (plan_in plan.now) q
+        → S.reach shelf.new q ≡ S.reach shelf.old q }
     ensures told { S.told shelf.new ≡ S.told shelf.old }
     ensures shelf_later { S.faults shelf.old ≤ S.faults shelf.new }
     ensures out_later { K.faults out.old ≤ K.faults out.new }

@@ -1,12 +1,12 @@
 //! The line that goes to the note.
 ghost use Rattle.std.specs.Prelude.{◌≡◌, ◌+◌, ◌≤◌, ◌++◌, length, decimal};
 ghost use Rattle.arrayvec.specs.ArrayString.{array_string_len};
-ghost use Rattle.pr_tool.specs.Notes.{cap_name, cap_number, cause_text, answer_text, note_of};
+ghost use Rattle.pr_tool.specs.Notes.{bound_of, cap_name, cause_text, answer_text, note_of};
 ghost use Rattle.pr_tool.specs.Noted.{GainsNote};
 
 use arrayvec::ArrayString;
 use itoa::Buffer;
-use pr_base::Cap;
+use pr_base::{Cap, Fabric};
 use pr_edge::{Sink, write_all};
 use pr_tool_answers::{Answer, Cause};
 
@@ -15,8 +15,8 @@ type Line = ArrayString<128>;
 /// The limits that are not the same in every call.
 #[derive(Clone, Copy, PartialEq, Eq, Debug)]
 pub struct Bounds {
-    /// Slices of all inputs together: the columns of the fabric used.
-    pub input_bytes: u64,
+    /// The fabric that programs are for.
+    pub fabric: Fabric,
     /// Bytes of a sample file.
     pub sample_bytes: u64,
 }
@@ -24,25 +24,17 @@ pub struct Bounds {
 impl Bounds {
     /// Those of a call that asks for nothing.
     pub const BASE: Bounds = Bounds {
-        input_bytes: 16,
-        sample_bytes: 17_592_186_044_416,
+        fabric: Fabric::Base,
+        sample_bytes: Cap::MOST_SAMPLE_BYTES,
     };
 
     /// The number that the quantity may not pass.
     pub fn number(&self, which: Cap) -> u64
-        ensures { result ≡ cap_number self.now which }
+        ensures { result ≡ bound_of self.now which }
     {
         match which {
-            Cap::ProgramBytes | Cap::StallBytes => 1_048_576,
-            Cap::Nesting => 256,
-            Cap::Turns | Cap::ListBytes => 65_536,
-            Cap::Equations => 16_384,
-            Cap::InputBytes => self.input_bytes,
-            Cap::Outputs => 64,
-            Cap::Units => 32_768,
-            Cap::ConfigBytes => 16_777_216,
             Cap::SampleBytes => self.sample_bytes,
-            Cap::Samples => 1_099_511_627_776,
+            other => other.number(self.fabric),
         }
     }
 }
@@ -138,7 +130,8 @@ fn put_answer(text: &mut Line, bounds: &Bounds, answer: &Answer)
 
 /// Writes the line of an answer that is not Ok. It takes no memory, and a failure of it is of no account.
 pub fn put_note<E: Sink>(note: &mut E, bounds: &Bounds, answer: &Answer)
-    ensures gains { GainsNote (E.told note.old) (E.told note.new) (E.faults note.old) (E.faults note.new) (note_of bounds.now answer.now) }
+    ensures gains { GainsNote (E.told note.old) (E.told note.new) (E.faults note.old) (E.faults note.new)
+        (note_of bounds.now answer.now) }
     ensures later { E.faults note.old ≤ E.faults note.new }
 {
     if let Answer::Ok = answer {

@@ -2,11 +2,12 @@
 ghost use Rattle.std.specs.Prelude.{◌≡◌, false, option_map};
 ghost use Rattle.pr_tool_words.specs.Orders.{order_of};
 ghost use Rattle.pr_tool_modes.specs.Jobs.{job, stall_in, source_of, resumption_of};
-ghost use Rattle.pr_tool.specs.Plans.{Runs, Folds, plan_of, plan_in};
+ghost use Rattle.pr_tool_modes.specs.Sources.{File, Text};
+ghost use Rattle.pr_tool.specs.Plans.{Texts, Runs, Folds, plan_of, plan_in};
 
 use pr_tool_modes::{Form, Generation, Job, Resumption, Run, Source, Target};
 use pr_tool_share::Sharing;
-use pr_tool_words::{Mode, Options, Words};
+use pr_tool_words::{GenSize, Mode, Options, Words};
 
 /// What is done for a command line.
 #[derive(Clone, Copy, PartialEq, Eq, Debug)]
@@ -29,6 +30,53 @@ pub enum Plan<'a> {
     Shares(Sharing<'a>),
 }
 
+/// What programs are compiled for.
+fn target(options: &Options<'_>) -> Target
+    ensures { result ≡ record { fabric = options.now.fabric; narrowed = options.now.narrow } }
+{
+    Target {
+        fabric: options.fabric,
+        narrowed: options.narrow,
+    }
+}
+
+/// A configuration file.
+fn file(name: &str) -> Source<'_>
+    ensures { source_of result ≡ File name.now }
+{
+    Source::File { name }
+}
+
+/// The file of a program, with the options of a command line.
+fn program<'a>(options: &Options<'a>, name: &'a str) -> Source<'a>
+    ensures { source_of result ≡ Text name.now (record { fabric = options.now.fabric; narrowed = options.now.narrow }) }
+{
+    Source::Program {
+        name,
+        target: target(options),
+    }
+}
+
+/// A text of the configuration of a source.
+fn texts<'a>(form: Form, source: Source<'a>) -> Plan<'a>
+    ensures { plan_in result ≡ Texts form (source_of source.entry) }
+{
+    Plan::Texts { form, source }
+}
+
+/// A run of a generated program, with the options of a command line.
+fn generation(options: &Options<'_>, size: GenSize) -> Generation
+    ensures turns { result.turns ≡ size.turns }
+    ensures target { result.target ≡ record { fabric = options.now.fabric; narrowed = options.now.narrow } }
+    ensures stripes { result.stripes ≡ options.now.stripes }
+{
+    Generation {
+        turns: size.turns,
+        target: target(options),
+        stripes: options.stripes,
+    }
+}
+
 /// On what samples a configuration is run, and how, with the options of a command line.
 fn run_on<'a>(options: &Options<'a>, samples: &'a str, log: bool) -> Run<'a>
     ensures samples { result.samples.now ≡ samples.now }
@@ -46,7 +94,13 @@ fn run_on<'a>(options: &Options<'a>, samples: &'a str, log: bool) -> Run<'a>
 
 /// A run that goes on from a checkpoint, with the options of a command line.
 fn resumption<'a>(options: &Options<'a>, checkpoint: &'a str, samples: &'a str) -> Resumption<'a>
-    ensures { resumption_of result ≡ record { name = checkpoint.now; second = samples.now; stall = option_map (λ s. s.now) options.now.stall; stripes = options.now.stripes; log = false } }
+    ensures { resumption_of result ≡ record {
+      name = checkpoint.now;
+      second = samples.now;
+      stall = option_map (λ s. s.now) options.now.stall;
+      stripes = options.now.stripes;
+      log = false;
+    } }
 {
     Resumption {
         checkpoint,
@@ -56,7 +110,8 @@ fn resumption<'a>(options: &Options<'a>, checkpoint: &'a str, samples: &'a str) 
 
 /// A run of a source on samples, with the options of a command line.
 fn runs<'a>(options: &Options<'a>, source: Source<'a>, samples: &'a str, log: bool) -> Plan<'a>
-    ensures { plan_in result ≡ Runs (job (source_of source.entry) samples.now (option_map (λ s. s.now) options.now.stall) options.now.stripes log) }
+    ensures { plan_in result ≡ Runs
+        (job (source_of source.entry) samples.now (option_map (λ s. s.now) options.now.stall) options.now.stripes log) }
 {
     Plan::Runs(Job {
         source,
@@ -66,7 +121,9 @@ fn runs<'a>(options: &Options<'a>, source: Source<'a>, samples: &'a str, log: bo
 
 /// A run of a source for the checkpoint after these samples, with the options of a command line.
 fn folds<'a>(options: &Options<'a>, source: Source<'a>, samples: &'a str) -> Plan<'a>
-    ensures { plan_in result ≡ Folds (job (source_of source.entry) samples.now (option_map (λ s. s.now) options.now.stall) options.now.stripes false) }
+    ensures { plan_in result ≡ Folds
+        (job (source_of source.entry) samples.now (option_map (λ s. s.now) options.now.stall) options.now.stripes
+        false) }
 {
     Plan::Folds(Job {
         source,
@@ -74,64 +131,44 @@ fn folds<'a>(options: &Options<'a>, source: Source<'a>, samples: &'a str) -> Pla
     })
 }
 
+/// The programs of a list, with the options of a command line.
+fn sharing<'a>(options: &Options<'_>, list: &'a str) -> Sharing<'a>
+    ensures list { result.list.now ≡ list.now }
+    ensures stripes { result.stripes ≡ options.now.stripes }
+{
+    Sharing {
+        list,
+        stripes: options.stripes,
+    }
+}
+
 /// What is done for a lawful command line.
 pub fn plan_of<'a>(words: &Words<'a>) -> Plan<'a>
     ensures { plan_in result ≡ plan_of (order_of words.now) }
 {
     let options = &words.options;
-    let target = Target {
-        fabric: options.fabric,
-        narrowed: options.narrow,
-    };
     match words.mode {
-        Mode::Show {
-            configuration: name,
-        } => Plan::Texts {
-            form: Form::Summary,
-            source: Source::File { name },
-        },
-        Mode::Migrate {
-            configuration: name,
-        } => Plan::Texts {
-            form: Form::File,
-            source: Source::File { name },
-        },
+        Mode::Show { configuration } => texts(Form::Summary, file(configuration)),
+        Mode::Migrate { configuration } => texts(Form::File, file(configuration)),
+        Mode::Compile { program: name } => texts(Form::File, program(options, name)),
         Mode::Exec {
-            configuration: name,
+            configuration,
             samples,
-        } => runs(options, Source::File { name }, samples, false),
-        Mode::Eval { program, samples } => Plan::Evaluates { program, samples },
-        Mode::Compile { program: name } => {
-            let source = Source::Program { name, target };
-            let form = Form::File;
-            Plan::Texts { form, source }
-        }
+        } => runs(options, file(configuration), samples, false),
         Mode::Run {
             program: name,
             samples,
-        } => {
-            let source = Source::Program { name, target };
-            runs(options, source, samples, false)
-        }
+        } => runs(options, program(options, name), samples, false),
         Mode::Trace {
             program: name,
             samples,
-        } => {
-            let source = Source::Program { name, target };
-            runs(options, source, samples, true)
-        }
-        Mode::Gen { size } => Plan::Generates(Generation {
-            turns: size.turns,
-            target,
-            stripes: options.stripes,
-        }),
+        } => runs(options, program(options, name), samples, true),
         Mode::Checkpoint {
             program: name,
             samples,
-        } => {
-            let source = Source::Program { name, target };
-            folds(options, source, samples)
-        }
+        } => folds(options, program(options, name), samples),
+        Mode::Eval { program, samples } => Plan::Evaluates { program, samples },
+        Mode::Gen { size } => Plan::Generates(generation(options, size)),
         Mode::Move {
             checkpoint,
             samples,
@@ -140,9 +177,6 @@ pub fn plan_of<'a>(words: &Words<'a>) -> Plan<'a>
             checkpoint,
             samples,
         } => Plan::Extends(resumption(options, checkpoint, samples)),
-        Mode::Share { list } => Plan::Shares(Sharing {
-            list,
-            stripes: options.stripes,
-        }),
+        Mode::Share { list } => Plan::Shares(sharing(options, list)),
     }
 }

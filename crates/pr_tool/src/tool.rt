@@ -13,15 +13,16 @@ ghost use Rattle.pr_tool_modes.specs.declared.targets.Target.{Target};
 ghost use Rattle.pr_tool.specs.Notes.{note_of};
 ghost use Rattle.pr_tool.specs.Noted.{GainsNote};
 ghost use Rattle.pr_tool.specs.Plans.{Runs, plan_of};
-ghost use Rattle.pr_tool.specs.Words.{asked_by, bounds_for, bounds_in, input_bytes, IsOther};
+ghost use Rattle.pr_tool.specs.Words.{asked_by, bounds_for, bounds_in, fabric_for, IsOther};
 ghost use Rattle.pr_tool.specs.Calls.{IsUnchanged, IsCalled, IsVerdict, IsToldVerdict, HasGained};
 
 use crate::modes::carry_out;
 use crate::notes::{Bounds, put_note};
 use crate::plans::plan_of;
+use pr_base::{Cap, Fabric};
 use pr_edge::{Shelf, Sink};
 use pr_tool_answers::Answer;
-use pr_tool_modes::{Bench, Fabric};
+use pr_tool_modes::Bench;
 use pr_tool_words::{Mode, Words, WordsFault, read_words};
 use std::alloc::Global;
 
@@ -49,14 +50,17 @@ pub fn piperench<S: Shelf, K: Sink, E: Sink>(
 ) -> Answer
     // What it came to, by the plan of the words: what was read, what is written, and what is on the bench.
     ensures called { IsCalled (asked_by words.now) (call
-        (view (S.told shelf.old) (S.reach shelf.old) (S.faults shelf.old)) (view (S.told shelf.new) (S.reach shelf.new) (S.faults shelf.new))
+        (view (S.told shelf.old) (S.reach shelf.old) (S.faults shelf.old))
+        (view (S.told shelf.new) (S.reach shelf.new) (S.faults shelf.new))
         (K.told out.old) (K.told out.new) (K.faults out.old) (K.faults out.new)) bench.old bench.new result }
 
     // Over told files the answer is the verdict on words and files, or a fault that was counted, or want of memory; and where
     // no count rises it is the verdict or want of memory.
     ensures verdict { (files : List ℕ → Option (List ℕ)) → S.told shelf.old ≡ Some files
-        → IsOwed (IsVerdict files (asked_by words.now)) (S.faults shelf.old) (S.faults shelf.new) (K.faults out.old) (K.faults out.new) result }
-    ensures complete { (files : List ℕ → Option (List ℕ)) → S.told shelf.old ≡ Some files → IsSteady (S.faults shelf.old) (S.faults shelf.new) → IsSteady (K.faults out.old) (K.faults out.new)
+        → IsOwed (IsVerdict files (asked_by words.now)) (S.faults shelf.old) (S.faults shelf.new) (K.faults out.old)
+        (K.faults out.new) result }
+    ensures complete { (files : List ℕ → Option (List ℕ)) → S.told shelf.old ≡ Some files
+        → IsSteady (S.faults shelf.old) (S.faults shelf.new) → IsSteady (K.faults out.old) (K.faults out.new)
         → IsVerdict files (asked_by words.now) result ⊎ (result ≡ Answer.Memory) }
 
     // The headline, for every text of samples, every number of stripes from 2 to 256, every stall text and both fabrics. Over told
@@ -66,50 +70,56 @@ pub fn piperench<S: Shelf, K: Sink, E: Sink>(
     // that drain the samples. After a read fault they are first samples, and all their lines are written, or no run was begun.
     // After a write fault first bytes of the lines are. With the log the same lines stand among those of the cycles. At every
     // other answer no run was begun: nothing is written, and the bench is as it was.
-    ensures lines { (files : List ℕ → Option (List ℕ)) (order : Order) (j : Job) (name : List ℕ) (target : Target) → S.told shelf.old ≡ Some files
+    ensures lines { (files : List ℕ → Option (List ℕ)) (order : Order) (j : Job) (name : List ℕ) (target : Target)
+        → S.told shelf.old ≡ Some files
         → asked_by words.now ≡ Some order → plan_of order ≡ Runs j → j.source ≡ Text name target
         → AreProgramLines files j (call
-        (view (S.told shelf.old) (S.reach shelf.old) (S.faults shelf.old)) (view (S.told shelf.new) (S.reach shelf.new) (S.faults shelf.new))
+        (view (S.told shelf.old) (S.reach shelf.old) (S.faults shelf.old))
+        (view (S.told shelf.new) (S.reach shelf.new) (S.faults shelf.new))
         (K.told out.old) (K.told out.new) (K.faults out.old) (K.faults out.new)) bench.old bench.new result }
 
     // What each plan has written over told files, and what is on the bench. A checkpoint has the number of its samples, with those
     // before, and the configuration as they left it, and comes of samples that are all good alone; the bench is as it was. A run that
     // goes on from one writes the lines of the further samples, which are the rest of what the program means (`moving_law`). The
     // programs of a list have written the text of their turns, in which the lines of each are those that it writes alone.
-    ensures gained { (files : List ℕ → Option (List ℕ)) (order : Order) → S.told shelf.old ≡ Some files → asked_by words.now ≡ Some order
+    ensures gained { (files : List ℕ → Option (List ℕ)) (order : Order) → S.told shelf.old ≡ Some files
+        → asked_by words.now ≡ Some order
         → HasGained files (plan_of order) (call
-        (view (S.told shelf.old) (S.reach shelf.old) (S.faults shelf.old)) (view (S.told shelf.new) (S.reach shelf.new) (S.faults shelf.new))
+        (view (S.told shelf.old) (S.reach shelf.old) (S.faults shelf.old))
+        (view (S.told shelf.new) (S.reach shelf.new) (S.faults shelf.new))
         (K.told out.old) (K.told out.new) (K.faults out.old) (K.faults out.new)) bench.old bench.new result }
 
     // Each answer by its cause: wrong words, a failed read, a failed write, want of memory.
     ensures usage { result ≡ Answer.Usage → asked_by words.now ≡ None }
     ensures wrong { asked_by words.now ≡ None → (result ≡ Answer.Usage) ⊎ (result ≡ Answer.Memory) }
-    ensures read_fault { result ≡ Answer.ReadFault → IsToldVerdict (S.told shelf.old) (asked_by words.now) result ⊎ Rose (S.faults shelf.old) (S.faults shelf.new) }
+    ensures read_fault { result ≡ Answer.ReadFault
+        → IsToldVerdict (S.told shelf.old) (asked_by words.now) result
+        ⊎ Rose (S.faults shelf.old) (S.faults shelf.new) }
     ensures write_fault { result ≡ Answer.WriteFault → Rose (K.faults out.old) (K.faults out.new) }
     ensures memory { result ≡ Answer.Memory → (K.told out.new ≡ K.told out.old) × (bench.new ≡ bench.old) }
 
-    // Only the files of the plan are read.
-    ensures other_files { (q : List ℕ) → IsOther (asked_by words.now) q → S.reach shelf.new q ≡ S.reach shelf.old q }
+    // Only the files of the plan are read, and those that a list of programs names.
+    ensures other_files { (q : List ℕ) → IsOther (S.told shelf.old) (asked_by words.now) q
+        → S.reach shelf.new q ≡ S.reach shelf.old q }
 
-    ensures note { GainsNote (E.told note.old) (E.told note.new) (E.faults note.old) (E.faults note.new) (note_of (bounds_in (asked_by words.now)) result) }
+    ensures note { GainsNote (E.told note.old) (E.told note.new) (E.faults note.old) (E.faults note.new)
+        (note_of (bounds_in (asked_by words.now)) result) }
     ensures told { S.told shelf.new ≡ S.told shelf.old }
-    ensures counts { (S.faults shelf.old ≤ S.faults shelf.new) × (K.faults out.old ≤ K.faults out.new) × (E.faults note.old ≤ E.faults note.new) }
+    ensures counts { (S.faults shelf.old ≤ S.faults shelf.new) × (K.faults out.old ≤ K.faults out.new)
+        × (E.faults note.old ≤ E.faults note.new) }
 {
     let reply = reply_to(alloc, words, shelf, out, bench);
     put_note(note, &reply.bounds, &reply.answer);
     reply.answer
 }
 
-/// The slices of all inputs at most: the columns of the fabric. The programs of a list are for the base fabric.
-fn input_bytes(words: &Words<'_>) -> u64
-    ensures { result ≡ input_bytes (order_of words.now) (order_of words.now).task }
+/// The fabric of the programs of a command line. Those of a list are for the base fabric.
+fn fabric_for(words: &Words<'_>) -> Fabric
+    ensures { result ≡ fabric_for (order_of words.now) (order_of words.now).task }
 {
-    if let Mode::Share { .. } = words.mode {
-        return 16;
-    }
-    match words.options.fabric {
-        Fabric::Base => 16,
-        Fabric::Wide => 32,
+    match words.mode {
+        Mode::Share { .. } => Fabric::Base,
+        _ => words.options.fabric,
     }
 }
 
@@ -117,13 +127,13 @@ fn input_bytes(words: &Words<'_>) -> u64
 fn bounds_of(words: &Words<'_>) -> Bounds
     ensures { result ≡ bounds_for (order_of words.now) }
 {
-    let input_bytes = input_bytes(words);
+    let fabric = fabric_for(words);
     let sample_bytes = match words.mode {
-        Mode::Eval { .. } => 16_777_216,
-        _ => 17_592_186_044_416,
+        Mode::Eval { .. } => Cap::MOST_EVALUATED_BYTES,
+        _ => Cap::MOST_SAMPLE_BYTES,
     };
     Bounds {
-        input_bytes,
+        fabric,
         sample_bytes,
     }
 }
@@ -137,10 +147,12 @@ fn reply_to<S: Shelf, K: Sink>(
     bench: &mut Bench,
 ) -> Reply
     ensures called { IsCalled (asked_by words.now) (call
-        (view (S.told shelf.old) (S.reach shelf.old) (S.faults shelf.old)) (view (S.told shelf.new) (S.reach shelf.new) (S.faults shelf.new))
+        (view (S.told shelf.old) (S.reach shelf.old) (S.faults shelf.old))
+        (view (S.told shelf.new) (S.reach shelf.new) (S.faults shelf.new))
         (K.told out.old) (K.told out.new) (K.faults out.old) (K.faults out.new)) bench.old bench.new result.answer }
     ensures bounds { note_of result.bounds result.answer ≡ note_of (bounds_in (asked_by words.now)) result.answer }
-    ensures other_files { (q : List ℕ) → IsOther (asked_by words.now) q → S.reach shelf.new q ≡ S.reach shelf.old q }
+    ensures other_files { (q : List ℕ) → IsOther (S.told shelf.old) (asked_by words.now) q
+        → S.reach shelf.new q ≡ S.reach shelf.old q }
     ensures told { S.told shelf.new ≡ S.told shelf.old }
     ensures shelf_later { S.faults shelf.old ≤ S.faults shelf.new }
     ensures out_later { K.faults out.old ≤ K.faults out.new }

@@ -1,7 +1,8 @@
 -- The file that is written of a configuration is read as it, and a run of it writes the same.
 use Rattle.std.proofs.Common.{◌≡◌, ◌≤◌, ◌^◌, ◌∙◌, ℕ, Bool, true, false, ◌&&◌, nat_le, nat_lt, List, [], ◌∷◌, length, map, Option, Some, None, refl, sym, ap, ap₂, subst, arith, inl, inr, true≢false}
 use Rattle.std.specs.List.{list_all}
-use Rattle.pr_code.specs.declared.fabrics.Fabric.{Fabric}
+use Rattle.pr_base.specs.Fabrics.{columns, registers}
+use Rattle.pr_base.specs.declared.fabrics.Fabric.{Fabric}
 use Rattle.pr_code.specs.Spelling.{bytes_of_words, words_of, are_widths_within, has_bytes, IsFile}
 use Rattle.pr_code.specs.Rules.{bad_word, shape_read}
 use Rattle.pr_code.proofs.AgainFiles.{file_again}
@@ -27,7 +28,7 @@ use Rattle.pr_tool_modes.specs.Jobs.{Job}
 use Rattle.pr_tool_modes.specs.Lines.{HasRunOn, IsWholeRun, MeansLines, NoMore}
 use Rattle.pr_tool_modes.specs.Runs.{ends_well}
 use Rattle.pr_tool_modes.specs.Samples.{fed_in, pieces, samples_verdict}
-use Rattle.pr_tool_modes.specs.Sources.{File, Text, columns, registers, Gives}
+use Rattle.pr_tool_modes.specs.Sources.{File, Text, Gives}
 use Rattle.pr_tool_modes.specs.Stalls.{IsStallText, HasStall, after_stall}
 use Rattle.pr_tool_modes.specs.Texts.{text_in}
 use Rattle.pr_tool_modes.proofs.CompileLaws.{is_lawful}

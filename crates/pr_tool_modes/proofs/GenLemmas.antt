@@ -1,6 +1,7 @@
 -- From a run over texts in memory to what is told of it.
 use Rattle.std.proofs.Common.{◌≡◌, ◌⊎◌, ◌≤◌, ◌<◌, ◌∙◌, ℕ, true, List, [], length, map, vec_len, Option, Some, None, refl, sym, ap, subst, arith, inl, inr}
 use Rattle.std.proofs.lemmas.List.{length-map}
+use Rattle.pr_base.specs.Fabrics.{columns, registers}
 use Rattle.pr_base.specs.declared.caps.Cap.{Cap}
 use Rattle.pr_base.specs.Rows.{row_bytes, written}
 use Rattle.pr_compile.specs.Configured.{HasUnits}
@@ -26,14 +27,15 @@ use Rattle.pr_tool_answers.specs.Owed.{IsOwed}
 use Rattle.pr_tool_modes.specs.declared.benches.Bench.{Bench}
 use Rattle.pr_tool_modes.specs.declared.loadables.Loadable.{Loadable}
 use Rattle.pr_tool_modes.specs.Calls.{Call}
-use Rattle.pr_tool_modes.specs.Executions.{IsRunOf, HasCome}
+use Rattle.pr_tool_modes.specs.declared.executions.Ran.{Ran}
+use Rattle.pr_tool_modes.specs.Executions.{bench_in, IsRunOn, IsRunOf, HasCome}
 use Rattle.pr_tool_modes.specs.Generations.{Generation, generated, program_file, job_for, summary, Tells, TellsOn, HasGenerated, IsGenVerdict}
 use Rattle.pr_tool_modes.specs.Lines.{HasRunOn, OnBench, IsWholeRun, MeansLines}
 use Rattle.pr_tool_modes.specs.Programs.{IsCounted, IsUncompiled}
 use Rattle.pr_tool_modes.specs.Files.{IsFileRefusal}
 use Rattle.pr_tool_modes.specs.Samples.{fed_in, pieces}
-use Rattle.pr_tool_modes.specs.Stalls.{HasStall}
-use Rattle.pr_tool_modes.specs.Sources.{Text, Gives, columns, registers, columns_in, registers_in, shape_in, IsOnFabric, IsRefusedSource}
+use Rattle.pr_tool_modes.specs.Stalls.{HasStall, IsStallRefusal}
+use Rattle.pr_tool_modes.specs.Sources.{Text, Gives, columns_in, registers_in, shape_in, IsOnFabric, IsRefusedSource}
 use Rattle.pr_tool_modes.proofs.LinesLemmas.{program_lines}
 use Rattle.pr_tool_modes.proofs.RunVerdicts.{come_of, run_owed}
 use Rattle.pr_tool_modes.proofs.SourceLemmas.{source_owed, source_kind}
@@ -110,22 +112,21 @@ come : (g : Generation) (k : Call) (loaded : Loadable) (bench : Bench) (a : Answ
 come g k loaded bench a told gives ran =
     come_of (job_for g) k k.before loaded Bench.Nothing bench a (subst (λ (t : Told). Gives t (job_for g).source (columns_in loaded) (registers_in loaded) (shape_in loaded)) (sym told) gives) refl (omega arith) (λ q other. refl) ran
 
-told_bench : (g : Generation) (k : Call) (bench : Bench) (units : ℕ) (bytes text : List ℕ) → 2 ≤ g.stripes → k.old.bytes ≡ Some [] → k.new.bytes ≡ Some bytes
-    → IsWholeRun (MeansLines (generated g.turns) (job_for g)) (generated g.turns) (job_for g) samples_text k bench End → IsCounted (Some (generated g.turns)) program_file g.target.narrowed units
-    → TellsOn g.turns units bytes text bench → OnBench (λ N P machine. HasGenerated g (λ t. text ≡ t) machine) bench
-told_bench g k Bench.Nothing units bytes text two empty now whole counts tells = absurd whole.ran
-told_bench g k (Bench.Base machine) units bytes text two empty now whole counts tells =
-    told_run g k whole.widths machine units bytes text two whole.ran whole.ends (gained_means g k whole.widths _ bytes empty now whole.means) counts tells
-told_bench g k (Bench.Wide machine) units bytes text two empty now whole counts tells =
-    told_run g k whole.widths machine units bytes text two whole.ran whole.ends (gained_means g k whole.widths _ bytes empty now whole.means) counts tells
+told_ran : (g : Generation) (k : Call) (ran : Ran) (units : ℕ) (bytes text : List ℕ) → 2 ≤ g.stripes → k.old.bytes ≡ Some [] → k.new.bytes ≡ Some bytes
+    → IsWholeRun (MeansLines (generated g.turns) (job_for g)) (generated g.turns) (job_for g) samples_text k (bench_in ran) End → IsCounted (Some (generated g.turns)) program_file g.target.narrowed units
+    → TellsOn g.turns units bytes text ran → OnBench (λ N P machine. HasGenerated g (λ t. text ≡ t) machine) (bench_in ran)
+told_ran g k (Ran.Base over) units bytes text two empty now whole counts tells =
+    told_run g k whole.widths over.machine units bytes text two whole.ran whole.ends (gained_means g k whole.widths _ bytes empty now whole.means) counts tells
+told_ran g k (Ran.Wide over) units bytes text two empty now whole counts tells =
+    told_run g k whole.widths over.machine units bytes text two whole.ran whole.ends (gained_means g k whole.widths _ bytes empty now whole.means) counts tells
 
 -- a good run of the compiled program, and what is told of it
-pub told_good : (g : Generation) (k : Call) (loaded : Loadable) (bench : Bench) (units : ℕ) (bytes text : List ℕ) → 2 ≤ g.stripes → k.before.told ≡ Some (generated g.turns) → k.old.bytes ≡ Some [] → k.new.bytes ≡ Some bytes
+pub told_good : (g : Generation) (k : Call) (loaded : Loadable) (ran : Ran) (units : ℕ) (bytes text : List ℕ) → 2 ≤ g.stripes → k.before.told ≡ Some (generated g.turns) → k.old.bytes ≡ Some [] → k.new.bytes ≡ Some bytes
     → IsOnFabric (Some (generated g.turns)) program_file g.target (columns_in loaded) (registers_in loaded) (shape_in loaded) → IsCounted (Some (generated g.turns)) program_file g.target.narrowed units
-    → IsRunOf loaded (job_for g) k Bench.Nothing bench Answer.Ok
-    → TellsOn g.turns units bytes text bench → OnBench (λ N P machine. HasGenerated g (λ t. text ≡ t) machine) bench
-told_good g k loaded bench units bytes text two told empty now gives counts ran tells =
-    told_bench g k bench units bytes text two empty now (program_lines (generated g.turns) (job_for g) program_file g.target k Bench.Nothing bench Answer.Ok refl told (come g k loaded bench Answer.Ok told gives ran)) counts tells
+    → IsRunOn loaded (job_for g) k (bench_in ran) Answer.Ok
+    → TellsOn g.turns units bytes text ran → OnBench (λ N P machine. HasGenerated g (λ t. text ≡ t) machine) (bench_in ran)
+told_good g k loaded ran units bytes text two told empty now gives counts on tells =
+    told_ran g k ran units bytes text two empty now (program_lines (generated g.turns) (job_for g) program_file g.target k Bench.Nothing (bench_in ran) Answer.Ok refl told (come g k loaded (bench_in ran) Answer.Ok told gives (inr on))) counts tells
 
 -- ---- refusals
 -- no read of such a shelf fails
@@ -164,6 +165,17 @@ gen_ran g k loaded bench a told before now gives ran no_write =
     let owed = run_owed (generated g.turns) (job_for g) k Bench.Nothing bench a told (come g k loaded bench a told gives ran) in
     steady (IsGenVerdict g) k.out_before k.out_now a
     (subst (λ (n : ℕ). IsOwed (IsGenVerdict g) 0 n k.out_before k.out_now a) now (subst (λ (n : ℕ). IsOwed (IsGenVerdict g) n k.now.faults k.out_before k.out_now a) before owed)) no_write
+
+-- no run was begun, which is no good end, nor did a write fail
+pub held_good : (told : Told) (before now : ℕ) (a : Answer) → IsStallRefusal told None before now a ⊎ (a ≡ Answer.Memory) → a ≡ Answer.Ok → ⊥
+held_good told before now a (inl (inl missing)) is = absurd missing
+held_good told before now a (inl (inr bad)) is = (let no : Answer.BadStall bad.place ≡ Answer.Ok = sym bad.answers ∙ is in cc)
+held_good told before now a (inr memory) is = (let no : Answer.Memory ≡ Answer.Ok = sym memory ∙ is in cc)
+
+pub held_write : (told : Told) (before now : ℕ) (a : Answer) → IsStallRefusal told None before now a ⊎ (a ≡ Answer.Memory) → a ≡ Answer.WriteFault → ⊥
+held_write told before now a (inl (inl missing)) is = absurd missing
+held_write told before now a (inl (inr bad)) is = (let no : Answer.BadStall bad.place ≡ Answer.WriteFault = sym bad.answers ∙ is in cc)
+held_write told before now a (inr memory) is = (let no : Answer.Memory ≡ Answer.WriteFault = sym memory ∙ is in cc)
 
 -- ---- what is put
 put_more : {N P : ℕ} (g : Generation) (put other : List ℕ → Type 0) (machine : Going N P) → ((t : List ℕ) → put t → other t) → HasGenerated g put machine → HasGenerated g other machine

@@ -1,9 +1,11 @@
 -- The generated texts as files, and the lines of a text.
-use Rattle.std.proofs.Common.{◌≡◌, ◌≤◌, ◌<◌, ℕ, suc, true, false, cond, List, [], ◌∷◌, length, take, drop, min, get_or, Some, None, unwrap_or, refl, sym, ap, ap₂, ◌∙◌, arith}
+use Rattle.std.proofs.Common.{◌≡◌, ℕ, Bool, suc, true, false, cond, List, [], ◌∷◌, length, take, drop, min, nat_lt, position, Some, None, unwrap_or, refl, sym, ap, ap₂, ◌∙◌, arith}
 use Rattle.std.specs.Prelude.{nat_eq, string_bytes, String, Vec}
 use Rattle.std.specs.Cmp.Lexicographic.{pointwise}
 use Rattle.std.specs.declared.alloc.Global.{Global}
-use Rattle.std.proofs.lemmas.List.Sums.{position_or_len_is}
+use Rattle.std.specs.List.{position_or_len}
+use Rattle.std.proofs.lemmas.Bool.{ltb-false}
+use Rattle.std.proofs.lemmas.List.{take_all}
 use Rattle.pr_edge.specs.Named.{Named, sure_file}
 use Rattle.pr_gen.specs.Texts.{program_text, samples_text}
 use Rattle.pr_tool_modes.specs.Generations.{generated, program_file, samples_file, is_end, first_line}
@@ -21,9 +23,27 @@ files_are files turns a b p s two first program second samples =
     ∙ ap₂ (λ (y u : List ℕ). Some (λ (name : List ℕ). Some (shown program_file (program_text turns) y u name))) second samples)
 
 -- ---- lines
--- the first line ends at the first end, or with the text
-pub first_is : (text : List ℕ) (n : ℕ) → n ≤ length text → ((k : ℕ) → k < n → is_end (get_or text k 0) ≡ false) → (n < length text → is_end (get_or text n 0) ≡ true) → take n text ≡ first_line text
-first_is text n few before here = ap (λ (k : ℕ). take k text) (sym (position_or_len_is is_end text n 0 few before here))
+some_is : {m n : ℕ} → Some m ≡ Some n → m ≡ n
+some_is is = cc
+
+none_some : {n : ℕ} → None ≡ Some n → ⊥
+none_some is = cc
+
+-- the first line ends at the first end
+pub line_cut : (text : List ℕ) (n : ℕ) → position is_end text ≡ Some n → take n text ≡ first_line text
+line_cut text n found = by_test (nat_lt (position_or_len is_end text) (length text)) found
+  where
+    by_test : (b : Bool) → cond b (Some (position_or_len is_end text)) None ≡ Some n → take n text ≡ first_line text
+    by_test true is = ap (λ (k : ℕ). take k text) (sym (some_is is))
+    by_test false is = absurd (none_some is)
+
+-- or with the text
+pub line_whole : (text : List ℕ) → position is_end text ≡ None → text ≡ first_line text
+line_whole text none = by_test (nat_lt (position_or_len is_end text) (length text)) refl none
+  where
+    by_test : (b : Bool) → nat_lt (position_or_len is_end text) (length text) ≡ b → cond b (Some (position_or_len is_end text)) None ≡ None → text ≡ first_line text
+    by_test true test is = absurd (none_some (sym is))
+    by_test false test is = sym (take_all (position_or_len is_end text) text (let k = ltb-false (position_or_len is_end text) (length text) test in omega (arith, k)))
 
 -- without its first byte, if there is one
 pub drop_one : (text : List ℕ) → drop (min (length text) 1) text ≡ drop 1 text

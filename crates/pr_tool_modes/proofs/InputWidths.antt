@@ -8,7 +8,8 @@ use Rattle.pr_lang.specs.declared.trees.Item.TheVariants.{Input, Output, Const, 
 use Rattle.pr_lang.specs.declared.trees.Program.{Program}
 use Rattle.pr_scope.specs.Statements.{is_width}
 use Rattle.pr_scope.specs.Walk.{World, start, item_change, inputs_after, offence}
-use Rattle.pr_scope_facts.proofs.InvertedItems.{input-inverted, output-inverted, constant-inverted, table-inverted, function-inverted, step-inverted, AllItems, program-inverted}
+use Rattle.pr_scope_facts.specs.Items.{AllItems}
+use Rattle.pr_scope_facts.proofs.InvertedItems.{input-inverted, output-inverted, constant-inverted, table-inverted, function-inverted, step-inverted, program-inverted}
 use Rattle.pr_tool_modes.specs.Programs.{inputs_of}
 
 abbrev pub IsInputWidth : ℕ → Type 0

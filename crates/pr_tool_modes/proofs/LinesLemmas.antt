@@ -4,6 +4,7 @@ use Rattle.std.specs.Bool.{MatchBool}
 use Rattle.std.proofs.lemmas.List.{take-append-drop}
 use Rattle.std.proofs.lemmas.List.Elements.{All-take}
 use Rattle.std.proofs.lemmas.Grind.{flat_map-append}
+use Rattle.pr_base.specs.Fabrics.{columns, registers}
 use Rattle.pr_base.specs.declared.caps.Cap.{Cap}
 use Rattle.pr_base.specs.Rows.{IsRow, row_line, written}
 use Rattle.pr_edge.specs.Files.{Told, IsMissing}
@@ -21,7 +22,7 @@ use Rattle.pr_run_script.specs.Script.{most_cycles}
 use Rattle.pr_run_script.specs.Counts.{cycles_in}
 use Rattle.pr_run.specs.Turns.{Going}
 use Rattle.pr_run.proofs.Lines.{front_longer, nothing_appended}
-use Rattle.pr_code.specs.declared.fabrics.Fabric.{Fabric}
+use Rattle.pr_base.specs.declared.fabrics.Fabric.{Fabric}
 use Rattle.pr_tool_answers.specs.declared.answers.Answer.{Answer}
 use Rattle.pr_tool_modes.specs.declared.benches.Bench.{Bench}
 use Rattle.pr_tool_modes.specs.declared.targets.Target.{Target}
@@ -35,7 +36,7 @@ use Rattle.pr_tool_modes.specs.Lines.{ByAnswer, HasAllLines, HasFirstLines, AreE
 use Rattle.pr_tool_modes.specs.Programs.{inputs_of, HasProgram}
 use Rattle.pr_tool_modes.specs.Runs.{Course, course, ends_well, HasAll, IsWhole, IsBroken, IsStopped, IsEnd}
 use Rattle.pr_tool_modes.specs.Samples.{fed_in, fed_at_most, fed_whole, pieces}
-use Rattle.pr_tool_modes.specs.Sources.{Source, Text, name_in, most_in, Gives, columns, registers}
+use Rattle.pr_tool_modes.specs.Sources.{Source, Text, name_in, most_in, Gives}
 use Rattle.pr_tool_modes.specs.Stalls.{HasStall}
 use Rattle.pr_tool_modes.proofs.CompileLaws.{is_meant}
 use Rattle.pr_tool_modes.proofs.EvalVerdicts.{program_kind}

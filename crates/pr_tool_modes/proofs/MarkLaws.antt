@@ -1,8 +1,9 @@
 -- The checkpoint that is written is read as it, and a chain of checkpoints is one.
 use Rattle.std.proofs.Common.{◌≡◌, ◌≤◌, ◌+◌, ◌^◌, ◌∙◌, ◌++◌, ℕ, true, List, length, map, Option, Some, None, refl, sym, ap, ap₂, subst, arith}
 use Rattle.std.proofs.lemmas.List.{map-append, length-append}
+use Rattle.pr_base.specs.Fabrics.{columns, registers}
 use Rattle.pr_base.specs.Rows.{row_bytes}
-use Rattle.pr_code.specs.declared.fabrics.Fabric.{Fabric}
+use Rattle.pr_base.specs.declared.fabrics.Fabric.{Fabric}
 use Rattle.pr_code.specs.Marks.{IsMark, mark_of, bad_mark, shape_marked}
 use Rattle.pr_code.specs.Spelling.{bytes_of_words, has_bytes}
 use Rattle.pr_code.proofs.AgainMarks.{mark_again}
@@ -17,7 +18,7 @@ use Rattle.pr_tool_modes.specs.Configurations.{columns_of, registers_of}
 use Rattle.pr_tool_modes.specs.Folds.{mark_after}
 use Rattle.pr_tool_modes.specs.Resumptions.{IsMarkKept}
 use Rattle.pr_tool_modes.specs.Samples.{pieces}
-use Rattle.pr_tool_modes.specs.Sources.{Mark, columns, registers, Gives}
+use Rattle.pr_tool_modes.specs.Sources.{Mark, Gives}
 use Rattle.pr_tool_modes.proofs.BehaviourLemmas.{within, lawful_on}
 use Rattle.pr_tool_modes.proofs.SourceLemmas.{of_fabric}
 

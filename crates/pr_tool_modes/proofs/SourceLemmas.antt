@@ -1,5 +1,6 @@
 -- What comes of the file of a source, and the verdict on it.
-use Rattle.std.proofs.Common.{◌≡◌, ◌⊎◌, ◌≤◌, ◌∙◌, ℕ, List, length, Option, Some, refl, sym, ap, subst, inl, inr}
+use Rattle.std.proofs.Common.{◌≡◌, ◌⊎◌, ◌≤◌, ◌∙◌, ℕ, Bool, List, length, Option, Some, refl, sym, ap, subst, inl, inr}
+use Rattle.pr_base.specs.Fabrics.{columns, registers}
 use Rattle.pr_base.specs.declared.caps.Cap.{Cap}
 use Rattle.pr_code.specs.Marks.{count_read, shape_marked}
 use Rattle.pr_conf.specs.Shape.{Shape}
@@ -12,7 +13,7 @@ use Rattle.pr_tool_modes.specs.Files.{IsText, IsFileRefusal}
 use Rattle.pr_tool_modes.specs.Configurations.{IsBadConfiguration, broken_in, columns_of, configuration_in}
 use Rattle.pr_tool_modes.specs.Checkpoints.{IsBadMark, file_in, broken_mark}
 use Rattle.pr_tool_modes.specs.Programs.{HasCompiled, IsUncompiled}
-use Rattle.pr_tool_modes.specs.Sources.{Source, File, Text, Mark, name_in, columns, registers, CompilesTo, IsOnFabric, Gives, IsSourceRefusal, IsRefusedSource}
+use Rattle.pr_tool_modes.specs.Sources.{Source, File, Text, Mark, name_in, IsOnFabric, Gives, IsSourceRefusal, IsRefusedSource}
 use Rattle.pr_tool_modes.proofs.CompileLaws.{one_compiled}
 use Rattle.pr_tool_modes.proofs.ReasonLemmas.{IsKind, word_refuses, one_word, never_word, compile_refuses, one_uncompiled, never_uncompiled}
 use Rattle.pr_tool_modes.proofs.FileLemmas.{refusal_owed, one_refused, never_refused, refusal_kind}
@@ -24,12 +25,13 @@ pub text_refusal : (limit : ℕ) (cap : Cap) (reasons : List ℕ → Answer → 
 text_refusal limit cap reasons told name text before now a file short (inl is) = inr (record { text = text; file = file; short = short; refused = is })
 text_refusal limit cap reasons told name text before now a file short (inr memory) = inl (inr (inr memory))
 
-pub on_fabric : (told : Told) (name text : List ℕ) (target : Target) (N P : ℕ) (conf : Shape) → IsText told name text → length text ≤ 1048576 → CompilesTo target N P text conf → IsOnFabric told name target N P conf
-on_fabric told name text target N P conf file short is = record {
-  columns_are = is.columns_are;
-  registers_are = is.registers_are;
-  has = record { text = text; file = file; short = short; is = is.is };
-}
+-- a text that was read is compiled, for the fabric of a target
+pub has_compiled : (told : Told) (name text : List ℕ) (N P : ℕ) (narrowed : Bool) (conf : Shape) → IsText told name text → length text ≤ 1048576 → IsCompiled N P narrowed text conf → HasCompiled told name N P narrowed conf
+has_compiled told name text N P narrowed conf file short is = record { text = text; file = file; short = short; is = is }
+
+pub on_fabric : (told : Told) (name : List ℕ) (target : Target) (N P : ℕ) (conf : Shape) → N ≡ columns target.fabric → P ≡ registers target.fabric → HasCompiled told name N P target.narrowed conf
+    → IsOnFabric told name target N P conf
+on_fabric told name target N P conf columns_are registers_are has = record { columns_are = columns_are; registers_are = registers_are; has = has }
 
 -- ---- the verdict
 pub source_owed : (files : List ℕ → Option (List ℕ)) (source : Source) (sb sn ob on : ℕ) (a : Answer) → IsSourceRefusal (Some files) source sb sn a → IsOwed (IsRefusedSource files source) sb sn ob on a

@@ -1,11 +1,12 @@
 -- Checkpoints, on the fabric that they name.
 use Rattle.std.specs.Prelude.{◌≡◌, ◌≤◌, ℕ, List, length, drop, Option, None}
+use Rattle.pr_base.specs.declared.caps.Cap.{Cap}
 use Rattle.pr_edge.specs.Files.{Told}
 use Rattle.pr_conf.specs.Shape.{Shape}
 use Rattle.pr_code.specs.Rules.{Broken}
 use Rattle.pr_code.specs.Marks.{IsMark, bad_mark, count_read, shape_marked}
 use Rattle.pr_tool_answers.specs.declared.answers.Answer.{Answer}
-use Rattle.pr_tool_modes.specs.Files.{IsText}
+use Rattle.pr_tool_modes.specs.Files.{IsText, IsFileRefusal}
 use Rattle.pr_tool_modes.specs.Configurations.{columns_of, registers_of, HasBroken}
 
 -- what stands behind the first word and the count: a configuration file, which names the fabric
@@ -35,3 +36,7 @@ pub record HasMark (told : Told) (name : List ℕ) (N P count : ℕ) (c : Shape)
 -- why bytes are no checkpoint
 abbrev pub IsBadMark : List ℕ → Answer → Type 0
 IsBadMark bytes answer = HasBroken (broken_mark bytes) answer
+
+-- why no checkpoint came of a file
+abbrev pub IsNotMarked : Told → List ℕ → ℕ → ℕ → Answer → Type 0
+IsNotMarked told name before now answer = IsFileRefusal 16777216 Cap.ConfigBytes IsBadMark told name before now answer

@@ -1,12 +1,13 @@
 -- Configuration files, on the fabric that they name.
 use Rattle.std.specs.Prelude.{◌≡◌, ◌≤◌, ℕ, List, length, Option, Some, None, if◌then◌else◌, ⊤}
+use Rattle.pr_base.specs.declared.caps.Cap.{Cap}
 use Rattle.pr_edge.specs.Files.{Told}
 use Rattle.pr_conf.specs.Shape.{Shape}
 use Rattle.pr_code.specs.Fabrics.{names_wide}
 use Rattle.pr_code.specs.Spelling.{IsFile}
 use Rattle.pr_code.specs.Rules.{Broken, bad_word, shape_read}
 use Rattle.pr_tool_answers.specs.declared.answers.Answer.{Answer}
-use Rattle.pr_tool_modes.specs.Files.{IsText}
+use Rattle.pr_tool_modes.specs.Files.{IsText, IsFileRefusal}
 
 -- the fabric of a file: the wide one where it names it, and else the base one
 abbrev pub columns_of : List ℕ → ℕ
@@ -56,3 +57,7 @@ IsWordRefusal broken answer = ⊥
 -- why bytes are no configuration
 abbrev pub IsBadConfiguration : List ℕ → Answer → Type 0
 IsBadConfiguration bytes answer = HasBroken (broken_in bytes) answer
+
+-- why no configuration came of a file
+abbrev pub IsNotConfigured : Told → List ℕ → ℕ → ℕ → Answer → Type 0
+IsNotConfigured told name before now answer = IsFileRefusal 16777216 Cap.ConfigBytes IsBadConfiguration told name before now answer

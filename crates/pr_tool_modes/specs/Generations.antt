@@ -17,6 +17,7 @@ use Rattle.pr_run_script.specs.Script.{script}
 use Rattle.pr_samples.specs.Fed.{End}
 use Rattle.pr_tool_answers.specs.declared.answers.Answer.{Answer}
 use Rattle.pr_tool_modes.specs.declared.benches.Bench.{Bench}
+use Rattle.pr_tool_modes.specs.declared.executions.Ran.{Ran}
 use Rattle.pr_tool_modes.specs.declared.jobs.Generation.{Generation as NamedGeneration}
 use Rattle.pr_tool_modes.specs.declared.targets.Target.{Target}
 use Rattle.pr_tool_modes.specs.Executions.{IsRunVerdict}
@@ -82,11 +83,10 @@ Tells turns units lines text machine =
     (conf : Shape) (stripes : ℕ) (history : History) → Stands machine conf stripes history
     → text ≡ summary turns units (length conf.stages) (account_of conf stripes history).time lines
 
--- it tells this of the machine on a bench
-abbrev pub TellsOn : ℕ → ℕ → List ℕ → List ℕ → Bench → Type 0
-TellsOn turns units lines text Bench.Nothing = text ≡ []
-TellsOn turns units lines text (Bench.Base machine) = Tells turns units lines text machine
-TellsOn turns units lines text (Bench.Wide machine) = Tells turns units lines text machine
+-- it tells this of the machine of a run
+abbrev pub TellsOn : ℕ → ℕ → List ℕ → List ℕ → Ran → Type 0
+TellsOn turns units lines text (Ran.Base over) = Tells turns units lines text over.machine
+TellsOn turns units lines text (Ran.Wide over) = Tells turns units lines text over.machine
 
 -- no point refuses the program, its samples are all good, the machine was asked all events of the run on them, and the summary
 -- of the run is put: its units are those of the program's net, its cycles those that drain the samples, and its lines those of what

@@ -1,5 +1,6 @@
 -- Programs that are read from files, and why their texts are refused.
 use Rattle.std.specs.Prelude.{◌≡◌, ◌≤◌, ℕ, Bool, List, length}
+use Rattle.pr_base.specs.declared.caps.Cap.{Cap}
 use Rattle.pr_edge.specs.Files.{Told}
 use Rattle.pr_lang.specs.declared.trees.Program.{Program}
 use Rattle.pr_conf.specs.Shape.{Shape}
@@ -14,7 +15,7 @@ use Rattle.pr_compile.specs.declared.faults.CompileFault.TheVariants as fault
 use Rattle.pr_compile.specs.Configured.{IsCompiled, HasUnits}
 use Rattle.pr_compile.specs.Refusals.{IsRefused}
 use Rattle.pr_tool_answers.specs.declared.answers.Answer.{Answer}
-use Rattle.pr_tool_modes.specs.Files.{IsText}
+use Rattle.pr_tool_modes.specs.Files.{IsText, IsFileRefusal}
 
 -- the widths of a program's inputs
 abbrev pub inputs_of : Program → List ℕ
@@ -33,6 +34,10 @@ pub record IsBadProgram (text : List ℕ) (answer : Answer) : Type 0 where
   pub fault : FrontFault
   pub refused : IsRefusal text fault
   pub answers : answer ≡ front_answer fault
+
+-- why no program came of a file
+abbrev pub IsNotLoaded : Told → List ℕ → ℕ → ℕ → Answer → Type 0
+IsNotLoaded told name before now answer = IsFileRefusal 1048576 Cap.ProgramBytes IsBadProgram told name before now answer
 
 -- the file has the text of this program, which no such point refuses; its equations have these widths
 pub record HasProgram (told : Told) (name : List ℕ) (program : Program) (widths : List ℕ) : Type 0 where
@@ -62,6 +67,11 @@ pub record IsUncompiled (N P : ℕ) (narrowed : Bool) (text : List ℕ) (answer 
   pub fault : CompileFault
   pub refused : IsRefused N P narrowed text fault
   pub answers : answer ≡ compile_answer fault
+
+-- why no configuration came of the program in a file
+abbrev pub IsNotCompiled : ℕ → ℕ → Bool → Told → List ℕ → ℕ → ℕ → Answer → Type 0
+IsNotCompiled N P narrowed told name before now answer =
+    IsFileRefusal 1048576 Cap.ProgramBytes (IsUncompiled N P narrowed) told name before now answer
 
 -- the file has the text of a program that no point refuses, and this is its configuration, narrowed or not
 pub record HasCompiled (told : Told) (name : List ℕ) (N P : ℕ) (narrowed : Bool) (conf : Shape) : Type 0 where

@@ -1,18 +1,17 @@
 -- Where a configuration comes from: a configuration file, the file of a program that is compiled, or a checkpoint.
 use Rattle.std.specs.Prelude.{◌≡◌, ◌-◌, ◌^◌, ℕ, List, Option}
 use Rattle.pr_base.specs.declared.caps.Cap.{Cap}
+use Rattle.pr_base.specs.Fabrics.{columns, registers}
 use Rattle.pr_edge.specs.Files.{Told}
 use Rattle.pr_conf.specs.Shape.{Shape}
 use Rattle.pr_conf.specs.Configuration.{shape_of}
-use Rattle.pr_code.specs.declared.fabrics.Fabric.{Fabric}
-use Rattle.pr_compile.specs.Configured.{IsCompiled}
 use Rattle.pr_tool_answers.specs.declared.answers.Answer.{Answer}
 use Rattle.pr_tool_modes.specs.declared.targets.Target.{Target}
 use Rattle.pr_tool_modes.specs.declared.loadables.Loadable.{Loadable}
-use Rattle.pr_tool_modes.specs.Files.{IsFileRefusal, IsRefusedFile}
-use Rattle.pr_tool_modes.specs.Configurations.{HasConfiguration, IsBadConfiguration}
-use Rattle.pr_tool_modes.specs.Checkpoints.{HasMark, IsBadMark}
-use Rattle.pr_tool_modes.specs.Programs.{HasCompiled, IsUncompiled}
+use Rattle.pr_tool_modes.specs.Files.{IsRefusedFile}
+use Rattle.pr_tool_modes.specs.Configurations.{HasConfiguration, IsBadConfiguration, IsNotConfigured}
+use Rattle.pr_tool_modes.specs.Checkpoints.{HasMark, IsBadMark, IsNotMarked}
+use Rattle.pr_tool_modes.specs.Programs.{HasCompiled, IsUncompiled, IsNotCompiled}
 
 -- a configuration file; a program that is compiled; a checkpoint after so many samples
 pub data Source : Type 0 where
@@ -35,15 +34,7 @@ count_in (Mark name count) = count
 abbrev pub most_in : Source → ℕ
 most_in source = 2 ^ 40 - count_in source
 
--- ---- fabrics
-abbrev pub columns : Fabric → ℕ
-columns Fabric.Base = 16
-columns Fabric.Wide = 32
-
-abbrev pub registers : Fabric → ℕ
-registers Fabric.Base = 8
-registers Fabric.Wide = 16
-
+-- ---- configurations of either fabric
 abbrev pub columns_in : Loadable → ℕ
 columns_in (Loadable.Base conf) = 16
 columns_in (Loadable.Wide conf) = 32
@@ -57,13 +48,7 @@ shape_in (Loadable.Base conf) = shape_of conf
 shape_in (Loadable.Wide conf) = shape_of conf
 
 -- ---- what comes from a source
--- the configuration of the text, on the columns and registers of the target's fabric
-pub record CompilesTo (target : Target) (N P : ℕ) (text : List ℕ) (conf : Shape) : Type 0 where
-  pub columns_are : N ≡ columns target.fabric
-  pub registers_are : P ≡ registers target.fabric
-  pub is : IsCompiled N P target.narrowed text conf
-
--- the same of the program in a file
+-- the configuration of the program in a file, on the columns and registers of the target's fabric
 pub record IsOnFabric (told : Told) (name : List ℕ) (target : Target) (N P : ℕ) (conf : Shape) : Type 0 where
   pub columns_are : N ≡ columns target.fabric
   pub registers_are : P ≡ registers target.fabric
@@ -84,9 +69,9 @@ pub record IsGood (told : Told) (source : Source) : Type 0 where
 
 -- why a source gives none
 abbrev pub IsSourceRefusal : Told → Source → ℕ → ℕ → Answer → Type 0
-IsSourceRefusal told (File name) before now answer = IsFileRefusal 16777216 Cap.ConfigBytes IsBadConfiguration told name before now answer
-IsSourceRefusal told (Text name target) before now answer = IsFileRefusal 1048576 Cap.ProgramBytes (IsUncompiled (columns target.fabric) (registers target.fabric) target.narrowed) told name before now answer
-IsSourceRefusal told (Mark name count) before now answer = IsFileRefusal 16777216 Cap.ConfigBytes IsBadMark told name before now answer
+IsSourceRefusal told (File name) before now answer = IsNotConfigured told name before now answer
+IsSourceRefusal told (Text name target) before now answer = IsNotCompiled (columns target.fabric) (registers target.fabric) target.narrowed told name before now answer
+IsSourceRefusal told (Mark name count) before now answer = IsNotMarked told name before now answer
 
 -- by the files alone
 abbrev pub IsRefusedSource : (List ℕ → Option (List ℕ)) → Source → Answer → Type 0

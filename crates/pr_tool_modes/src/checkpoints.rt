@@ -1,24 +1,19 @@
 //! Configurations that are read from checkpoints.
 ghost use Rattle.std.specs.Prelude.{◌≡◌, ◌≢◌, ◌≤◌, ◌^◌, ℕ, List, drop, None, IfOk, OnOk, IfErr};
-ghost use Rattle.pr_base.specs.declared.caps.Cap.{Cap};
 ghost use Rattle.pr_conf.specs.Configuration.{shape_of};
 ghost use Rattle.pr_code.specs.Marks.{IsMark, bad_mark, count_read, shape_marked};
-ghost use Rattle.pr_tool_modes.specs.Files.{IsFileRefusal};
 ghost use Rattle.pr_tool_modes.specs.Configurations.{IsWordRefusal};
-ghost use Rattle.pr_tool_modes.specs.Checkpoints.{broken_mark, IsResumable, HasMark, IsBadMark};
+ghost use Rattle.pr_tool_modes.specs.Checkpoints.{broken_mark, IsResumable, HasMark, IsNotMarked};
 ghost use Rattle.pr_tool_modes.specs.Sources.{columns_in, registers_in, shape_in};
 
 use crate::files::read_file;
 use crate::loadables::{Loadable, Origin};
-use pr_base::Cap;
-use pr_code::{CodeFault, Fabric, fabric_of, read_mark};
+use pr_base::{Cap, Fabric};
+use pr_code::{CodeFault, fabric_of, read_mark};
 use pr_conf::Configuration;
 use pr_edge::Shelf;
 use pr_tool_answers::Answer;
 use std::alloc::Global;
-
-/// The bytes of a checkpoint at most.
-const LIMIT: usize = 16_777_216;
 
 /// The bytes before the configuration: the first word and the count.
 const HEAD: usize = 12;
@@ -61,7 +56,8 @@ fn file_part(bytes: &[u8]) -> &[u8]
 
 /// The count and the configuration of a checkpoint's bytes, on the fabric that they name.
 fn decode_named(alloc: Global, bytes: &[u8]) -> Result<Origin, Answer>
-    ensures read { IfOk result (λ l. IsResumable (columns_in l.conf) (registers_in l.conf) l.before (shape_in l.conf) bytes.now) }
+    ensures read { IfOk result
+        (λ l. IsResumable (columns_in l.conf) (registers_in l.conf) l.before (shape_in l.conf) bytes.now) }
     ensures refused { IfErr result (IsWordRefusal (broken_mark bytes.now)) }
 {
     match fabric_of(file_part(bytes)) {
@@ -84,13 +80,15 @@ fn decode_named(alloc: Global, bytes: &[u8]) -> Result<Origin, Answer>
 
 /// Reads the configuration of a checkpoint, and the number of samples that came before, on the fabric that the file names.
 pub fn read_checkpoint<S: Shelf>(alloc: Global, shelf: &mut S, name: &str) -> Result<Origin, Answer>
-    ensures read { IfOk result (λ l. HasMark (S.told shelf.old) name.now (columns_in l.conf) (registers_in l.conf) l.before (shape_in l.conf)) }
-    ensures refused { IfErr result (IsFileRefusal 16777216 Cap.ConfigBytes IsBadMark (S.told shelf.old) name.now (S.faults shelf.old) (S.faults shelf.new)) }
+    ensures read { IfOk result
+        (λ l. HasMark (S.told shelf.old) name.now (columns_in l.conf) (registers_in l.conf) l.before
+        (shape_in l.conf)) }
+    ensures refused { IfErr result (IsNotMarked (S.told shelf.old) name.now (S.faults shelf.old) (S.faults shelf.new)) }
     ensures later { S.faults shelf.old ≤ S.faults shelf.new }
     ensures same { S.told shelf.new ≡ S.told shelf.old }
     ensures others { (q : List ℕ) → q ≢ name.now → S.reach shelf.new q ≡ S.reach shelf.old q }
 {
-    let bytes = match read_file(alloc, shelf, name, LIMIT, Cap::ConfigBytes) {
+    let bytes = match read_file(alloc, shelf, name, Cap::MOST_CONFIG_BYTES, Cap::ConfigBytes) {
         Ok(bytes) => bytes,
         Err(answer) => return Err(answer),
     };

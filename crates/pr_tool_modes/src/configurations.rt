@@ -1,24 +1,19 @@
 //! Configurations that are read from configuration files.
 ghost use Rattle.std.specs.Prelude.{◌≡◌, ◌≢◌, ◌≤◌, ℕ, List, None, IfOk, OnOk, IfErr};
-ghost use Rattle.pr_base.specs.declared.caps.Cap.{Cap};
 ghost use Rattle.pr_conf.specs.Configuration.{shape_of};
 ghost use Rattle.pr_code.specs.Spelling.{IsFile};
 ghost use Rattle.pr_code.specs.Rules.{bad_word, shape_read};
-ghost use Rattle.pr_tool_modes.specs.Files.{IsFileRefusal};
-ghost use Rattle.pr_tool_modes.specs.Configurations.{columns_of, registers_of, IsWordRefusal, IsLoadable, HasConfiguration, IsBadConfiguration};
+ghost use Rattle.pr_tool_modes.specs.Configurations.{columns_of, registers_of, IsWordRefusal, IsLoadable, HasConfiguration, IsNotConfigured};
 ghost use Rattle.pr_tool_modes.specs.Sources.{columns_in, registers_in, shape_in};
 
 use crate::files::read_file;
 use crate::loadables::Loadable;
-use pr_base::Cap;
-use pr_code::{CodeFault, Fabric, decode, fabric_of};
+use pr_base::{Cap, Fabric};
+use pr_code::{CodeFault, decode, fabric_of};
 use pr_conf::Configuration;
 use pr_edge::Shelf;
 use pr_tool_answers::Answer;
 use std::alloc::Global;
-
-/// The bytes of a configuration file at most.
-const LIMIT: usize = 16_777_216;
 
 /// The configuration of a file's bytes, on this fabric.
 fn decode_bytes<const N: usize, const P: usize>(
@@ -44,7 +39,8 @@ fn decode_bytes<const N: usize, const P: usize>(
 /// The configuration of a file's bytes, on the fabric that they name.
 fn decode_named(alloc: Global, bytes: &[u8]) -> Result<Loadable, Answer>
     ensures read { IfOk result (λ l. IsLoadable (columns_in l) (registers_in l) (shape_in l) bytes.now) }
-    ensures refused { IfErr result (IsWordRefusal (bad_word (columns_of bytes.now) (registers_of bytes.now) bytes.now)) }
+    ensures refused { IfErr result
+        (IsWordRefusal (bad_word (columns_of bytes.now) (registers_of bytes.now) bytes.now)) }
 {
     match fabric_of(bytes) {
         Fabric::Base => Ok(Loadable::Base(decode_bytes::<16, 8>(alloc, bytes)?)),
@@ -58,13 +54,15 @@ pub fn read_configuration<S: Shelf>(
     shelf: &mut S,
     name: &str,
 ) -> Result<Loadable, Answer>
-    ensures read { IfOk result (λ l. HasConfiguration (S.told shelf.old) name.now (columns_in l) (registers_in l) (shape_in l)) }
-    ensures refused { IfErr result (IsFileRefusal 16777216 Cap.ConfigBytes IsBadConfiguration (S.told shelf.old) name.now (S.faults shelf.old) (S.faults shelf.new)) }
+    ensures read { IfOk result
+        (λ l. HasConfiguration (S.told shelf.old) name.now (columns_in l) (registers_in l) (shape_in l)) }
+    ensures refused { IfErr result
+        (IsNotConfigured (S.told shelf.old) name.now (S.faults shelf.old) (S.faults shelf.new)) }
     ensures later { S.faults shelf.old ≤ S.faults shelf.new }
     ensures same { S.told shelf.new ≡ S.told shelf.old }
     ensures others { (q : List ℕ) → q ≢ name.now → S.reach shelf.new q ≡ S.reach shelf.old q }
 {
-    let bytes = match read_file(alloc, shelf, name, LIMIT, Cap::ConfigBytes) {
+    let bytes = match read_file(alloc, shelf, name, Cap::MOST_CONFIG_BYTES, Cap::ConfigBytes) {
         Ok(bytes) => bytes,
         Err(answer) => return Err(answer),
     };

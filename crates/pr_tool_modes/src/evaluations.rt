@@ -12,7 +12,7 @@ use pr_tool_answers::Answer;
 use std::alloc::Global;
 
 /// What comes of samples that end so.
-fn answer_of(end: Got) -> Answer
+pub fn answer_of(end: Got) -> Answer
     ensures { result ≡ answer_by end }
 {
     match end {
@@ -25,7 +25,8 @@ fn answer_of(end: Got) -> Answer
 
 /// Writes the lines of results.
 fn put_results<K: Sink>(out: &mut K, results: &Results) -> Answer
-    ensures put { IsPut results.now.text.items results.now.end (K.told out.old) (K.told out.new) (K.faults out.old) (K.faults out.new) result }
+    ensures put { IsPut results.now.text.items results.now.end
+        (K.told out.old) (K.told out.new) (K.faults out.old) (K.faults out.new) result }
     ensures later { K.faults out.old ≤ K.faults out.new }
 {
     match write_all(out, &results.text) {
@@ -47,7 +48,8 @@ pub fn eval<S: Shelf, K: Sink>(
 ) -> Answer
     // What it came to: the program is refused, or what the samples come to.
     ensures ended { IsEvaluated program.now samples.now (call
-        (view (S.told shelf.old) (S.reach shelf.old) (S.faults shelf.old)) (view (S.told shelf.new) (S.reach shelf.new) (S.faults shelf.new))
+        (view (S.told shelf.old) (S.reach shelf.old) (S.faults shelf.old))
+        (view (S.told shelf.new) (S.reach shelf.new) (S.faults shelf.new))
         (K.told out.old) (K.told out.new) (K.faults out.old) (K.faults out.new)) result }
 
     ensures told { S.told shelf.new ≡ S.told shelf.old }

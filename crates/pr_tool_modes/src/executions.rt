@@ -7,7 +7,7 @@ ghost use Rattle.pr_tool_modes.specs.Calls.{call};
 ghost use Rattle.pr_tool_modes.specs.Jobs.{job_on, job_of, stall_in, IsNoStall, IsNeither};
 ghost use Rattle.pr_tool_modes.specs.Sources.{Source, count_in};
 ghost use Rattle.pr_tool_modes.specs.Stalls.{IsStallRefusal};
-ghost use Rattle.pr_tool_modes.specs.Executions.{HasRun, IsRunOf, HasCome};
+ghost use Rattle.pr_tool_modes.specs.Executions.{answer_in, bench_in, HasRun, IsRunOn, IsRunOf, HasCome};
 
 use crate::benches::Bench;
 use crate::jobs::{Job, Run};
@@ -33,15 +33,21 @@ fn run_on<const N: usize, const P: usize, S: Shelf, K: Sink>(
     out: &mut K,
 ) -> Result<Over<N, P>, Answer>
     requires { before ≤ 2 ^ 40 }
-    ensures ran { (source : Source) → count_in source ≡ before → IfOk result (λ o. HasRun (IsNoStall (job_on source run.now)) (shape_of conf.entry) (job_on source run.now)
-        (view (S.told shelf.old) (S.reach shelf.old) (S.faults shelf.old)) (view (S.told shelf.new) (S.reach shelf.new) (S.faults shelf.new))
+    ensures ran { (source : Source) → count_in source ≡ before
+        → IfOk result (λ o. HasRun (IsNoStall (job_on source run.now)) (shape_of conf.entry) (job_on source run.now)
+        (view (S.told shelf.old) (S.reach shelf.old) (S.faults shelf.old))
+        (view (S.told shelf.new) (S.reach shelf.new) (S.faults shelf.new))
         (K.told out.old) (K.told out.new) o.machine o.answer) }
-    ensures refused { IfErr result (λ a. IsStallRefusal (S.told shelf.old) (stall_in run.now) (S.faults shelf.old) (S.faults shelf.new) a ⊎ (a ≡ Answer.Memory)) }
+    ensures refused { IfErr result
+        (λ a. IsStallRefusal (S.told shelf.old) (stall_in run.now) (S.faults shelf.old) (S.faults shelf.new) a
+        ⊎ (a ≡ Answer.Memory)) }
     ensures unwritten { OnErr result (K.told out.new ≡ K.told out.old) }
-    ensures unread { OnErr result ((q : List ℕ) → stall_in run.now ≢ Some q → S.reach shelf.new q ≡ S.reach shelf.old q) }
+    ensures unread { OnErr result
+        ((q : List ℕ) → stall_in run.now ≢ Some q → S.reach shelf.new q ≡ S.reach shelf.old q) }
     ensures write_fault { IfOk result (λ o. o.answer ≡ Answer.WriteFault → Rose (K.faults out.old) (K.faults out.new)) }
     ensures told { S.told shelf.new ≡ S.told shelf.old }
-    ensures others { (q : List ℕ) → q ≢ run.now.samples.now → stall_in run.now ≢ Some q → S.reach shelf.new q ≡ S.reach shelf.old q }
+    ensures others { (q : List ℕ) → q ≢ run.now.samples.now → stall_in run.now ≢ Some q
+        → S.reach shelf.new q ≡ S.reach shelf.old q }
     ensures shelf_later { S.faults shelf.old ≤ S.faults shelf.new }
     ensures out_later { K.faults out.old ≤ K.faults out.new }
 {
@@ -56,6 +62,77 @@ fn run_on<const N: usize, const P: usize, S: Shelf, K: Sink>(
     Ok(run_all(ready, run.log, shelf, out))
 }
 
+/// A run of a configuration of either fabric that is over.
+#[derive(Drop)]
+pub enum Ran {
+    /// On the base fabric.
+    Base(Over<16, 8>),
+    /// On the wide fabric.
+    Wide(Over<32, 16>),
+}
+
+impl Ran {
+    /// What it came to.
+    pub fn answer(&self) -> Answer
+        ensures { result ≡ answer_in self.now }
+    {
+        match self {
+            Ran::Base(over) => over.answer,
+            Ran::Wide(over) => over.answer,
+        }
+    }
+
+    /// Its machine, on a bench.
+    pub fn into_bench(self) -> Bench
+        ensures { result ≡ bench_in self }
+    {
+        match self {
+            Ran::Base(over) => Bench::Base(over.machine),
+            Ran::Wide(over) => Bench::Wide(over.machine),
+        }
+    }
+}
+
+/// Runs a configuration as it is asked for, on the fabric that it is for. Where the stall text is refused, or there is no memory,
+/// nothing is written.
+pub fn run_either<S: Shelf, K: Sink>(
+    alloc: Global,
+    origin: Origin,
+    run: &Run<'_>,
+    shelf: &mut S,
+    out: &mut K,
+) -> Result<Ran, Answer>
+    // Whatever the source that the configuration comes from.
+    ensures ran { (source : Source) → count_in source ≡ origin.before
+        → IfOk result (λ r. IsRunOn origin.conf (job_on source run.now) (call
+        (view (S.told shelf.old) (S.reach shelf.old) (S.faults shelf.old))
+        (view (S.told shelf.new) (S.reach shelf.new) (S.faults shelf.new))
+        (K.told out.old) (K.told out.new) (K.faults out.old) (K.faults out.new)) (bench_in r) (answer_in r)) }
+    ensures refused { IfErr result
+        (λ a. IsStallRefusal (S.told shelf.old) (stall_in run.now) (S.faults shelf.old) (S.faults shelf.new) a
+        ⊎ (a ≡ Answer.Memory)) }
+    ensures unwritten { OnErr result (K.told out.new ≡ K.told out.old) }
+    ensures unread { OnErr result
+        ((q : List ℕ) → stall_in run.now ≢ Some q → S.reach shelf.new q ≡ S.reach shelf.old q) }
+    ensures told { S.told shelf.new ≡ S.told shelf.old }
+    ensures others { (q : List ℕ) → q ≢ run.now.samples.now → stall_in run.now ≢ Some q
+        → S.reach shelf.new q ≡ S.reach shelf.old q }
+    ensures shelf_later { S.faults shelf.old ≤ S.faults shelf.new }
+    ensures out_later { K.faults out.old ≤ K.faults out.new }
+{
+    let Origin { conf, before } = origin;
+    match conf {
+        Loadable::Base(conf) => match run_on(alloc, conf, before, run, shelf, out) {
+            Err(answer) => Err(answer),
+            Ok(over) => Ok(Ran::Base(over)),
+        },
+        Loadable::Wide(conf) => match run_on(alloc, conf, before, run, shelf, out) {
+            Err(answer) => Err(answer),
+            Ok(over) => Ok(Ran::Wide(over)),
+        },
+    }
+}
+
 /// Runs a configuration as it is asked for, on the fabric that it is for, and leaves the machine on the bench. Where the stall text
 /// is refused, or there is no memory, nothing is written and the bench is as it was.
 pub fn run_from<S: Shelf, K: Sink>(
@@ -67,30 +144,24 @@ pub fn run_from<S: Shelf, K: Sink>(
     bench: &mut Bench,
 ) -> Answer
     // Whatever the source that the configuration comes from.
-    ensures ended { (source : Source) → count_in source ≡ origin.before → IsRunOf origin.conf (job_on source run.now) (call
-        (view (S.told shelf.old) (S.reach shelf.old) (S.faults shelf.old)) (view (S.told shelf.new) (S.reach shelf.new) (S.faults shelf.new))
+    ensures ended { (source : Source) → count_in source ≡ origin.before → IsRunOf origin.conf (job_on source run.now)
+        (call
+        (view (S.told shelf.old) (S.reach shelf.old) (S.faults shelf.old))
+        (view (S.told shelf.new) (S.reach shelf.new) (S.faults shelf.new))
         (K.told out.old) (K.told out.new) (K.faults out.old) (K.faults out.new)) bench.old bench.new result }
     ensures told { S.told shelf.new ≡ S.told shelf.old }
-    ensures others { (q : List ℕ) → q ≢ run.now.samples.now → stall_in run.now ≢ Some q → S.reach shelf.new q ≡ S.reach shelf.old q }
+    ensures others { (q : List ℕ) → q ≢ run.now.samples.now → stall_in run.now ≢ Some q
+        → S.reach shelf.new q ≡ S.reach shelf.old q }
     ensures shelf_later { S.faults shelf.old ≤ S.faults shelf.new }
     ensures out_later { K.faults out.old ≤ K.faults out.new }
 {
-    let Origin { conf, before } = origin;
-    match conf {
-        Loadable::Base(conf) => match run_on(alloc, conf, before, run, shelf, out) {
-            Err(answer) => answer,
-            Ok(Over { answer, machine }) => {
-                *bench = Bench::Base(machine);
-                answer
-            }
-        },
-        Loadable::Wide(conf) => match run_on(alloc, conf, before, run, shelf, out) {
-            Err(answer) => answer,
-            Ok(Over { answer, machine }) => {
-                *bench = Bench::Wide(machine);
-                answer
-            }
-        },
+    match run_either(alloc, origin, run, shelf, out) {
+        Err(answer) => answer,
+        Ok(ran) => {
+            let answer = ran.answer();
+            *bench = ran.into_bench();
+            answer
+        }
     }
 }
 
@@ -105,10 +176,12 @@ pub fn run_loaded<S: Shelf, K: Sink>(
     bench: &mut Bench,
 ) -> Answer
     ensures ended { IsRunOf loaded (job_of job.now) (call
-        (view (S.told shelf.old) (S.reach shelf.old) (S.faults shelf.old)) (view (S.told shelf.new) (S.reach shelf.new) (S.faults shelf.new))
+        (view (S.told shelf.old) (S.reach shelf.old) (S.faults shelf.old))
+        (view (S.told shelf.new) (S.reach shelf.new) (S.faults shelf.new))
         (K.told out.old) (K.told out.new) (K.faults out.old) (K.faults out.new)) bench.old bench.new result }
     ensures told { S.told shelf.new ≡ S.told shelf.old }
-    ensures others { (q : List ℕ) → q ≢ (job_of job.now).second → IsNoStall (job_of job.now) q → S.reach shelf.new q ≡ S.reach shelf.old q }
+    ensures others { (q : List ℕ) → q ≢ (job_of job.now).second → IsNoStall (job_of job.now) q
+        → S.reach shelf.new q ≡ S.reach shelf.old q }
     ensures shelf_later { S.faults shelf.old ≤ S.faults shelf.new }
     ensures out_later { K.faults out.old ≤ K.faults out.new }
 {
@@ -133,11 +206,13 @@ pub fn execute<S: Shelf, K: Sink>(
 ) -> Answer
     // What it came to: a refusal before the run, or the run.
     ensures ended { HasCome (job_of job.now) (call
-        (view (S.told shelf.old) (S.reach shelf.old) (S.faults shelf.old)) (view (S.told shelf.new) (S.reach shelf.new) (S.faults shelf.new))
+        (view (S.told shelf.old) (S.reach shelf.old) (S.faults shelf.old))
+        (view (S.told shelf.new) (S.reach shelf.new) (S.faults shelf.new))
         (K.told out.old) (K.told out.new) (K.faults out.old) (K.faults out.new)) bench.old bench.new result }
 
     ensures told { S.told shelf.new ≡ S.told shelf.old }
-    ensures others { (q : List ℕ) → q ≢ (job_of job.now).second → IsNeither (job_of job.now) q → S.reach shelf.new q ≡ S.reach shelf.old q }
+    ensures others { (q : List ℕ) → q ≢ (job_of job.now).second → IsNeither (job_of job.now) q
+        → S.reach shelf.new q ≡ S.reach shelf.old q }
     ensures shelf_later { S.faults shelf.old ≤ S.faults shelf.new }
     ensures out_later { K.faults out.old ≤ K.faults out.new }
 {

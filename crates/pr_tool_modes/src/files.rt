@@ -17,7 +17,8 @@ pub fn read_file<S: Shelf>(
 ) -> Result<Vec<u8>, Answer>
     ensures text { IfOk result (λ v. IsText (S.told shelf.old) name.now v.items) }
     ensures short { IfOk result (λ v. length v.items ≤ limit) }
-    ensures refused { IfErr result (IsUnread limit cap (S.told shelf.old) name.now (S.faults shelf.old) (S.faults shelf.new)) }
+    ensures refused { IfErr result
+        (IsUnread limit cap (S.told shelf.old) name.now (S.faults shelf.old) (S.faults shelf.new)) }
     ensures later { S.faults shelf.old ≤ S.faults shelf.new }
     ensures same { S.told shelf.new ≡ S.told shelf.old }
     ensures others { (q : List ℕ) → q ≢ name.now → S.reach shelf.new q ≡ S.reach shelf.old q }

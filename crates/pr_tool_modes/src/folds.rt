@@ -36,10 +36,16 @@ fn fold_all<const N: usize, const P: usize, S: Shelf>(
 ) -> Result<Vec<u8>, Answer>
     requires ready { IsReady ready.machine ready.feed ready.stall (most_of ready.feed) (name_of ready.feed) }
     requires most { before + most_of ready.feed ≤ 2 ^ 40 }
-    ensures marked { IfOk result (λ v. HasMarked N P (course (conf_of ready.entry.machine) (stripes_of ready.entry.machine) (stall_turns ready.entry.stall) false (most_of ready.entry.feed) (name_of ready.entry.feed)
-        (view (S.told shelf.old) (S.reach shelf.old) (S.faults shelf.old)) (view (S.told shelf.new) (S.reach shelf.new) (S.faults shelf.new)) untold untold) before v.items) }
-    ensures unmarked { IfErr result (IsUnmarked (course (conf_of ready.entry.machine) (stripes_of ready.entry.machine) (stall_turns ready.entry.stall) false (most_of ready.entry.feed) (name_of ready.entry.feed)
-        (view (S.told shelf.old) (S.reach shelf.old) (S.faults shelf.old)) (view (S.told shelf.new) (S.reach shelf.new) (S.faults shelf.new)) untold untold)) }
+    ensures marked { IfOk result
+        (λ v. HasMarked N P (course (conf_of ready.entry.machine) (stripes_of ready.entry.machine)
+        (stall_turns ready.entry.stall) false (most_of ready.entry.feed) (name_of ready.entry.feed)
+        (view (S.told shelf.old) (S.reach shelf.old) (S.faults shelf.old))
+        (view (S.told shelf.new) (S.reach shelf.new) (S.faults shelf.new)) untold untold) before v.items) }
+    ensures unmarked { IfErr result
+        (IsUnmarked (course (conf_of ready.entry.machine) (stripes_of ready.entry.machine)
+        (stall_turns ready.entry.stall) false (most_of ready.entry.feed) (name_of ready.entry.feed)
+        (view (S.told shelf.old) (S.reach shelf.old) (S.faults shelf.old))
+        (view (S.told shelf.new) (S.reach shelf.new) (S.faults shelf.new)) untold untold)) }
     ensures told { S.told shelf.new ≡ S.told shelf.old }
     ensures others { (q : List ℕ) → q ≢ name_of ready.entry.feed → S.reach shelf.new q ≡ S.reach shelf.old q }
     ensures later { S.faults shelf.old ≤ S.faults shelf.new }
@@ -72,12 +78,17 @@ fn fold_on<const N: usize, const P: usize, S: Shelf>(
     shelf: &mut S,
 ) -> Result<Vec<u8>, Answer>
     requires { before ≤ 2 ^ 40 }
-    ensures marked { (source : Source) → count_in source ≡ before → IfOk result (λ v. HasRunFor (IsNoStall (job_on source run.now)) (shape_of conf.entry) (job_on source run.now)
-        (view (S.told shelf.old) (S.reach shelf.old) (S.faults shelf.old)) (view (S.told shelf.new) (S.reach shelf.new) (S.faults shelf.new)) (λ r. HasMarked N P r before v.items)) }
-    ensures refused { (source : Source) → count_in source ≡ before → IfErr result (IsUnfolded (shape_of conf.entry) (job_on source run.now)
-        (view (S.told shelf.old) (S.reach shelf.old) (S.faults shelf.old)) (view (S.told shelf.new) (S.reach shelf.new) (S.faults shelf.new))) }
+    ensures marked { (source : Source) → count_in source ≡ before
+        → IfOk result (λ v. HasRunFor (IsNoStall (job_on source run.now)) (shape_of conf.entry) (job_on source run.now)
+        (view (S.told shelf.old) (S.reach shelf.old) (S.faults shelf.old))
+        (view (S.told shelf.new) (S.reach shelf.new) (S.faults shelf.new)) (λ r. HasMarked N P r before v.items)) }
+    ensures refused { (source : Source) → count_in source ≡ before
+        → IfErr result (IsUnfolded (shape_of conf.entry) (job_on source run.now)
+        (view (S.told shelf.old) (S.reach shelf.old) (S.faults shelf.old))
+        (view (S.told shelf.new) (S.reach shelf.new) (S.faults shelf.new))) }
     ensures told { S.told shelf.new ≡ S.told shelf.old }
-    ensures others { (q : List ℕ) → q ≢ run.now.samples.now → stall_in run.now ≢ Some q → S.reach shelf.new q ≡ S.reach shelf.old q }
+    ensures others { (q : List ℕ) → q ≢ run.now.samples.now → stall_in run.now ≢ Some q
+        → S.reach shelf.new q ≡ S.reach shelf.old q }
     ensures later { S.faults shelf.old ≤ S.faults shelf.new }
 {
     let stall = match read_stall(alloc, shelf, run.stall) {
@@ -98,12 +109,18 @@ fn fold_loaded<S: Shelf>(
     run: &Run<'_>,
     shelf: &mut S,
 ) -> Result<Vec<u8>, Answer>
-    ensures marked { (source : Source) → count_in source ≡ origin.before → IfOk result (λ v. HasRunFor (IsNoStall (job_on source run.now)) (shape_in origin.conf) (job_on source run.now)
-        (view (S.told shelf.old) (S.reach shelf.old) (S.faults shelf.old)) (view (S.told shelf.new) (S.reach shelf.new) (S.faults shelf.new)) (λ r. HasMarked (columns_in origin.conf) (registers_in origin.conf) r origin.before v.items)) }
-    ensures refused { (source : Source) → count_in source ≡ origin.before → IfErr result (IsUnfolded (shape_in origin.conf) (job_on source run.now)
-        (view (S.told shelf.old) (S.reach shelf.old) (S.faults shelf.old)) (view (S.told shelf.new) (S.reach shelf.new) (S.faults shelf.new))) }
+    ensures marked { (source : Source) → count_in source ≡ origin.before
+        → IfOk result (λ v. HasRunFor (IsNoStall (job_on source run.now)) (shape_in origin.conf) (job_on source run.now)
+        (view (S.told shelf.old) (S.reach shelf.old) (S.faults shelf.old))
+        (view (S.told shelf.new) (S.reach shelf.new) (S.faults shelf.new))
+        (λ r. HasMarked (columns_in origin.conf) (registers_in origin.conf) r origin.before v.items)) }
+    ensures refused { (source : Source) → count_in source ≡ origin.before
+        → IfErr result (IsUnfolded (shape_in origin.conf) (job_on source run.now)
+        (view (S.told shelf.old) (S.reach shelf.old) (S.faults shelf.old))
+        (view (S.told shelf.new) (S.reach shelf.new) (S.faults shelf.new))) }
     ensures told { S.told shelf.new ≡ S.told shelf.old }
-    ensures others { (q : List ℕ) → q ≢ run.now.samples.now → stall_in run.now ≢ Some q → S.reach shelf.new q ≡ S.reach shelf.old q }
+    ensures others { (q : List ℕ) → q ≢ run.now.samples.now → stall_in run.now ≢ Some q
+        → S.reach shelf.new q ≡ S.reach shelf.old q }
     ensures later { S.faults shelf.old ≤ S.faults shelf.new }
 {
     let Origin { conf, before } = origin;
@@ -133,11 +150,14 @@ fn fold_from<S: Shelf, K: Sink>(
     shelf: &mut S,
     out: &mut K,
 ) -> Answer
-    ensures ended { (source : Source) → count_in source ≡ origin.before → IsFoldOf origin.conf origin.before (job_on source run.now) (call
-        (view (S.told shelf.old) (S.reach shelf.old) (S.faults shelf.old)) (view (S.told shelf.new) (S.reach shelf.new) (S.faults shelf.new))
+    ensures ended { (source : Source) → count_in source ≡ origin.before
+        → IsFoldOf origin.conf origin.before (job_on source run.now) (call
+        (view (S.told shelf.old) (S.reach shelf.old) (S.faults shelf.old))
+        (view (S.told shelf.new) (S.reach shelf.new) (S.faults shelf.new))
         (K.told out.old) (K.told out.new) (K.faults out.old) (K.faults out.new)) result }
     ensures told { S.told shelf.new ≡ S.told shelf.old }
-    ensures others { (q : List ℕ) → q ≢ run.now.samples.now → stall_in run.now ≢ Some q → S.reach shelf.new q ≡ S.reach shelf.old q }
+    ensures others { (q : List ℕ) → q ≢ run.now.samples.now → stall_in run.now ≢ Some q
+        → S.reach shelf.new q ≡ S.reach shelf.old q }
     ensures shelf_later { S.faults shelf.old ≤ S.faults shelf.new }
     ensures out_later { K.faults out.old ≤ K.faults out.new }
 {
@@ -154,10 +174,12 @@ fn fold_from<S: Shelf, K: Sink>(
 /// nothing is written.
 pub fn fold<S: Shelf, K: Sink>(alloc: Global, job: &Job<'_>, shelf: &mut S, out: &mut K) -> Answer
     ensures ended { IsFolded (job_of job.now) (call
-        (view (S.told shelf.old) (S.reach shelf.old) (S.faults shelf.old)) (view (S.told shelf.new) (S.reach shelf.new) (S.faults shelf.new))
+        (view (S.told shelf.old) (S.reach shelf.old) (S.faults shelf.old))
+        (view (S.told shelf.new) (S.reach shelf.new) (S.faults shelf.new))
         (K.told out.old) (K.told out.new) (K.faults out.old) (K.faults out.new)) result }
     ensures told { S.told shelf.new ≡ S.told shelf.old }
-    ensures others { (q : List ℕ) → q ≢ (job_of job.now).second → IsNeither (job_of job.now) q → S.reach shelf.new q ≡ S.reach shelf.old q }
+    ensures others { (q : List ℕ) → q ≢ (job_of job.now).second → IsNeither (job_of job.now) q
+        → S.reach shelf.new q ≡ S.reach shelf.old q }
     ensures shelf_later { S.faults shelf.old ≤ S.faults shelf.new }
     ensures out_later { K.faults out.old ≤ K.faults out.new }
 {
@@ -176,10 +198,12 @@ pub fn extend<S: Shelf, K: Sink>(
     out: &mut K,
 ) -> Answer
     ensures ended { HasExtended (resumption_of resumption.now) (call
-        (view (S.told shelf.old) (S.reach shelf.old) (S.faults shelf.old)) (view (S.told shelf.new) (S.reach shelf.new) (S.faults shelf.new))
+        (view (S.told shelf.old) (S.reach shelf.old) (S.faults shelf.old))
+        (view (S.told shelf.new) (S.reach shelf.new) (S.faults shelf.new))
         (K.told out.old) (K.told out.new) (K.faults out.old) (K.faults out.new)) result }
     ensures told { S.told shelf.new ≡ S.told shelf.old }
-    ensures others { (q : List ℕ) → IsNoFile (resumption_of resumption.now) q → S.reach shelf.new q ≡ S.reach shelf.old q }
+    ensures others { (q : List ℕ) → IsNoFile (resumption_of resumption.now) q
+        → S.reach shelf.new q ≡ S.reach shelf.old q }
     ensures shelf_later { S.faults shelf.old ≤ S.faults shelf.new }
     ensures out_later { K.faults out.old ≤ K.faults out.new }
 {

@@ -8,13 +8,15 @@ ghost use Rattle.pr_tool_modes.specs.Lines.{OnBench};
 ghost use Rattle.pr_tool_modes.specs.Generations.{generation_of, job_for, generated, first_line, last_line, Tells, TellsOn, HasGenerated, IsGenVerdict, IsGenerated};
 
 use crate::benches::Bench;
-use crate::executions::run_loaded;
+use crate::executions::{Ran, run_either};
 use crate::jobs::{Generation, Job, Run, Source};
+use crate::loadables::Origin;
 use crate::programs::compile_file;
 use itoa::Buffer;
 use pr_edge::{MemSink, Sink, SureShelf, write_all};
 use pr_gen::{program_of, samples_of};
 use pr_machine::{Machine, Running};
+use pr_samples::line_end;
 use pr_tool_answers::Answer;
 use std::alloc::{AllocError, Global};
 
@@ -70,11 +72,10 @@ fn shelf_of(alloc: Global, turns: u32) -> Result<SureShelf, AllocError>
 fn first_line(text: &[u8]) -> &[u8]
     ensures { result.now ≡ first_line text.now }
 {
-    let mut end = 0;
-    while end < text.len() && text[end] != b'\n' {
-        end += 1;
+    match line_end(text) {
+        Some(end) => &text[..end],
+        None => text,
     }
-    &text[..end]
 }
 
 /// The last line of a text, without its end: read backwards, it is the first line after that end.
@@ -123,26 +124,27 @@ fn summary_of<const N: usize, const P: usize>(
     Ok(text)
 }
 
-/// The same of the machine on a bench; nothing where there is none.
+/// The same of a run of either fabric.
 fn summary_on(
     alloc: Global,
     turns: u32,
     units: usize,
-    bench: &Bench,
+    ran: &Ran,
     lines: &[u8],
 ) -> Result<Vec<u8>, AllocError>
-    ensures { IfOk result (λ v. TellsOn turns units lines.now v.items bench.now) }
+    ensures { IfOk result (λ v. TellsOn turns units lines.now v.items ran.now) }
 {
-    match bench {
-        Bench::Nothing => Ok(Vec::new(alloc)),
-        Bench::Base(machine) => summary_of(alloc, turns, units, machine, lines),
-        Bench::Wide(machine) => summary_of(alloc, turns, units, machine, lines),
+    match ran {
+        Ran::Base(over) => summary_of(alloc, turns, units, &over.machine, lines),
+        Ran::Wide(over) => summary_of(alloc, turns, units, &over.machine, lines),
     }
 }
 
 /// Makes both texts, compiles the program and runs it on the samples, and says what is to be told of it.
 fn run_generated(alloc: Global, generation: &Generation) -> Result<Generated, Answer>
-    ensures told { IfOk result (λ r. OnBench (λ N P machine. HasGenerated (generation_of generation.now) (λ text. r.text.items ≡ text) machine) r.bench) }
+    ensures told { IfOk result
+        (λ r. OnBench (λ N P machine. HasGenerated (generation_of generation.now) (λ text. r.text.items ≡ text) machine)
+        r.bench) }
     ensures refused { IfErr result (λ a. IsGenVerdict (generation_of generation.now) a ⊎ (a ≡ Answer.Memory)) }
     ensures failed { IfErr result (λ a. a ≢ Answer.Ok) }
 {
@@ -159,14 +161,24 @@ fn run_generated(alloc: Global, generation: &Generation) -> Result<Generated, An
         Err(_) => return Err(Answer::Memory),
     };
     let job = job_of(generation);
-    let mut bench = Bench::Nothing;
-    match run_loaded(alloc, made.loaded, &job, &mut shelf, &mut lines, &mut bench) {
+    let origin = Origin {
+        conf: made.loaded,
+        before: 0,
+    };
+    let ran = match run_either(alloc, origin, &job.run, &mut shelf, &mut lines) {
+        Ok(ran) => ran,
+        Err(answer) => return Err(answer),
+    };
+    match ran.answer() {
         Answer::Ok => {}
         Answer::WriteFault => return Err(Answer::Memory),
         answer => return Err(answer),
     }
-    match summary_on(alloc, generation.turns, made.units, &bench, lines.bytes()) {
-        Ok(text) => Ok(Generated { text, bench }),
+    match summary_on(alloc, generation.turns, made.units, &ran, lines.bytes()) {
+        Ok(text) => Ok(Generated {
+            text,
+            bench: ran.into_bench(),
+        }),
         Err(_) => Err(Answer::Memory),
     }
 }
@@ -180,7 +192,8 @@ pub fn generate<K: Sink>(
     out: &mut K,
     bench: &mut Bench,
 ) -> Answer
-    ensures ended { IsGenerated (generation_of generation.now) (K.told out.old) (K.told out.new) (K.faults out.old) (K.faults out.new) bench.old bench.new result }
+    ensures ended { IsGenerated (generation_of generation.now)
+        (K.told out.old) (K.told out.new) (K.faults out.old) (K.faults out.new) bench.old bench.new result }
     ensures later { K.faults out.old ≤ K.faults out.new }
 {
     let ran = match run_generated(alloc, generation) {

@@ -2,6 +2,7 @@
 
 ghost use Rattle.std.specs.Prelude.{◌≡◌, ◌+◌, ◌++◌, ℕ, List, All, length, Option, Some};
 ghost use Rattle.pr_base.specs.Rows.{IsRow};
+ghost use Rattle.pr_compile.specs.Laws.{AtMostOne};
 ghost use Rattle.pr_conf.specs.Shape.{Shape};
 ghost use Rattle.pr_conf.specs.After.{conf_after};
 ghost use Rattle.pr_edge.specs.Tape.{Appends};
@@ -27,10 +28,12 @@ ghost use Rattle.pr_tool_modes.specs.Texts.{IsTextVerdict};
 /// The files settle what a mode is to come to: each mode has one verdict at most. The programs of one file mean the same, so
 /// that the lines of what its program means are one text.
 pub fn verdict_law()
-    ensures text { (files : List ℕ → Option (List ℕ)) (source : Source) (a b : Answer) → IsTextVerdict files source a → IsTextVerdict files source b → a ≡ b }
-    ensures eval { (files : List ℕ → Option (List ℕ)) (first second : List ℕ) (a b : Answer) → IsEvalVerdict files first second a → IsEvalVerdict files first second b → a ≡ b }
-    ensures run { (files : List ℕ → Option (List ℕ)) (j : Job) (a b : Answer) → IsRunVerdict files j a → IsRunVerdict files j b → a ≡ b }
-    ensures meaning { (files : List ℕ → Option (List ℕ)) (name : List ℕ) (p q : Program) (v w : List ℕ) → HasProgram (Some files) name p v → HasProgram (Some files) name q w
+    ensures text { (files : List ℕ → Option (List ℕ)) (source : Source) → AtMostOne (IsTextVerdict files source) }
+    ensures eval { (files : List ℕ → Option (List ℕ)) (first second : List ℕ)
+        → AtMostOne (IsEvalVerdict files first second) }
+    ensures run { (files : List ℕ → Option (List ℕ)) (j : Job) → AtMostOne (IsRunVerdict files j) }
+    ensures meaning { (files : List ℕ → Option (List ℕ)) (name : List ℕ) (p q : Program) (v w : List ℕ)
+        → HasProgram (Some files) name p v → HasProgram (Some files) name q w
         → (rows : List (List ℕ)) → out p rows ≡ out q rows }
 {}
 
@@ -38,12 +41,16 @@ pub fn verdict_law()
 /// is to come to what the same run of the program is to come to, with the same samples, stripes, stall text and log; and where
 /// two such runs have fed all samples, they have written the same text.
 pub fn behaviour_law()
-    ensures gives { (files : List ℕ → Option (List ℕ)) (name : List ℕ) (target : Target) (kept : List ℕ) → (k : IsKept files name target kept) → Gives (Some files) (File kept) k.N k.P k.conf }
-    ensures verdict { (files : List ℕ → Option (List ℕ)) (name : List ℕ) (target : Target) (kept : List ℕ) (j : Job) (a : Answer) → IsKept files name target kept
+    ensures gives { (files : List ℕ → Option (List ℕ)) (name : List ℕ) (target : Target) (kept : List ℕ)
+        → (k : IsKept files name target kept) → Gives (Some files) (File kept) k.N k.P k.conf }
+    ensures verdict { (files : List ℕ → Option (List ℕ)) (name : List ℕ) (target : Target) (kept : List ℕ) (j : Job)
+        (a : Answer) → IsKept files name target kept
         → IsRunVerdict files (from_source (Text name target) j) a → IsRunVerdict files (from_source (File kept) j) a }
-    ensures text { (files : List ℕ → Option (List ℕ)) (name : List ℕ) (target : Target) (kept : List ℕ) (j : Job) (samples : List ℕ) (c d : Call) (one other : Bench) (e f : Ending)
+    ensures text { (files : List ℕ → Option (List ℕ)) (name : List ℕ) (target : Target) (kept : List ℕ) (j : Job)
+        (samples : List ℕ) (c d : Call) (one other : Bench) (e f : Ending)
         → IsKept files name target kept
-        → IsWholeRun (MeansLines files (from_source (Text name target) j)) files (from_source (Text name target) j) samples c one e
+        → IsWholeRun (MeansLines files (from_source (Text name target) j)) files
+        (from_source (Text name target) j) samples c one e
         → IsWholeRun NoMore files (from_source (File kept) j) samples d other f
         → (e ≡ f) × ((text : List ℕ) × Appends c.old c.new text × Appends d.old d.new text) }
 {}
@@ -52,10 +59,13 @@ pub fn behaviour_law()
 /// `move` writes the rest of what the program means, by its configuration alone. What is written of a checkpoint is read as it;
 /// and the checkpoint after further samples is the one after all of them, so that a chain of checkpoints is one.
 pub fn moving_law()
-    ensures lines { (files : List ℕ → Option (List ℕ)) (name : List ℕ) (target : Target) (N P : ℕ) (conf : Shape) (xs ys : List (List ℕ)) → Gives (Some files) (Text name target) N P conf
+    ensures lines { (files : List ℕ → Option (List ℕ)) (name : List ℕ) (target : Target) (N P : ℕ) (conf : Shape)
+        (xs ys : List (List ℕ)) → Gives (Some files) (Text name target) N P conf
         → All (IsRow conf.inputs) xs → All (IsRow conf.inputs) ys → GoesOn files name N P conf xs ys }
-    ensures kept { (files : List ℕ → Option (List ℕ)) (name : List ℕ) (target : Target) (rows : List (List ℕ)) (kept : List ℕ) → (k : IsMarkKept files name target rows kept)
+    ensures kept { (files : List ℕ → Option (List ℕ)) (name : List ℕ) (target : Target) (rows : List (List ℕ))
+        (kept : List ℕ) → (k : IsMarkKept files name target rows kept)
         → Gives (Some files) (Mark kept (length rows)) k.N k.P (conf_after k.N k.P k.conf (pieces k.conf rows)) }
     ensures chain { (N P before : ℕ) (conf : Shape) (xs ys : List (List ℕ))
-        → mark_after N P (before + length xs) (conf_after N P conf (pieces conf xs)) ys ≡ mark_after N P before conf (xs ++ ys) }
+        → mark_after N P (before + length xs) (conf_after N P conf (pieces conf xs)) ys ≡ mark_after N P before conf
+        (xs ++ ys) }
 {}

@@ -27,11 +27,13 @@ pub fn move_on<S: Shelf, K: Sink>(
 ) -> Answer
     // What it came to: a refusal before the run, or the run.
     ensures ended { HasMoved (resumption_of resumption.now) (call
-        (view (S.told shelf.old) (S.reach shelf.old) (S.faults shelf.old)) (view (S.told shelf.new) (S.reach shelf.new) (S.faults shelf.new))
+        (view (S.told shelf.old) (S.reach shelf.old) (S.faults shelf.old))
+        (view (S.told shelf.new) (S.reach shelf.new) (S.faults shelf.new))
         (K.told out.old) (K.told out.new) (K.faults out.old) (K.faults out.new)) bench.old bench.new result }
 
     ensures told { S.told shelf.new ≡ S.told shelf.old }
-    ensures others { (q : List ℕ) → IsNoFile (resumption_of resumption.now) q → S.reach shelf.new q ≡ S.reach shelf.old q }
+    ensures others { (q : List ℕ) → IsNoFile (resumption_of resumption.now) q
+        → S.reach shelf.new q ≡ S.reach shelf.old q }
     ensures shelf_later { S.faults shelf.old ≤ S.faults shelf.new }
     ensures out_later { K.faults out.old ≤ K.faults out.new }
 {

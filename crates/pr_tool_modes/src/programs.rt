@@ -1,25 +1,20 @@
 //! Programs that are read from files.
 ghost use Rattle.std.specs.Prelude.{◌≡◌, ◌≢◌, ◌≤◌, ◌⊎◌, ℕ, List, length, IfOk, IfErr};
-ghost use Rattle.pr_base.specs.declared.caps.Cap.{Cap};
+ghost use Rattle.pr_base.specs.Fabrics.{columns, registers};
 ghost use Rattle.pr_conf.specs.Configuration.{shape_of};
 ghost use Rattle.pr_compile.specs.Configured.{IsCompiled, HasUnits};
-ghost use Rattle.pr_tool_modes.specs.Files.{IsFileRefusal};
-ghost use Rattle.pr_tool_modes.specs.Programs.{front_answer, compile_answer, IsBadProgram, IsUncompiled, IsLoaded, IsCounted};
-ghost use Rattle.pr_tool_modes.specs.Sources.{columns, registers, columns_in, registers_in, shape_in, IsOnFabric, CompilesTo};
+ghost use Rattle.pr_tool_modes.specs.Programs.{front_answer, compile_answer, IsNotLoaded, IsUncompiled, IsNotCompiled, IsLoaded, HasCompiled, IsCounted};
+ghost use Rattle.pr_tool_modes.specs.Sources.{columns_in, registers_in, shape_in, IsOnFabric};
 
 use crate::files::read_file;
 use crate::loadables::Loadable;
 use crate::targets::Target;
-use pr_base::Cap;
-use pr_code::Fabric;
+use pr_base::{Cap, Fabric};
 use pr_compile::{CompileFault, Compiled, compile_counted};
 use pr_compile_front::{Front, FrontFault, read_program};
 use pr_edge::Shelf;
 use pr_tool_answers::Answer;
 use std::alloc::Global;
-
-/// The bytes of a program at most.
-const LIMIT: usize = 1_048_576;
 
 /// The answer that a fault of a text is.
 fn answer_of_front(fault: FrontFault) -> Answer
@@ -51,12 +46,18 @@ fn answer_of(fault: CompileFault) -> Answer
 /// Reads the program of a file, with its equations and their widths.
 pub fn load_program<S: Shelf>(alloc: Global, shelf: &mut S, name: &str) -> Result<Front, Answer>
     ensures loaded { IfOk result (λ f. IsLoaded (S.told shelf.old) name.now f) }
-    ensures refused { IfErr result (IsFileRefusal 1048576 Cap.ProgramBytes IsBadProgram (S.told shelf.old) name.now (S.faults shelf.old) (S.faults shelf.new)) }
+    ensures refused { IfErr result (IsNotLoaded (S.told shelf.old) name.now (S.faults shelf.old) (S.faults shelf.new)) }
     ensures later { S.faults shelf.old ≤ S.faults shelf.new }
     ensures same { S.told shelf.new ≡ S.told shelf.old }
     ensures others { (q : List ℕ) → q ≢ name.now → S.reach shelf.new q ≡ S.reach shelf.old q }
 {
-    let text = match read_file(alloc, shelf, name, LIMIT, Cap::ProgramBytes) {
+    let text = match read_file(
+        alloc,
+        shelf,
+        name,
+        Cap::MOST_PROGRAM_BYTES,
+        Cap::ProgramBytes,
+    ) {
         Ok(text) => text,
         Err(answer) => return Err(answer),
     };
@@ -96,25 +97,36 @@ fn compile_text<const N: usize, const P: usize>(
     }
 }
 
-/// The configuration of a text, for this target.
-fn compile_for(alloc: Global, text: &[u8], target: Target) -> Result<Made, Answer>
-    requires short { length text.now ≤ 1048576 }
-    ensures compiled { IfOk result (λ m. CompilesTo target (columns_in m.loaded) (registers_in m.loaded) text.now (shape_in m.loaded)) }
-    ensures units { IfOk result (λ m. HasUnits target.narrowed text.now m.units) }
-    ensures refused { IfErr result (λ a. IsUncompiled (columns target.fabric) (registers target.fabric) target.narrowed text.now a ⊎ (a ≡ Answer.Memory)) }
+/// Reads and compiles the program of a file, on this fabric, narrowed or not.
+pub fn compile_on<const N: usize, const P: usize, S: Shelf>(
+    alloc: Global,
+    shelf: &mut S,
+    name: &str,
+    narrowed: bool,
+) -> Result<Compiled<N, P>, Answer>
+    requires columns { 1 ≤ N }
+    requires most_columns { N ≤ 64 }
+    requires registers { 2 ≤ P }
+    requires most_registers { P ≤ 16 }
+    ensures compiled { IfOk result (λ c. HasCompiled (S.told shelf.old) name.now N P narrowed (shape_of c.conf)) }
+    ensures units { IfOk result (λ c. IsCounted (S.told shelf.old) name.now narrowed c.units) }
+    ensures refused { IfErr result
+        (IsNotCompiled N P narrowed (S.told shelf.old) name.now (S.faults shelf.old) (S.faults shelf.new)) }
+    ensures later { S.faults shelf.old ≤ S.faults shelf.new }
+    ensures same { S.told shelf.new ≡ S.told shelf.old }
+    ensures others { (q : List ℕ) → q ≢ name.now → S.reach shelf.new q ≡ S.reach shelf.old q }
 {
-    match target.fabric {
-        Fabric::Base => {
-            let Compiled { conf, units } = compile_text::<16, 8>(alloc, text, target.narrowed)?;
-            let loaded = Loadable::Base(conf);
-            Ok(Made { loaded, units })
-        }
-        Fabric::Wide => {
-            let Compiled { conf, units } = compile_text::<32, 16>(alloc, text, target.narrowed)?;
-            let loaded = Loadable::Wide(conf);
-            Ok(Made { loaded, units })
-        }
-    }
+    let text = match read_file(
+        alloc,
+        shelf,
+        name,
+        Cap::MOST_PROGRAM_BYTES,
+        Cap::ProgramBytes,
+    ) {
+        Ok(text) => text,
+        Err(answer) => return Err(answer),
+    };
+    compile_text::<N, P>(alloc, &text, narrowed)
 }
 
 /// Reads and compiles the program of a file, for this target.
@@ -124,16 +136,29 @@ pub fn compile_file<S: Shelf>(
     name: &str,
     target: Target,
 ) -> Result<Made, Answer>
-    ensures compiled { IfOk result (λ m. IsOnFabric (S.told shelf.old) name.now target (columns_in m.loaded) (registers_in m.loaded) (shape_in m.loaded)) }
+    ensures compiled { IfOk result
+        (λ m. IsOnFabric (S.told shelf.old) name.now target (columns_in m.loaded) (registers_in m.loaded)
+        (shape_in m.loaded)) }
     ensures units { IfOk result (λ m. IsCounted (S.told shelf.old) name.now target.narrowed m.units) }
-    ensures refused { IfErr result (IsFileRefusal 1048576 Cap.ProgramBytes (IsUncompiled (columns target.fabric) (registers target.fabric) target.narrowed) (S.told shelf.old) name.now (S.faults shelf.old) (S.faults shelf.new)) }
+    ensures refused { IfErr result
+        (IsNotCompiled (columns target.fabric) (registers target.fabric) target.narrowed (S.told shelf.old) name.now
+        (S.faults shelf.old) (S.faults shelf.new)) }
     ensures later { S.faults shelf.old ≤ S.faults shelf.new }
     ensures same { S.told shelf.new ≡ S.told shelf.old }
     ensures others { (q : List ℕ) → q ≢ name.now → S.reach shelf.new q ≡ S.reach shelf.old q }
 {
-    let text = match read_file(alloc, shelf, name, LIMIT, Cap::ProgramBytes) {
-        Ok(text) => text,
-        Err(answer) => return Err(answer),
-    };
-    compile_for(alloc, &text, target)
+    match target.fabric {
+        Fabric::Base => {
+            let made = compile_on::<16, 8, S>(alloc, shelf, name, target.narrowed)?;
+            let Compiled { conf, units } = made;
+            let loaded = Loadable::Base(conf);
+            Ok(Made { loaded, units })
+        }
+        Fabric::Wide => {
+            let made = compile_on::<32, 16, S>(alloc, shelf, name, target.narrowed)?;
+            let Compiled { conf, units } = made;
+            let loaded = Loadable::Wide(conf);
+            Ok(Made { loaded, units })
+        }
+    }
 }

@@ -7,14 +7,12 @@ ghost use Rattle.pr_run.specs.Setting.{stall_turns};
 ghost use Rattle.pr_tool_modes.specs.Ready.{IsReady, IsFeedOf};
 
 use crate::jobs::Run;
+use pr_base::Cap;
 use pr_conf::Configuration;
 use pr_machine::{Bare, Machine, Running};
 use pr_run::Room;
 use pr_samples::{Feed, Stall};
 use std::alloc::{AllocError, Global};
-
-/// The samples of a run at most, those among them that came before it.
-const MOST: u64 = 1_099_511_627_776;
 
 /// All that a run takes.
 #[derive(Drop)]
@@ -75,7 +73,7 @@ pub fn make_ready<const N: usize, const P: usize>(
     ensures turns { IfOk result (λ r. stall_turns r.stall ≡ stall_turns stall) }
 {
     let machine = load(alloc, conf, run.stripes)?;
-    let feed = open_feed(alloc, run.samples, MOST - before, &machine)?;
+    let feed = open_feed(alloc, run.samples, Cap::MOST_SAMPLES - before, &machine)?;
     let room = Room::make(alloc)?;
     Ok(Ready {
         machine,

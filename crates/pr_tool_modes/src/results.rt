@@ -4,7 +4,6 @@ ghost use Rattle.pr_samples.specs.declared.feed.Got.{Got};
 ghost use Rattle.pr_base.specs.declared.caps.Cap.{Cap};
 ghost use Rattle.pr_edge.specs.Files.{IsMissing, HasReadCause};
 ghost use Rattle.pr_flat.specs.Widths.{AreWidths};
-ghost use Rattle.pr_scope.specs.Walk.{IsScoped};
 ghost use Rattle.pr_expand_spec.specs.Programs.{equations_of};
 ghost use Rattle.pr_compile_front.specs.Passed.{HasEquations};
 ghost use Rattle.pr_samples.specs.Feed.{name_of, SameFile};
@@ -20,12 +19,6 @@ use pr_samples::{Feed, Got};
 use pr_source::Evaluator;
 use pr_tool_answers::Answer;
 use std::alloc::{AllocError, Global};
-
-/// The bytes of a file of samples at most.
-const LIMIT: u64 = 16_777_216;
-
-/// The samples at most.
-const MOST: u64 = 1_099_511_627_776;
 
 /// The lines of results, and how the samples end.
 #[derive(Drop)]
@@ -50,15 +43,18 @@ fn results_in<S: Shelf>(
     sample: &mut [Num],
     row: &mut [Num],
 ) -> Result<Results, AllocError>
-    requires scoped { IsScoped front.now.scoped.program front.now.scoped }
     requires flat { HasEquations front.now.scoped.program front.now.flat }
     requires widths { AreWidths (equations_of front.now.scoped.program).equations front.now.widths }
     requires feed { IsShortFeed (inputs_of front.now.scoped.program) feed.old }
     requires sample { length sample.old ≡ vec_len front.now.scoped.inputs }
     requires row { length row.old ≡ vec_len front.now.flat.outputs }
-    ensures results { IfOk result (λ r. r.end ≢ Got.ReadFault → HasEvaluated (S.told shelf.old) front.now.scoped.program feed.old feed.new r.text.items r.end) }
+    ensures results { IfOk result
+        (λ r. r.end ≢ Got.ReadFault
+        → HasEvaluated (S.told shelf.old) front.now.scoped.program feed.old feed.new r.text.items r.end) }
     ensures there { IfOk result (λ r. r.end ≢ Got.ReadFault → IsMissing (S.told shelf.old) (name_of feed.old) → ⊥) }
-    ensures cause { IfOk result (λ r. r.end ≡ Got.ReadFault → HasReadCause (S.told shelf.old) (name_of feed.old) (S.faults shelf.old) (S.faults shelf.new)) }
+    ensures cause { IfOk result
+        (λ r. r.end ≡ Got.ReadFault
+        → HasReadCause (S.told shelf.old) (name_of feed.old) (S.faults shelf.old) (S.faults shelf.new)) }
     ensures file { SameFile feed.old feed.new }
     ensures later { S.faults shelf.old ≤ S.faults shelf.new }
     ensures same { S.told shelf.new ≡ S.told shelf.old }
@@ -84,13 +80,16 @@ fn evaluate<S: Shelf>(
     feed: &mut Feed,
     shelf: &mut S,
 ) -> Result<Results, AllocError>
-    requires scoped { IsScoped front.now.scoped.program front.now.scoped }
     requires flat { HasEquations front.now.scoped.program front.now.flat }
     requires widths { AreWidths (equations_of front.now.scoped.program).equations front.now.widths }
     requires feed { IsShortFeed (inputs_of front.now.scoped.program) feed.old }
-    ensures results { IfOk result (λ r. r.end ≢ Got.ReadFault → HasEvaluated (S.told shelf.old) front.now.scoped.program feed.old feed.new r.text.items r.end) }
+    ensures results { IfOk result
+        (λ r. r.end ≢ Got.ReadFault
+        → HasEvaluated (S.told shelf.old) front.now.scoped.program feed.old feed.new r.text.items r.end) }
     ensures there { IfOk result (λ r. r.end ≢ Got.ReadFault → IsMissing (S.told shelf.old) (name_of feed.old) → ⊥) }
-    ensures cause { IfOk result (λ r. r.end ≡ Got.ReadFault → HasReadCause (S.told shelf.old) (name_of feed.old) (S.faults shelf.old) (S.faults shelf.new)) }
+    ensures cause { IfOk result
+        (λ r. r.end ≡ Got.ReadFault
+        → HasReadCause (S.told shelf.old) (name_of feed.old) (S.faults shelf.old) (S.faults shelf.new)) }
     ensures file { SameFile feed.old feed.new }
     ensures later { S.faults shelf.old ≤ S.faults shelf.new }
     ensures same { S.told shelf.new ≡ S.told shelf.old }
@@ -109,17 +108,24 @@ pub fn results_of<S: Shelf>(
     samples: &str,
     shelf: &mut S,
 ) -> Result<Results, Answer>
-    requires scoped { IsScoped front.now.scoped.program front.now.scoped }
     requires flat { HasEquations front.now.scoped.program front.now.flat }
     requires widths { AreWidths (equations_of front.now.scoped.program).equations front.now.widths }
-    ensures results { IfOk result (λ r. HasLines (S.told shelf.old) samples.now front.now.scoped.program r.text.items r.end) }
-    ensures refused { IfErr result (IsUnread 16777216 Cap.SampleBytes (S.told shelf.old) samples.now (S.faults shelf.old) (S.faults shelf.new)) }
+    ensures results { IfOk result
+        (λ r. HasLines (S.told shelf.old) samples.now front.now.scoped.program r.text.items r.end) }
+    ensures refused { IfErr result
+        (IsUnread 16777216 Cap.SampleBytes (S.told shelf.old) samples.now (S.faults shelf.old) (S.faults shelf.new)) }
     ensures later { S.faults shelf.old ≤ S.faults shelf.new }
     ensures same { S.told shelf.new ≡ S.told shelf.old }
     ensures others { (q : List ℕ) → q ≢ samples.now → S.reach shelf.new q ≡ S.reach shelf.old q }
 {
     let inputs = &front.scoped.inputs;
-    let mut feed = match Feed::make_bounded(alloc, samples, inputs, MOST, LIMIT) {
+    let mut feed = match Feed::make_bounded(
+        alloc,
+        samples,
+        inputs,
+        Cap::MOST_SAMPLES,
+        Cap::MOST_EVALUATED_BYTES,
+    ) {
         Ok(feed) => feed,
         Err(_) => return Err(Answer::Memory),
     };

@@ -43,8 +43,10 @@ pub fn run_all<const N: usize, const P: usize, S: Shelf, K: Sink>(
     out: &mut K,
 ) -> Over<N, P>
     requires { IsReady ready.machine ready.feed ready.stall (most_of ready.feed) (name_of ready.feed) }
-    ensures ran { IsRun (course (conf_of ready.entry.machine) (stripes_of ready.entry.machine) (stall_turns ready.entry.stall) log (most_of ready.entry.feed) (name_of ready.entry.feed)
-        (view (S.told shelf.old) (S.reach shelf.old) (S.faults shelf.old)) (view (S.told shelf.new) (S.reach shelf.new) (S.faults shelf.new))
+    ensures ran { IsRun (course (conf_of ready.entry.machine) (stripes_of ready.entry.machine)
+        (stall_turns ready.entry.stall) log (most_of ready.entry.feed) (name_of ready.entry.feed)
+        (view (S.told shelf.old) (S.reach shelf.old) (S.faults shelf.old))
+        (view (S.told shelf.new) (S.reach shelf.new) (S.faults shelf.new))
         (K.told out.old) (K.told out.new)) result.machine result.answer }
     ensures write_fault { result.answer ≡ Answer.WriteFault → Rose (K.faults out.old) (K.faults out.new) }
     ensures told { S.told shelf.new ≡ S.told shelf.old }

@@ -14,8 +14,10 @@ use std::alloc::Global;
 /// Reads the file of a source for its configuration, which is of the fabric that a configuration file names, or that a program
 /// is compiled for.
 pub fn load<S: Shelf>(alloc: Global, source: &Source<'_>, shelf: &mut S) -> Result<Loadable, Answer>
-    ensures gives { IfOk result (λ l. Gives (S.told shelf.old) (source_of source.now) (columns_in l) (registers_in l) (shape_in l)) }
-    ensures refused { IfErr result (IsSourceRefusal (S.told shelf.old) (source_of source.now) (S.faults shelf.old) (S.faults shelf.new)) }
+    ensures gives { IfOk result
+        (λ l. Gives (S.told shelf.old) (source_of source.now) (columns_in l) (registers_in l) (shape_in l)) }
+    ensures refused { IfErr result
+        (IsSourceRefusal (S.told shelf.old) (source_of source.now) (S.faults shelf.old) (S.faults shelf.new)) }
     ensures later { S.faults shelf.old ≤ S.faults shelf.new }
     ensures same { S.told shelf.new ≡ S.told shelf.old }
     ensures others { (q : List ℕ) → q ≢ name_in (source_of source.now) → S.reach shelf.new q ≡ S.reach shelf.old q }

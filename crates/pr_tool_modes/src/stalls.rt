@@ -13,21 +13,21 @@ use pr_samples::Stall;
 use pr_tool_answers::Answer;
 use std::alloc::Global;
 
-/// The bytes of a stall text at most.
-const LIMIT: usize = 1_048_576;
-
 /// The text of a stall file; without one it is empty.
 fn read_text<S: Shelf>(alloc: Global, shelf: &mut S, name: Option<&str>) -> Result<Vec<u8>, Answer>
     ensures text { IfOk result (λ v. IsStallText (S.told shelf.old) (option_map (λ s. s.now) name.entry) v.items) }
     ensures short { IfOk result (λ v. length v.items ≤ 1048576) }
-    ensures refused { IfErr result (λ a. IsSomeAnd (option_map (λ s. s.now) name.entry) (λ n. IsUnread 1048576 Cap.StallBytes (S.told shelf.old) n (S.faults shelf.old) (S.faults shelf.new) a)) }
+    ensures refused { IfErr result
+        (λ a. IsSomeAnd (option_map (λ s. s.now) name.entry)
+        (λ n. IsUnread 1048576 Cap.StallBytes (S.told shelf.old) n (S.faults shelf.old) (S.faults shelf.new) a)) }
     ensures later { S.faults shelf.old ≤ S.faults shelf.new }
     ensures same { S.told shelf.new ≡ S.told shelf.old }
-    ensures others { (q : List ℕ) → option_map (λ s. s.now) name.entry ≢ Some q → S.reach shelf.new q ≡ S.reach shelf.old q }
+    ensures others { (q : List ℕ) → option_map (λ s. s.now) name.entry ≢ Some q
+        → S.reach shelf.new q ≡ S.reach shelf.old q }
 {
     match name {
         None => Ok(Vec::new(alloc)),
-        Some(name) => read_file(alloc, shelf, name, LIMIT, Cap::StallBytes),
+        Some(name) => read_file(alloc, shelf, name, Cap::MOST_STALL_BYTES, Cap::StallBytes),
     }
 }
 
@@ -37,12 +37,16 @@ pub fn read_stall<S: Shelf>(
     shelf: &mut S,
     name: Option<&str>,
 ) -> Result<Stall, Answer>
-    ensures stall { IfOk result (λ s. HasStall (S.told shelf.old) (option_map (λ s. s.now) name.entry) (stall_turns s)) }
+    ensures stall { IfOk result
+        (λ s. HasStall (S.told shelf.old) (option_map (λ s. s.now) name.entry) (stall_turns s)) }
     ensures few { IfOk result (λ s. length (turns_left s) ≤ 1048576) }
-    ensures refused { IfErr result (λ a. IsStallRefusal (S.told shelf.old) (option_map (λ s. s.now) name.entry) (S.faults shelf.old) (S.faults shelf.new) a) }
+    ensures refused { IfErr result
+        (λ a. IsStallRefusal (S.told shelf.old) (option_map (λ s. s.now) name.entry) (S.faults shelf.old)
+        (S.faults shelf.new) a) }
     ensures later { S.faults shelf.old ≤ S.faults shelf.new }
     ensures same { S.told shelf.new ≡ S.told shelf.old }
-    ensures others { (q : List ℕ) → option_map (λ s. s.now) name.entry ≢ Some q → S.reach shelf.new q ≡ S.reach shelf.old q }
+    ensures others { (q : List ℕ) → option_map (λ s. s.now) name.entry ≢ Some q
+        → S.reach shelf.new q ≡ S.reach shelf.old q }
 {
     let text = match read_text(alloc, shelf, name) {
         Ok(text) => text,

@@ -1,6 +1,6 @@
 //! What programs are compiled for.
 
-use pr_code::Fabric;
+use pr_base::Fabric;
 
 /// What a program is compiled for.
 #[derive(Clone, Copy, PartialEq, Eq, Debug)]

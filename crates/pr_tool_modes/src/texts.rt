@@ -42,7 +42,8 @@ fn text_of<const N: usize, const P: usize>(
 
 /// A text of a configuration of either fabric.
 fn loaded_text(alloc: Global, loaded: &Loadable, form: Form) -> Result<Vec<u8>, AllocError>
-    ensures { IfOk result (λ v. v.items ≡ text_in form (columns_in loaded.now) (registers_in loaded.now) (shape_in loaded.now)) }
+    ensures { IfOk result
+        (λ v. v.items ≡ text_in form (columns_in loaded.now) (registers_in loaded.now) (shape_in loaded.now)) }
 {
     match loaded {
         Loadable::Base(conf) => text_of(alloc, conf, form),
@@ -52,7 +53,8 @@ fn loaded_text(alloc: Global, loaded: &Loadable, form: Form) -> Result<Vec<u8>, 
 
 /// Writes a text of a configuration. It is made whole before its first byte is written.
 fn put_text<K: Sink>(alloc: Global, loaded: &Loadable, form: Form, out: &mut K) -> Answer
-    ensures put { IsPut (text_in form (columns_in loaded.now) (registers_in loaded.now) (shape_in loaded.now)) (K.told out.old) (K.told out.new) (K.faults out.old) (K.faults out.new) result }
+    ensures put { IsPut (text_in form (columns_in loaded.now) (registers_in loaded.now) (shape_in loaded.now))
+        (K.told out.old) (K.told out.new) (K.faults out.old) (K.faults out.new) result }
     ensures later { K.faults out.old ≤ K.faults out.new }
 {
     let text = match loaded_text(alloc, loaded, form) {
@@ -75,7 +77,8 @@ pub fn write_text<S: Shelf, K: Sink>(
 ) -> Answer
     // What it came to: there is no configuration and nothing is written, or its text was to be written.
     ensures ended { IsTexted form (source_of source.now) (call
-        (view (S.told shelf.old) (S.reach shelf.old) (S.faults shelf.old)) (view (S.told shelf.new) (S.reach shelf.new) (S.faults shelf.new))
+        (view (S.told shelf.old) (S.reach shelf.old) (S.faults shelf.old))
+        (view (S.told shelf.new) (S.reach shelf.new) (S.faults shelf.new))
         (K.told out.old) (K.told out.new) (K.faults out.old) (K.faults out.new)) result }
 
     ensures told { S.told shelf.new ≡ S.told shelf.old }

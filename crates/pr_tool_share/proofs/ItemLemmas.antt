@@ -7,14 +7,15 @@ use Rattle.std.specs.Str.{is_utf8}
 use Rattle.pr_base.specs.declared.caps.Cap.{Cap}
 use Rattle.pr_edge.specs.Files.{Told}
 use Rattle.pr_conf.specs.Shape.{Shape}
+use Rattle.pr_samples.specs.Feed.{name_of}
 use Rattle.pr_samples.specs.Lines.{words_of, without_return, begins_apart}
-use Rattle.pr_share.specs.Items.{conf_in, IsReady, AreReady}
+use Rattle.pr_share.specs.Items.{conf_in, IsReady, AreReady, names_of, IsNoneOf}
 use Rattle.pr_share_list.specs.List.{Entry, entry_of, entry_by, counts, list_lines, IsListed}
 use Rattle.pr_tool_words.specs.Lawful.{number_in}
 use Rattle.pr_tool_answers.specs.declared.answers.Answer.{Answer}
 use Rattle.pr_tool_modes.specs.Sources.{Gives, IsSourceRefusal}
 use Rattle.pr_tool_modes.proofs.FileLemmas.{unread_earlier}
-use Rattle.pr_tool_share.specs.Lists.{source_in, part_answer, IsProgramRefusal, AreCompiled}
+use Rattle.pr_tool_share.specs.Lists.{source_in, part_answer, IsProgramRefusal, IsNoSamples, AreCompiled}
 use Rattle.pr_tool_share.specs.Items.{Item, IsItemOf, AreItemsOf}
 
 -- ---- quotas
@@ -142,3 +143,14 @@ are_compiled told [] [] are = tt
 are_compiled told [] (item ∷ items) are = absurd are
 are_compiled told (entry ∷ entries) [] are = absurd are
 are_compiled told (entry ∷ entries) (item ∷ items) are = (subst (λ (c : Shape). Gives told (source_in entry) 16 8 c) (sym are.0.parked.conf_is) are.0.compiled, are_compiled told entries items are.1)
+
+-- ---- names
+-- no feed reads a file of this name
+pub items_unnamed : (told : Told) (entries : List Entry) (items : List Item) (q : List ℕ) → AreItemsOf told entries items → IsNoSamples entries q → IsNoneOf (names_of items) q
+items_unnamed told [] [] q are none i name here = absurd (let z = here in cc)
+items_unnamed told [] (item ∷ items) q are none i name here = absurd are
+items_unnamed told (entry ∷ entries) [] q are none i name here = absurd are
+items_unnamed told (entry ∷ entries) (item ∷ items) q are none zero name here = λ is.
+    let same : name_of item.feed ≡ name = cc in
+    none zero entry refl (is ∙ (sym same ∙ are.0.parked.opened.file))
+items_unnamed told (entry ∷ entries) (item ∷ items) q are none (suc i) name here = items_unnamed told entries items q are.1 (λ j. none (suc j)) i name here

@@ -68,6 +68,10 @@ is_never Answer.ReadFault = false
 is_never answer = true
 
 part_never : (k : ℕ) (a other : Answer) → is_never other ≡ false → is_never (part_or k a other) ≡ false
+part_never k (Answer.Syntax token) other h = refl
+part_never k (Answer.Scope rule item) other h = refl
+part_never k (Answer.NoWidth equation) other h = refl
+part_never k (Answer.NoFit unit) other h = refl
 part_never k (Answer.BadSample line) other h = refl
 part_never k (Answer.Limit which) other h = refl
 part_never k a other h = h
@@ -85,6 +89,10 @@ all_never rest = by_test (list_any is_read_fault rest)
 
 -- ---- a read fault has its cause
 part_good : (k : ℕ) (a other : Answer) → is_read_fault other ≡ false → is_read_fault (part_or k a other) ≡ false
+part_good k (Answer.Syntax token) other h = refl
+part_good k (Answer.Scope rule item) other h = refl
+part_good k (Answer.NoWidth equation) other h = refl
+part_good k (Answer.NoFit unit) other h = refl
 part_good k (Answer.BadSample line) other h = refl
 part_good k (Answer.Limit which) other h = refl
 part_good k a other h = h
@@ -140,8 +148,8 @@ list_fault told list before now a untold (inr has) is = absurd (true≢false (sy
 
 -- ---- the mode
 -- where nothing is told a read fault was counted
-pub share_fault : (list : List ℕ) (k : Call) (a : Answer) → IsSharedBy list k a → a ≡ Answer.ReadFault → k.before.told ≡ None → Rose k.before.faults k.now.faults
-share_fault list k a (inl held) is untold = by_cause held.cause
+pub share_fault : (list : List ℕ) (stripes : ℕ) (k : Call) (a : Answer) → IsSharedBy list stripes k a → a ≡ Answer.ReadFault → k.before.told ≡ None → Rose k.before.faults k.now.faults
+share_fault list stripes k a (inl held) is untold = by_cause held.cause
   where
     by_cause : IsListRefusal k.before.told list k.before.faults k.now.faults a ⊎ (IsProgramRefused list k a ⊎ (a ≡ Answer.Memory)) → Rose k.before.faults k.now.faults
     by_cause (inl refused) = list_fault k.before.told list k.before.faults k.now.faults a untold refused is
@@ -150,7 +158,7 @@ share_fault list k a (inl held) is untold = by_cause held.cause
         let cause = kind_fault _ kind.place kind.alone kind.kind (sym kind.answers ∙ is) in
         untold_cause cause.0 k.before.faults k.now.faults k.before.told untold cause.1
     by_cause (inr (inr memory)) = absurd (let no : Answer.ReadFault ≡ Answer.Memory = sym is ∙ memory in cc)
-share_fault list k a (inr shared) is untold = by_end shared.taken
+share_fault list stripes k a (inr shared) is untold = by_end shared.taken
   where
     by_end : HaveTaken shared.firsts shared.items (world k.before.told shared.faults k.old) (world k.before.told k.now.faults k.new) k.out_before k.out_now a → Rose k.before.faults k.now.faults
     by_end (inl done) =
@@ -163,25 +171,25 @@ share_fault list k a (inr shared) is untold = by_end shared.taken
         omega (arith, counted, rose, le)
     by_end (inr stopped) = absurd (let no : Answer.ReadFault ≡ Answer.WriteFault = sym is ∙ stopped.1.0 in cc)
 
-pub share_write : (list : List ℕ) (k : Call) (a : Answer) → IsSharedBy list k a → a ≡ Answer.WriteFault → Rose k.out_before k.out_now
-share_write list k a (inl held) is = absurd (true≢false (sym (ap is_other is) ∙ held_other list k a held.cause))
-share_write list k a (inr shared) is = by_end shared.taken
+pub share_write : (list : List ℕ) (stripes : ℕ) (k : Call) (a : Answer) → IsSharedBy list stripes k a → a ≡ Answer.WriteFault → Rose k.out_before k.out_now
+share_write list stripes k a (inl held) is = absurd (true≢false (sym (ap is_other is) ∙ held_other list k a held.cause))
+share_write list stripes k a (inr shared) is = by_end shared.taken
   where
     by_end : HaveTaken shared.firsts shared.items (world k.before.told shared.faults k.old) (world k.before.told k.now.faults k.new) k.out_before k.out_now a → Rose k.out_before k.out_now
     by_end (inl done) = absurd (true≢false (sym (ap is_never is) ∙ (ap is_never done.1 ∙ all_never (map end_of shared.items))))
     by_end (inr stopped) = stopped.1.1
 
-pub share_memory : (list : List ℕ) (k : Call) (a : Answer) → IsSharedBy list k a → a ≡ Answer.Memory → k.new ≡ k.old
-share_memory list k a (inl held) is = held.unwritten
-share_memory list k a (inr shared) is = absurd (by_end shared.taken)
+pub share_memory : (list : List ℕ) (stripes : ℕ) (k : Call) (a : Answer) → IsSharedBy list stripes k a → a ≡ Answer.Memory → k.new ≡ k.old
+share_memory list stripes k a (inl held) is = held.unwritten
+share_memory list stripes k a (inr shared) is = absurd (by_end shared.taken)
   where
     by_end : HaveTaken shared.firsts shared.items (world k.before.told shared.faults k.old) (world k.before.told k.now.faults k.new) k.out_before k.out_now a → ⊥
     by_end (inl done) = true≢false (sym (ap is_never is) ∙ (ap is_never done.1 ∙ all_never (map end_of shared.items)))
     by_end (inr stopped) = let no : Answer.Memory ≡ Answer.WriteFault = sym is ∙ stopped.1.0 in cc
 
-pub share_usage : (list : List ℕ) (k : Call) (a : Answer) → IsSharedBy list k a → a ≡ Answer.Usage → ⊥
-share_usage list k a (inl held) is = true≢false (sym (ap is_other is) ∙ held_other list k a held.cause)
-share_usage list k a (inr shared) is = by_end shared.taken
+pub share_usage : (list : List ℕ) (stripes : ℕ) (k : Call) (a : Answer) → IsSharedBy list stripes k a → a ≡ Answer.Usage → ⊥
+share_usage list stripes k a (inl held) is = true≢false (sym (ap is_other is) ∙ held_other list k a held.cause)
+share_usage list stripes k a (inr shared) is = by_end shared.taken
   where
     by_end : HaveTaken shared.firsts shared.items (world k.before.told shared.faults k.old) (world k.before.told k.now.faults k.new) k.out_before k.out_now a → ⊥
     by_end (inl done) = true≢false (sym (ap is_never is) ∙ (ap is_never done.1 ∙ all_never (map end_of shared.items)))

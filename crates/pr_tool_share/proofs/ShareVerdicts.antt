@@ -54,9 +54,9 @@ held_owed files list k a told (inr (inl refused)) =
 held_owed files list k a told (inr (inr memory)) = inr (inr (inr memory))
 
 -- what it came to is the verdict, or a fault that was counted, or want of memory
-pub share_owed : (files : List ℕ → Option (List ℕ)) (list : List ℕ) (k : Call) (a : Answer) → k.before.told ≡ Some files → IsSharedBy list k a → IsOwed (IsShareVerdict files list) k.before.faults k.now.faults k.out_before k.out_now a
-share_owed files list k a told (inl held) = held_owed files list k a told held.cause
-share_owed files list k a told (inr shared) =
+pub share_owed : (files : List ℕ → Option (List ℕ)) (list : List ℕ) (stripes : ℕ) (k : Call) (a : Answer) → k.before.told ≡ Some files → IsSharedBy list stripes k a → IsOwed (IsShareVerdict files list) k.before.faults k.now.faults k.out_before k.out_now a
+share_owed files list stripes k a told (inl held) = held_owed files list k a told held.cause
+share_owed files list stripes k a told (inr shared) =
     let has = subst (λ (t : Told). HasList t list shared.entries) told shared.has in
     let ready = subst (λ (t : Told). AreItemsOf t shared.entries shared.firsts) told shared.ready in
     next_owed files list shared.entries k.before.faults k.now.faults k.out_before k.out_now a has

@@ -80,10 +80,13 @@ held_lines whole cut unread none list k a (inr (inl refused)) fault h =
 held_lines whole cut unread none list k a (inr (inr memory)) fault h = subst (ByEnd whole cut unread none) (sym memory) h
 
 -- ---- by how the samples ended
--- a limit that ended samples is one of theirs
+-- samples end with their file, a bad line, a failed read, or a limit of theirs
 abbrev IsOfSamples : Answer → Type 0
+IsOfSamples Answer.Ok = ⊤
+IsOfSamples (Answer.BadSample line) = ⊤
+IsOfSamples Answer.ReadFault = ⊤
 IsOfSamples (Answer.Limit which) = is_of_samples which ≡ true
-IsOfSamples answer = ⊤
+IsOfSamples answer = ⊥
 
 ended_limit : (e : Ending) → ((cap : Cap) → e ≡ Limit cap → is_of_samples cap ≡ true) → IsOfSamples (ended_by e)
 ended_limit End limit = tt
@@ -130,7 +133,9 @@ samples_limit whole none Cap.ListBytes is h = absurd (true≢false (sym is))
 part_lines : (whole cut unread none : Type 0) (k : ℕ) (a other : Answer) → IsOfSamples a → whole → ByEnd whole cut unread none other → ByEnd whole cut unread none (part_or k a other)
 part_lines whole cut unread none k (Answer.BadSample line) other is w h = w
 part_lines whole cut unread none k (Answer.Limit which) other is w h = samples_limit whole none which is w
-part_lines whole cut unread none k a other is w h = h
+part_lines whole cut unread none k Answer.Ok other is w h = h
+part_lines whole cut unread none k Answer.ReadFault other is w h = h
+part_lines whole cut unread none k a other is w h = absurd is
 
 first_lines : (whole cut unread none : Type 0) (k : ℕ) (rest : List Answer) → AreOfSamples rest → whole → ByEnd whole cut unread none (first_part k rest)
 first_lines whole cut unread none k [] are w = w
@@ -210,10 +215,10 @@ unread_list files list k a told same (inr (inl refused)) is = record {
 }
 unread_list files list k a told same (inr (inr memory)) is = absurd (let never : Answer.ReadFault ≡ Answer.Memory = sym is ∙ memory in cc)
 
-pub share_lines : (files : List ℕ → Option (List ℕ)) (list : List ℕ) (k : Call) (a : Answer) → k.before.told ≡ Some files → IsSharedBy list k a → AreSharedLines files list k a
-share_lines files list k a told (inl held) =
+pub share_lines : (files : List ℕ → Option (List ℕ)) (list : List ℕ) (stripes : ℕ) (k : Call) (a : Answer) → k.before.told ≡ Some files → IsSharedBy list stripes k a → AreSharedLines files list k a
+share_lines files list stripes k a told (inl held) =
     held_lines (HaveLines files list k.before.faults k.now.faults (Appends k.old k.new)) (HaveLines files list k.before.faults k.now.faults (AppendsFront k.old k.new)) (IsUnread files list k) (k.new ≡ k.old) list k a held.cause (unread_list files list k a told held.unwritten held.cause) held.unwritten
-share_lines files list k a told (inr shared) =
+share_lines files list stripes k a told (inr shared) =
     let has = subst (λ (t : Told). HasList t list shared.entries) told shared.has in
     let ready = subst (λ (t : Told). AreItemsOf t shared.entries shared.firsts) told shared.ready in
     taken_lines files list shared.entries shared.firsts shared.items (world k.before.told shared.faults k.old) (world k.before.told k.now.faults k.new) k.before.faults has ready told shared.later (IsUnread files list k) (k.new ≡ k.old) k.out_before k.out_now a shared.taken

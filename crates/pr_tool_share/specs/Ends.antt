@@ -1,12 +1,11 @@
 -- How the samples of programs end, and what that comes to.
-use Rattle.std.specs.Prelude.{◌≡◌, ◌+◌, ◌^◌, ◌⊎◌, ℕ, Bool, true, false, List, [], ◌∷◌, Option, Some, if◌then◌else◌}
+use Rattle.std.specs.Prelude.{◌≡◌, ◌+◌, ◌^◌, ◌⊎◌, ℕ, Bool, true, false, List, [], ◌∷◌, Option, Some, unwrap_or, if◌then◌else◌}
 use Rattle.std.specs.List.{list_any}
 use Rattle.pr_conf.specs.Shape.{Shape}
 use Rattle.pr_share_list.specs.List.{Entry}
 use Rattle.pr_tool_answers.specs.declared.answers.Answer.{Answer}
-use Rattle.pr_tool_answers.specs.declared.answers.Cause.{Cause}
 use Rattle.pr_tool_modes.specs.Samples.{samples_verdict}
-use Rattle.pr_tool_share.specs.Lists.{HasList, IsRefusedList, IsRefusedProgram, AreCompiled}
+use Rattle.pr_tool_share.specs.Lists.{part_of, HasList, IsRefusedList, IsRefusedProgram, AreCompiled}
 
 -- a read failed
 abbrev pub is_read_fault : Answer → Bool
@@ -15,9 +14,7 @@ is_read_fault answer = false
 
 -- a bad line or a limit ended the samples of program k, or else this
 abbrev pub part_or : ℕ → Answer → Answer → Answer
-part_or k (Answer.BadSample line) other = Answer.Part k (Cause.BadSample line)
-part_or k (Answer.Limit which) other = Answer.Part k (Cause.Limit which)
-part_or k answer other = other
+part_or k answer other = unwrap_or (part_of k answer) other
 
 -- the first program from number k on whose samples a bad line or a limit ended
 abbrev pub first_part : ℕ → List Answer → Answer

@@ -1,8 +1,8 @@
 -- A list of programs, and what refuses it or one of its programs.
-use Rattle.std.specs.Prelude.{◌≡◌, ◌≤◌, ◌+◌, ◌⊎◌, ℕ, false, List, [], ◌∷◌, length, Option, Some, ⊤}
+use Rattle.std.specs.Prelude.{◌≡◌, ◌≢◌, ◌≤◌, ◌+◌, ◌⊎◌, ℕ, false, List, [], ◌∷◌, length, Option, Some, None, unwrap_or, slice_get, ⊤}
 use Rattle.pr_base.specs.declared.caps.Cap.{Cap}
 use Rattle.pr_edge.specs.Files.{Told}
-use Rattle.pr_code.specs.declared.fabrics.Fabric.{Fabric}
+use Rattle.pr_base.specs.declared.fabrics.Fabric.{Fabric}
 use Rattle.pr_conf.specs.Shape.{Shape}
 use Rattle.pr_share_list.specs.List.{Entry, IsListed, IsBadAt}
 use Rattle.pr_tool_answers.specs.declared.answers.Answer.{Answer}
@@ -40,15 +40,19 @@ base = record { fabric = Fabric.Base; narrowed = false }
 abbrev pub source_in : Entry → Source
 source_in entry = Text entry.program base
 
--- the answer where program k ends so, by the answer of a program alone
+-- the answer where program k ends so, by the answer of a program alone; none where that tells of no single program
+abbrev pub part_of : ℕ → Answer → Option Answer
+part_of k (Answer.Syntax token) = Some (Answer.Part k (Cause.Syntax token))
+part_of k (Answer.Scope rule item) = Some (Answer.Part k (Cause.Scope rule item))
+part_of k (Answer.NoWidth equation) = Some (Answer.Part k (Cause.NoWidth equation))
+part_of k (Answer.NoFit unit) = Some (Answer.Part k (Cause.NoFit unit))
+part_of k (Answer.Limit which) = Some (Answer.Part k (Cause.Limit which))
+part_of k (Answer.BadSample line) = Some (Answer.Part k (Cause.BadSample line))
+part_of k answer = None
+
+-- and that answer there
 abbrev pub part_answer : ℕ → Answer → Answer
-part_answer k (Answer.Syntax token) = Answer.Part k (Cause.Syntax token)
-part_answer k (Answer.Scope rule item) = Answer.Part k (Cause.Scope rule item)
-part_answer k (Answer.NoWidth equation) = Answer.Part k (Cause.NoWidth equation)
-part_answer k (Answer.NoFit unit) = Answer.Part k (Cause.NoFit unit)
-part_answer k (Answer.Limit which) = Answer.Part k (Cause.Limit which)
-part_answer k (Answer.BadSample line) = Answer.Part k (Cause.BadSample line)
-part_answer k answer = answer
+part_answer k answer = unwrap_or (part_of k answer) answer
 
 -- program k is refused, and this is the answer
 pub record IsPart (k : ℕ) (Refused : Answer → Type 0) (answer : Answer) : Type 0 where
@@ -76,3 +80,18 @@ AreCompiled told [] [] = ⊤
 AreCompiled told [] (conf ∷ confs) = ⊥
 AreCompiled told (entry ∷ entries) [] = ⊥
 AreCompiled told (entry ∷ entries) (conf ∷ confs) = Gives told (source_in entry) 16 8 conf × AreCompiled told entries confs
+
+-- ---- names
+-- none of these programs is in the file of this name
+abbrev pub IsNoProgram : List Entry → List ℕ → Type 0
+IsNoProgram entries q = (i : ℕ) (entry : Entry) → slice_get entries i ≡ Some entry → q ≢ entry.program
+
+-- nor are its samples
+abbrev pub IsNoSamples : List Entry → List ℕ → Type 0
+IsNoSamples entries q = (i : ℕ) (entry : Entry) → slice_get entries i ≡ Some entry → q ≢ entry.samples
+
+-- this is neither the file of a list, nor one that the list names
+pub record IsUnlisted (told : Told) (list q : List ℕ) : Type 0 where
+  pub other : q ≢ list
+  pub no_program : (entries : List Entry) → HasList told list entries → IsNoProgram entries q
+  pub no_samples : (entries : List Entry) → HasList told list entries → IsNoSamples entries q

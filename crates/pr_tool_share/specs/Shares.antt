@@ -1,6 +1,10 @@
 -- What the mode comes to that runs the programs of a list in turns.
 use Rattle.std.specs.Prelude.{◌≡◌, ◌⊎◌, ◌≤◌, ℕ, List, map}
 use Rattle.pr_edge.specs.Count.{Rose}
+use Rattle.pr_machine.specs.declared.machine.Machine.{Machine}
+use Rattle.pr_machine.specs.declared.machine.Bare.{Bare}
+use Rattle.pr_machine.specs.declared.machine.Idle.{Idle}
+use Rattle.pr_machine.specs.Stands.{bare_stripes}
 use Rattle.pr_share.specs.Items.{World, world, AreShared, AreStopped}
 use Rattle.pr_share_list.specs.List.{Entry}
 use Rattle.pr_tool_answers.specs.declared.answers.Answer.{Answer}
@@ -26,8 +30,10 @@ HaveTaken firsts items start now out_before out_now answer =
     (AreShared firsts items start now × (answer ≡ answer_of_all (map end_of items)))
     ⊎ (AreStopped firsts items start now × ((answer ≡ Answer.WriteFault) × Rose out_before out_now))
 
--- all programs were compiled, and have taken turns
-pub record HaveShared (list : List ℕ) (k : Call) (answer : Answer) : Type 0 where
+-- all programs were compiled, and have taken turns on a machine of so many stripes
+pub record HaveShared (list : List ℕ) (stripes : ℕ) (k : Call) (answer : Answer) : Type 0 where
+  pub machine : Machine 16 8 Bare (Idle 16 8)
+  pub stripes_are : bare_stripes machine ≡ stripes
   pub entries : List Entry
   pub has : HasList k.before.told list entries
   pub firsts : List Item
@@ -37,5 +43,5 @@ pub record HaveShared (list : List ℕ) (k : Call) (answer : Answer) : Type 0 wh
   pub items : List Item
   pub taken : HaveTaken firsts items (world k.before.told faults k.old) (world k.before.told k.now.faults k.new) k.out_before k.out_now answer
 
-abbrev pub IsSharedBy : List ℕ → Call → Answer → Type 0
-IsSharedBy list k answer = IsHeldBack list k answer ⊎ HaveShared list k answer
+abbrev pub IsSharedBy : List ℕ → ℕ → Call → Answer → Type 0
+IsSharedBy list stripes k answer = IsHeldBack list k answer ⊎ HaveShared list stripes k answer

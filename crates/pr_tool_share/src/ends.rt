@@ -5,9 +5,11 @@ ghost use Rattle.pr_tool_answers.specs.declared.answers.Answer.{Answer};
 ghost use Rattle.pr_tool_share.specs.Ends.{is_read_fault, part_or, first_part, answer_of_all};
 ghost use Rattle.pr_tool_share.specs.Items.{end_of};
 
+use crate::parts::part_of;
 use pr_samples::Got;
 use pr_share::ShareItem;
-use pr_tool_answers::{Answer, Cause};
+use pr_tool_answers::Answer;
+use pr_tool_modes::answer_of;
 
 /// Whether a read of the samples of some program failed.
 fn is_unread(items: &[ShareItem<16, 8>]) -> bool
@@ -19,18 +21,13 @@ fn is_unread(items: &[ShareItem<16, 8>]) -> bool
 }
 
 /// The answer where a bad line or a limit ended the samples of a program.
-fn part_of(number: u8, item: &ShareItem<16, 8>) -> Option<Answer>
+fn part_in(number: u8, item: &ShareItem<16, 8>) -> Option<Answer>
     ensures { (other : Answer) → unwrap_or result other ≡ part_or number (end_of item.now) other }
 {
-    let cause = match item.ended {
-        Some(Got::BadSample { line }) => Cause::BadSample { line },
-        Some(Got::Limit(which)) => Cause::Limit { which },
-        _ => return None,
-    };
-    Some(Answer::Part {
-        program: number,
-        cause,
-    })
+    match item.ended {
+        None => None,
+        Some(last) => part_of(number, answer_of(last)),
+    }
 }
 
 /// The answer for the first program whose samples a bad line or a limit ended.
@@ -39,7 +36,7 @@ fn first_part(items: &[ShareItem<16, 8>]) -> Answer
     ensures { result ≡ first_part 0 (map end_of items.now) }
 {
     for number in 0..items.len() {
-        if let Some(answer) = part_of(number as u8, &items[number]) {
+        if let Some(answer) = part_in(number as u8, &items[number]) {
             return answer;
         }
     }
@@ -47,7 +44,7 @@ fn first_part(items: &[ShareItem<16, 8>]) -> Answer
 }
 
 /// What it comes to that the samples of the programs ended as they did.
-pub(crate) fn answer_of(items: &[ShareItem<16, 8>]) -> Answer
+pub(crate) fn answer_of_all(items: &[ShareItem<16, 8>]) -> Answer
     requires { length items.now ≤ 8 }
     ensures { result ≡ answer_of_all (map end_of items.now) }
 {

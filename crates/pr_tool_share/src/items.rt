@@ -1,39 +1,21 @@
 //! The programs of a list, made ready for their turns.
-ghost use Rattle.std.specs.Prelude.{◌≡◌, ◌≤◌, ◌⊎◌, IfOk, IfErr, length, map};
+ghost use Rattle.std.specs.Prelude.{◌≡◌, ◌≢◌, ◌≤◌, ◌⊎◌, ℕ, List, IfOk, IfErr, length, map};
 ghost use Rattle.pr_conf.specs.Configuration.{shape_of};
 ghost use Rattle.pr_share_list.specs.List.{entry_in};
 ghost use Rattle.pr_tool_modes.specs.Sources.{Gives, IsSourceRefusal};
-ghost use Rattle.pr_tool_share.specs.Lists.{part_answer, source_in, IsProgramRefusal};
+ghost use Rattle.pr_tool_share.specs.Lists.{source_in, IsProgramRefusal, IsNoProgram};
 ghost use Rattle.pr_tool_share.specs.Items.{IsParkedFor, IsItemOf, AreItemsOf};
 
+use crate::parts::part_answer;
 use pr_conf::Configuration;
 use pr_edge::Shelf;
 use pr_machine::Parked;
 use pr_samples::Feed;
 use pr_share::ShareItem;
 use pr_share_list::Entry;
-use pr_tool_answers::{Answer, Cause};
-use pr_tool_modes::{Fabric, Loadable, Source, Target, load};
+use pr_tool_answers::Answer;
+use pr_tool_modes::compile_on;
 use std::alloc::{AllocError, Global};
-
-/// The answer where a program of a list ends so, by the answer of the program alone.
-fn part_of(number: u8, answer: Answer) -> Answer
-    ensures { result ≡ part_answer number answer }
-{
-    let cause = match answer {
-        Answer::Syntax { token } => Cause::Syntax { token },
-        Answer::Scope { rule, item } => Cause::Scope { rule, item },
-        Answer::NoWidth { equation } => Cause::NoWidth { equation },
-        Answer::NoFit { unit } => Cause::NoFit { unit },
-        Answer::Limit { which } => Cause::Limit { which },
-        Answer::BadSample { line } => Cause::BadSample { line },
-        other => return other,
-    };
-    Answer::Part {
-        program: number,
-        cause,
-    }
-}
 
 /// Reads and compiles the program of an entry, for the base fabric and not narrowed.
 fn compile<S: Shelf>(
@@ -42,22 +24,16 @@ fn compile<S: Shelf>(
     entry: &Entry,
 ) -> Result<Configuration<16, 8>, Answer>
     ensures compiled { IfOk result (λ c. Gives (S.told shelf.old) (source_in (entry_in entry.now)) 16 8 (shape_of c)) }
-    ensures refused { IfErr result (IsSourceRefusal (S.told shelf.old) (source_in (entry_in entry.now)) (S.faults shelf.old) (S.faults shelf.new)) }
+    ensures refused { IfErr result
+        (IsSourceRefusal (S.told shelf.old) (source_in (entry_in entry.now)) (S.faults shelf.old)
+        (S.faults shelf.new)) }
     ensures later { S.faults shelf.old ≤ S.faults shelf.new }
     ensures same { S.told shelf.new ≡ S.told shelf.old }
+    ensures others { (q : List ℕ) → q ≢ (entry_in entry.now).program → S.reach shelf.new q ≡ S.reach shelf.old q }
 {
-    let target = Target {
-        fabric: Fabric::Base,
-        narrowed: false,
-    };
-    let source = Source::Program {
-        name: &entry.program,
-        target,
-    };
-    match load(alloc, &source, shelf) {
+    match compile_on::<16, 8, S>(alloc, shelf, &entry.program, false) {
+        Ok(compiled) => Ok(compiled.conf),
         Err(answer) => Err(answer),
-        Ok(Loadable::Base(conf)) => Ok(conf),
-        Ok(Loadable::Wide(_)) => unreachable!(),
     }
 }
 
@@ -88,9 +64,12 @@ fn make_item<S: Shelf>(
     entry: &Entry,
 ) -> Result<ShareItem<16, 8>, Answer>
     ensures ready { IfOk result (λ i. IsItemOf (S.told shelf.old) (entry_in entry.now) i) }
-    ensures refused { IfErr result (IsSourceRefusal (S.told shelf.old) (source_in (entry_in entry.now)) (S.faults shelf.old) (S.faults shelf.new)) }
+    ensures refused { IfErr result
+        (IsSourceRefusal (S.told shelf.old) (source_in (entry_in entry.now)) (S.faults shelf.old)
+        (S.faults shelf.new)) }
     ensures later { S.faults shelf.old ≤ S.faults shelf.new }
     ensures same { S.told shelf.new ≡ S.told shelf.old }
+    ensures others { (q : List ℕ) → q ≢ (entry_in entry.now).program → S.reach shelf.new q ≡ S.reach shelf.old q }
 {
     let conf = match compile(alloc, shelf, entry) {
         Ok(conf) => conf,
@@ -110,15 +89,19 @@ pub(crate) fn make_items<S: Shelf>(
 ) -> Result<Vec<ShareItem<16, 8>>, Answer>
     requires { length entries.now ≤ 8 }
     ensures ready { IfOk result (λ items. AreItemsOf (S.told shelf.old) (map entry_in entries.now) items.items) }
-    ensures refused { IfErr result (λ a. IsProgramRefusal (S.told shelf.old) (S.faults shelf.old) (S.faults shelf.new) 0 (map entry_in entries.now) a ⊎ (a ≡ Answer.Memory)) }
+    ensures refused { IfErr result
+        (λ a. IsProgramRefusal (S.told shelf.old) (S.faults shelf.old) (S.faults shelf.new) 0
+        (map entry_in entries.now) a ⊎ (a ≡ Answer.Memory)) }
     ensures later { S.faults shelf.old ≤ S.faults shelf.new }
     ensures same { S.told shelf.new ≡ S.told shelf.old }
+    ensures others { (q : List ℕ) → IsNoProgram (map entry_in entries.now) q
+        → S.reach shelf.new q ≡ S.reach shelf.old q }
 {
     let mut items = Vec::new(alloc);
     for number in 0..entries.len() {
         let item = match make_item(alloc, shelf, &entries[number]) {
             Ok(item) => item,
-            Err(answer) => return Err(part_of(number as u8, answer)),
+            Err(answer) => return Err(part_answer(number as u8, answer)),
         };
         if items.push(item).is_err() {
             return Err(Answer::Memory);

@@ -1,5 +1,6 @@
 //! Laws of the mode.
 ghost use Rattle.std.specs.Prelude.{◌≡◌, ℕ, List, Option, Some};
+ghost use Rattle.pr_compile.specs.Laws.{AtMostOne};
 ghost use Rattle.pr_tool_answers.specs.declared.answers.Answer.{Answer};
 ghost use Rattle.pr_tool_answers.specs.Owed.{IsOwed};
 ghost use Rattle.pr_tool_modes.specs.Calls.{Call};
@@ -10,9 +11,11 @@ ghost use Rattle.pr_tool_share.specs.Shares.{IsSharedBy};
 /// Over told files what the mode came to is the verdict on its list, or a fault that was counted, or want of memory; there is one
 /// verdict at most; and what is written is as the answer says.
 pub fn share_law()
-    ensures owed { (files : List ℕ → Option (List ℕ)) (list : List ℕ) (k : Call) (a : Answer) → k.before.told ≡ Some files → IsSharedBy list k a
+    ensures owed { (files : List ℕ → Option (List ℕ)) (list : List ℕ) (stripes : ℕ) (k : Call) (a : Answer)
+        → k.before.told ≡ Some files → IsSharedBy list stripes k a
         → IsOwed (IsShareVerdict files list) k.before.faults k.now.faults k.out_before k.out_now a }
-    ensures one { (files : List ℕ → Option (List ℕ)) (list : List ℕ) (a b : Answer) → IsShareVerdict files list a → IsShareVerdict files list b → a ≡ b }
-    ensures lines { (files : List ℕ → Option (List ℕ)) (list : List ℕ) (k : Call) (a : Answer) → k.before.told ≡ Some files → IsSharedBy list k a
+    ensures one { (files : List ℕ → Option (List ℕ)) (list : List ℕ) → AtMostOne (IsShareVerdict files list) }
+    ensures lines { (files : List ℕ → Option (List ℕ)) (list : List ℕ) (stripes : ℕ) (k : Call) (a : Answer)
+        → k.before.told ≡ Some files → IsSharedBy list stripes k a
         → AreSharedLines files list k a }
 {}

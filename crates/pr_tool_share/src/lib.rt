@@ -5,6 +5,7 @@ mod ends;
 mod items;
 mod laws;
 mod lists;
+mod parts;
 mod shares;
 
 pub use laws::share_law;

@@ -1,16 +1,14 @@
 //! Lists of programs that are read from files.
-ghost use Rattle.std.specs.Prelude.{◌≡◌, ◌≤◌, ℕ, IfOk, IfErr, map};
+ghost use Rattle.std.specs.Prelude.{◌≡◌, ◌≢◌, ◌≤◌, ℕ, List, IfOk, IfErr, map};
 ghost use Rattle.pr_share_list.specs.List.{entry_in};
 ghost use Rattle.pr_tool_share.specs.Lists.{HasList, IsListRefusal};
 
+use pr_base::Cap;
 use pr_edge::Shelf;
 use pr_share_list::{Entry, ListFault, read_list};
 use pr_tool_answers::Answer;
-use pr_tool_modes::{Cap, read_file};
+use pr_tool_modes::read_file;
 use std::alloc::Global;
-
-/// The bytes of a list at most.
-const LIMIT: usize = 65_536;
 
 /// Reads the programs of a list.
 pub(crate) fn load_list<S: Shelf>(
@@ -19,11 +17,13 @@ pub(crate) fn load_list<S: Shelf>(
     list: &str,
 ) -> Result<Vec<Entry>, Answer>
     ensures list { IfOk result (λ entries. HasList (S.told shelf.old) list.now (map entry_in entries.items)) }
-    ensures refused { IfErr result (IsListRefusal (S.told shelf.old) list.now (S.faults shelf.old) (S.faults shelf.new)) }
+    ensures refused { IfErr result
+        (IsListRefusal (S.told shelf.old) list.now (S.faults shelf.old) (S.faults shelf.new)) }
     ensures later { S.faults shelf.old ≤ S.faults shelf.new }
     ensures same { S.told shelf.new ≡ S.told shelf.old }
+    ensures others { (q : List ℕ) → q ≢ list.now → S.reach shelf.new q ≡ S.reach shelf.old q }
 {
-    let text = match read_file(alloc, shelf, list, LIMIT, Cap::ListBytes) {
+    let text = match read_file(alloc, shelf, list, Cap::MOST_LIST_BYTES, Cap::ListBytes) {
         Ok(text) => text,
         Err(answer) => return Err(answer),
     };

@@ -1,13 +1,15 @@
 //! A list of programs that take turns.
-ghost use Rattle.std.specs.Prelude.{◌≡◌, ◌≤◌, ◌^◌, ◌⊎◌, ℕ, IfOk, IfErr, OnErr, length};
+ghost use Rattle.std.specs.Prelude.{◌≡◌, ◌≤◌, ◌^◌, ◌⊎◌, ℕ, List, IfOk, IfErr, OnErr, length};
 ghost use Rattle.pr_edge.specs.Files.{Told};
 ghost use Rattle.pr_run.specs.Setting.{view};
-ghost use Rattle.pr_share.specs.Items.{World, world, AreReady};
+ghost use Rattle.pr_machine.specs.Stands.{bare_stripes};
+ghost use Rattle.pr_share.specs.Items.{World, world, AreReady, names_of, IsNoneOf};
 ghost use Rattle.pr_tool_modes.specs.Calls.{call};
 ghost use Rattle.pr_tool_share.specs.Items.{Item};
+ghost use Rattle.pr_tool_share.specs.Lists.{IsUnlisted};
 ghost use Rattle.pr_tool_share.specs.Shares.{HaveTaken, IsSharedBy};
 
-use crate::ends::answer_of;
+use crate::ends::answer_of_all;
 use crate::items::make_items;
 use crate::lists::load_list;
 use pr_edge::{Shelf, Sink};
@@ -41,6 +43,7 @@ struct Place {
 fn make_place(alloc: Global, stripes: usize) -> Result<Place, AllocError>
     requires two { 2 ≤ stripes }
     requires most { stripes ≤ 256 }
+    ensures { IfOk result (λ p. bare_stripes p.machine ≡ stripes) }
 {
     let machine = Machine::<16, 8, Bare>::make(alloc, stripes)?;
     let room = Room::make(alloc)?;
@@ -56,16 +59,18 @@ fn take_turns<S: Shelf, K: Sink>(
 ) -> Answer
     requires few { length items.old ≤ 8 }
     requires ready { AreReady items.old }
-    ensures taken { HaveTaken items.old items.new (world (S.told shelf.old) (S.faults shelf.old) (K.told out.old)) (world (S.told shelf.new) (S.faults shelf.new) (K.told out.new))
+    ensures taken { HaveTaken items.old items.new (world (S.told shelf.old) (S.faults shelf.old)
+        (K.told out.old)) (world (S.told shelf.new) (S.faults shelf.new) (K.told out.new))
         (K.faults out.old) (K.faults out.new) result }
     ensures told { S.told shelf.new ≡ S.told shelf.old }
+    ensures others { (q : List ℕ) → IsNoneOf (names_of items.old) q → S.reach shelf.new q ≡ S.reach shelf.old q }
     ensures shelf_later { S.faults shelf.old ≤ S.faults shelf.new }
     ensures out_later { K.faults out.old ≤ K.faults out.new }
 {
     let Place { machine, mut room } = place;
     match share(machine, items, shelf, out, &mut room) {
         ShareEnd::WriteFault => Answer::WriteFault,
-        ShareEnd::Done => answer_of(items),
+        ShareEnd::Done => answer_of_all(items),
     }
 }
 
@@ -81,11 +86,15 @@ pub fn share_list<S: Shelf, K: Sink>(
     out: &mut K,
 ) -> Answer
     // What it came to: a refusal before the turns, or the turns.
-    ensures shared { IsSharedBy sharing.now.list.now (call
-        (view (S.told shelf.old) (S.reach shelf.old) (S.faults shelf.old)) (view (S.told shelf.new) (S.reach shelf.new) (S.faults shelf.new))
+    ensures shared { IsSharedBy sharing.now.list.now sharing.now.stripes (call
+        (view (S.told shelf.old) (S.reach shelf.old) (S.faults shelf.old))
+        (view (S.told shelf.new) (S.reach shelf.new) (S.faults shelf.new))
         (K.told out.old) (K.told out.new) (K.faults out.old) (K.faults out.new)) result }
 
     ensures told { S.told shelf.new ≡ S.told shelf.old }
+    // Only the list is read, and the files that it names.
+    ensures others { (q : List ℕ) → IsUnlisted (S.told shelf.old) sharing.now.list.now q
+        → S.reach shelf.new q ≡ S.reach shelf.old q }
     ensures shelf_later { S.faults shelf.old ≤ S.faults shelf.new }
     ensures out_later { K.faults out.old ≤ K.faults out.new }
 {

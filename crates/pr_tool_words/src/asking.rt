@@ -9,7 +9,7 @@ use crate::modes::{GenSize, Mode};
 use crate::options::Options;
 use crate::parsing::Values;
 use crate::quantities::number_in;
-use pr_code::Fabric;
+use pr_base::Fabric;
 
 /// The mode of this name on one file, or on a number.
 fn one_file<'a>(mode: &str, first: &'a str) -> Option<Mode<'a>>

@@ -13,5 +13,4 @@ mod tests;
 pub use calling::{Words, WordsFault, read_words};
 pub use modes::{GenSize, Mode};
 pub use options::Options;
-pub use pr_code::Fabric;
 pub use quantities::number_in;

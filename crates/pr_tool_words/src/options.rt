@@ -2,7 +2,7 @@
 
 ghost use Rattle.std.specs.Prelude.{◌≤◌};
 
-use pr_code::Fabric;
+use pr_base::Fabric;
 
 /// What the options of a command line say, each by its word or by what stands for it where it is not given.
 #[derive(Clone, Copy, PartialEq, Eq, Debug)]

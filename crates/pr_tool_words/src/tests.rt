@@ -1,6 +1,7 @@
 //! Command lines and what they ask for.
 
 use super::*;
+use pr_base::Fabric;
 use std::alloc::{AllocError, Global};
 use std::test::Fail;
 

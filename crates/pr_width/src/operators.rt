@@ -91,7 +91,8 @@ fn width_of_two(op: Op, a: Read, b: Read) -> u16
 
 /// The natural width of a choice between two operands.
 fn width_of_choice(a: Read, b: Read) -> u16
-    ensures { result ≡ cond (a.signed || b.signed) (max (signed_width (form_of a)) (signed_width (form_of b))) (max a.width b.width) }
+    ensures { result ≡ cond (a.signed || b.signed) (max (signed_width (form_of a)) (signed_width (form_of b)))
+        (max a.width b.width) }
 {
     let signed = a.signed || b.signed;
     width_among(a, signed).max(width_among(b, signed))

@@ -2,9 +2,9 @@
 
 ghost use Rattle.std.specs.Prelude.{◌⊎◌, map, unwrap_or, ◌≡◌, ◌≢◌, ◌<◌, ◌≤◌, ◌+◌, ◌^◌, ℕ, List, false, Some, None, Ok, Err, length, vec_len, slice_get, slice_index, IfNone, IfSome, MatchResult, alloc_error, IfOk, IfErr};
 ghost use Rattle.std.specs.Bool.{OnTrue, OnFalse};
-ghost use Rattle.pr_flat.specs.Shape.{EquationShape, EachEquation, shapes_of};
-ghost use Rattle.pr_flat.specs.Widths.{is_open, width_in, AgreeBelow, AreWidthsBelow, AreWidths, Holds, IsFirstWithout};
-ghost use Rattle.pr_width.specs.Parts.{IsOpenAt, AreClosed, BeginsPart, HoldsNowhereBy, HoldsAt};
+ghost use Rattle.pr_flat.specs.Flats.{equations_of};
+ghost use Rattle.pr_flat.specs.Widths.{AgreeBelow, AreWidthsBelow, AreWidths, IsFirstWithout};
+ghost use Rattle.pr_width.specs.Parts.{IsOpenAt, IsClosed, AreClosed, BeginsPart, HoldsNowhereBy, HoldsNotAt, HoldsAt, StopsAt};
 
 use crate::operators::{operand_width, width_of};
 use crate::widths::{WidthFault, Widths};
@@ -33,8 +33,8 @@ fn declared_widths(alloc: Global, flat: &Flat) -> Result<Vec<u8>, AllocError>
 /// The recurrence of this number, if it is one without declared width.
 fn open_at(flat: &Flat, number: usize) -> Option<Recurrence>
     requires { number < vec_len flat.now.equations }
-    ensures closed { IfNone result ((e : EquationShape) → slice_get (shapes_of flat.now.equations.items) number ≡ Some e → is_open e ≡ false) }
-    ensures there { IfSome result (λ r. IsOpenAt (shapes_of flat.now.equations.items) r × (r.number ≡ number)) }
+    ensures closed { IfNone result (IsClosed (equations_of flat.now) number) }
+    ensures there { IfSome result (λ r. IsOpenAt (equations_of flat.now) r × (r.number ≡ number)) }
 {
     let equation = &flat.equations[number];
     if equation.declared.is_some() {
@@ -52,9 +52,9 @@ fn open_at(flat: &Flat, number: usize) -> Option<Recurrence>
 
 /// The next recurrence without declared width.
 fn next_open(flat: &Flat, from: usize) -> Option<Recurrence>
-    ensures closed { IfNone result (AreClosed (shapes_of flat.now.equations.items) from (vec_len flat.now.equations)) }
-    ensures there { IfSome result (λ r. IsOpenAt (shapes_of flat.now.equations.items) r × (from ≤ r.number)) }
-    ensures next { IfSome result (λ r. AreClosed (shapes_of flat.now.equations.items) from r.number) }
+    ensures closed { IfNone result (AreClosed (equations_of flat.now) from (vec_len flat.now.equations)) }
+    ensures there { IfSome result (λ r. IsOpenAt (equations_of flat.now) r × (from ≤ r.number)) }
+    ensures next { IfSome result (λ r. AreClosed (equations_of flat.now) from r.number) }
 {
     for number in from..flat.equations.len() {
         if let Some(recurrence) = open_at(flat, number) {
@@ -68,14 +68,14 @@ fn next_open(flat: &Flat, from: usize) -> Option<Recurrence>
 fn fill(flat: &Flat, from: usize, end: usize, widths: &mut [u8]) -> usize
     requires ordered { from ≤ end }
     requires within { end ≤ vec_len flat.now.equations }
-    requires below { AreWidthsBelow from (shapes_of flat.now.equations.items) widths.old }
-    requires closed { AreClosed (shapes_of flat.now.equations.items) from end }
+    requires below { AreWidthsBelow from (equations_of flat.now) widths.old }
+    requires closed { AreClosed (equations_of flat.now) from end }
     ensures low { from ≤ result }
     ensures high { result ≤ end }
-    ensures below { AreWidthsBelow result (shapes_of flat.now.equations.items) widths.new }
+    ensures below { AreWidthsBelow result (equations_of flat.now) widths.new }
     ensures before { AgreeBelow from widths.old widths.new }
     ensures after { (k : ℕ) → end ≤ k → slice_index widths.new k ≡ slice_index widths.old k }
-    ensures stops { (e : EquationShape) → result < end → slice_get (shapes_of flat.now.equations.items) result ≡ Some e → width_in widths.new e ≡ None }
+    ensures stops { StopsAt (equations_of flat.now) end widths.new result }
 {
     for i in from..end {
         match width_of(&flat.equations[i], widths) {
@@ -88,15 +88,15 @@ fn fill(flat: &Flat, from: usize, end: usize, widths: &mut [u8]) -> usize
 
 /// Tries a width of a recurrence: puts the widths of its body, and tells whether the recurrence holds.
 fn holds_at(flat: &Flat, recurrence: Recurrence, width: u8, widths: &mut [u8]) -> bool
-    requires there { IsOpenAt (shapes_of flat.now.equations.items) recurrence }
-    requires below { AreWidthsBelow recurrence.first (shapes_of flat.now.equations.items) widths.old }
+    requires there { IsOpenAt (equations_of flat.now) recurrence }
+    requires below { AreWidthsBelow recurrence.first (equations_of flat.now) widths.old }
     requires least { 1 ≤ width }
     requires greatest { width ≤ 128 }
     requires initial { recurrence.init < 2 ^ width }
-    ensures below { AreWidthsBelow recurrence.first (shapes_of flat.now.equations.items) widths.new }
+    ensures below { AreWidthsBelow recurrence.first (equations_of flat.now) widths.new }
     ensures before { AgreeBelow recurrence.first widths.old widths.new }
-    ensures holds { OnTrue result (HoldsAt (shapes_of flat.now.equations.items) recurrence width widths.new) }
-    ensures fails { OnFalse result ((others : List ℕ) → AgreeBelow recurrence.first widths.old others → Holds (shapes_of flat.now.equations.items) recurrence.number recurrence.init recurrence.first others → slice_index others recurrence.number ≢ width) }
+    ensures holds { OnTrue result (HoldsAt (equations_of flat.now) recurrence width widths.new) }
+    ensures fails { OnFalse result (HoldsNotAt (equations_of flat.now) recurrence widths.old width) }
 {
     widths[recurrence.number] = width;
     let reached = fill(flat, recurrence.first, recurrence.number, widths);
@@ -108,10 +108,10 @@ fn holds_at(flat: &Flat, recurrence: Recurrence, width: u8, widths: &mut [u8]) -
 
 /// Puts the least width of a recurrence and the widths of its body, if there are any.
 fn put_least(flat: &Flat, recurrence: Recurrence, widths: &mut [u8]) -> bool
-    requires there { IsOpenAt (shapes_of flat.now.equations.items) recurrence }
-    requires below { AreWidthsBelow recurrence.first (shapes_of flat.now.equations.items) widths.old }
-    ensures found { OnTrue result (AreWidthsBelow (recurrence.number + 1) (shapes_of flat.now.equations.items) widths.new) }
-    ensures nowhere { OnFalse result (HoldsNowhereBy (shapes_of flat.now.equations.items) recurrence widths.old) }
+    requires there { IsOpenAt (equations_of flat.now) recurrence }
+    requires below { AreWidthsBelow recurrence.first (equations_of flat.now) widths.old }
+    ensures found { OnTrue result (AreWidthsBelow (recurrence.number + 1) (equations_of flat.now) widths.new) }
+    ensures nowhere { OnFalse result (HoldsNowhereBy (equations_of flat.now) recurrence widths.old) }
 {
     let least = bits_of(u128::from(recurrence.init)).get();
     for width in least..GREATEST + 1 {
@@ -125,12 +125,12 @@ fn put_least(flat: &Flat, recurrence: Recurrence, widths: &mut [u8]) -> bool
 /// Puts the widths up to the next recurrence without declared width, with its own, and gives the number after it.
 fn put_part(flat: &Flat, from: usize, widths: &mut [u8]) -> Result<usize, usize>
     requires within { from < vec_len flat.now.equations }
-    requires below { AreWidthsBelow from (shapes_of flat.now.equations.items) widths.old }
-    requires begins { BeginsPart (shapes_of flat.now.equations.items) from }
+    requires below { AreWidthsBelow from (equations_of flat.now) widths.old }
+    requires begins { BeginsPart (equations_of flat.now) from }
     ensures ok { IfOk result (λ next. (from < next) × (next ≤ vec_len flat.now.equations)) }
-    ensures below { IfOk result (λ next. AreWidthsBelow next (shapes_of flat.now.equations.items) widths.new) }
-    ensures begins { IfOk result (λ next. BeginsPart (shapes_of flat.now.equations.items) next) }
-    ensures without { IfErr result (λ n. IsFirstWithout (shapes_of flat.now.equations.items) n × (n < vec_len flat.now.equations)) }
+    ensures below { IfOk result (λ next. AreWidthsBelow next (equations_of flat.now) widths.new) }
+    ensures begins { IfOk result (λ next. BeginsPart (equations_of flat.now) next) }
+    ensures without { IfErr result (λ n. IsFirstWithout (equations_of flat.now) n × (n < vec_len flat.now.equations)) }
 {
     match next_open(flat, from) {
         None => put_last(flat, from, widths),
@@ -141,11 +141,11 @@ fn put_part(flat: &Flat, from: usize, widths: &mut [u8]) -> Result<usize, usize>
 /// Puts the widths from an equation on where no recurrence without declared width follows.
 fn put_last(flat: &Flat, from: usize, widths: &mut [u8]) -> Result<usize, usize>
     requires within { from < vec_len flat.now.equations }
-    requires below { AreWidthsBelow from (shapes_of flat.now.equations.items) widths.old }
-    requires closed { AreClosed (shapes_of flat.now.equations.items) from (vec_len flat.now.equations) }
+    requires below { AreWidthsBelow from (equations_of flat.now) widths.old }
+    requires closed { AreClosed (equations_of flat.now) from (vec_len flat.now.equations) }
     ensures ok { IfOk result (λ next. next ≡ vec_len flat.now.equations) }
-    ensures below { IfOk result (λ next. AreWidthsBelow next (shapes_of flat.now.equations.items) widths.new) }
-    ensures without { IfErr result (λ n. IsFirstWithout (shapes_of flat.now.equations.items) n × (n < vec_len flat.now.equations)) }
+    ensures below { IfOk result (λ next. AreWidthsBelow next (equations_of flat.now) widths.new) }
+    ensures without { IfErr result (λ n. IsFirstWithout (equations_of flat.now) n × (n < vec_len flat.now.equations)) }
 {
     let count = flat.equations.len();
     let reached = fill(flat, from, count, widths);
@@ -162,14 +162,14 @@ fn put_recurrence(
     recurrence: Recurrence,
     widths: &mut [u8],
 ) -> Result<usize, usize>
-    requires there { IsOpenAt (shapes_of flat.now.equations.items) recurrence }
+    requires there { IsOpenAt (equations_of flat.now) recurrence }
     requires after { from ≤ recurrence.number }
-    requires below { AreWidthsBelow from (shapes_of flat.now.equations.items) widths.old }
-    requires closed { AreClosed (shapes_of flat.now.equations.items) from recurrence.number }
-    requires begins { BeginsPart (shapes_of flat.now.equations.items) from }
+    requires below { AreWidthsBelow from (equations_of flat.now) widths.old }
+    requires closed { AreClosed (equations_of flat.now) from recurrence.number }
+    requires begins { BeginsPart (equations_of flat.now) from }
     ensures ok { IfOk result (λ next. next ≡ recurrence.number + 1) }
-    ensures below { IfOk result (λ next. AreWidthsBelow next (shapes_of flat.now.equations.items) widths.new) }
-    ensures without { IfErr result (λ n. IsFirstWithout (shapes_of flat.now.equations.items) n × (n < vec_len flat.now.equations)) }
+    ensures below { IfOk result (λ next. AreWidthsBelow next (equations_of flat.now) widths.new) }
+    ensures without { IfErr result (λ n. IsFirstWithout (equations_of flat.now) n × (n < vec_len flat.now.equations)) }
 {
     let reached = fill(flat, from, recurrence.first, widths);
     if reached < recurrence.first {
@@ -183,9 +183,9 @@ fn put_recurrence(
 
 /// Puts all widths, and gives the number of the first equation that has none.
 fn put_all(flat: &Flat, widths: &mut [u8]) -> Option<usize>
-    requires { AreWidthsBelow 0 (shapes_of flat.now.equations.items) widths.old }
-    ensures all { IfNone result (AreWidths (shapes_of flat.now.equations.items) widths.new) }
-    ensures without { IfSome result (λ n. IsFirstWithout (shapes_of flat.now.equations.items) n × (n < vec_len flat.now.equations)) }
+    requires { AreWidthsBelow 0 (equations_of flat.now) widths.old }
+    ensures all { IfNone result (AreWidths (equations_of flat.now) widths.new) }
+    ensures without { IfSome result (λ n. IsFirstWithout (equations_of flat.now) n × (n < vec_len flat.now.equations)) }
 {
     let mut done = 0;
     while done < flat.equations.len() {
@@ -199,9 +199,9 @@ fn put_all(flat: &Flat, widths: &mut [u8]) -> Option<usize>
 
 /// All widths in place of the declared ones, or else the number of the first equation that has none.
 fn settled(flat: &Flat, mut widths: Vec<u8>) -> Result<Vec<u8>, usize>
-    requires { AreWidthsBelow 0 (shapes_of flat.now.equations.items) widths.items }
-    ensures widths { IfOk result (λ v. AreWidths (shapes_of flat.now.equations.items) v.items) }
-    ensures without { IfErr result (λ n. IsFirstWithout (shapes_of flat.now.equations.items) n × (n < vec_len flat.now.equations)) }
+    requires { AreWidthsBelow 0 (equations_of flat.now) widths.items }
+    ensures widths { IfOk result (λ v. AreWidths (equations_of flat.now) v.items) }
+    ensures without { IfErr result (λ n. IsFirstWithout (equations_of flat.now) n × (n < vec_len flat.now.equations)) }
 {
     match put_all(flat, &mut widths) {
         None => Ok(widths),
@@ -215,10 +215,12 @@ fn settled(flat: &Flat, mut widths: Vec<u8>) -> Result<Vec<u8>, usize>
 ///
 /// `NoWidth` with the first equation that has none, `Memory` where memory is wanting.
 pub fn solve(alloc: Global, flat: &Flat) -> Result<Widths, WidthFault>
-    ensures widths { IfOk result (λ w. AreWidths (shapes_of flat.now.equations.items) w) }
-    ensures without { (n : ℕ) → result ≡ Err (WidthFault.NoWidth n) → IsFirstWithout (shapes_of flat.now.equations.items) n }
-    ensures only_widths { (widths : List ℕ) → AreWidths (shapes_of flat.now.equations.items) widths → MatchResult result (λ w. w ≡ widths) (λ e. e ≡ WidthFault.Memory alloc_error) }
-    ensures only_without { (n : ℕ) → IsFirstWithout (shapes_of flat.now.equations.items) n → MatchResult result (λ _. ⊥) (λ e. (e ≡ WidthFault.NoWidth n) ⊎ (e ≡ WidthFault.Memory alloc_error)) }
+    ensures widths { IfOk result (λ w. AreWidths (equations_of flat.now) w) }
+    ensures without { (n : ℕ) → result ≡ Err (WidthFault.NoWidth n) → IsFirstWithout (equations_of flat.now) n }
+    ensures only_widths { (widths : List ℕ) → AreWidths (equations_of flat.now) widths →
+        MatchResult result (λ w. w ≡ widths) (λ e. e ≡ WidthFault.Memory alloc_error) }
+    ensures only_without { (n : ℕ) → IsFirstWithout (equations_of flat.now) n →
+        MatchResult result (λ _. ⊥) (λ e. (e ≡ WidthFault.NoWidth n) ⊎ (e ≡ WidthFault.Memory alloc_error)) }
 {
     let declared = declared_widths(alloc, flat)?;
     match settled(flat, declared) {
@@ -228,6 +230,3 @@ pub fn solve(alloc: Global, flat: &Flat) -> Result<Widths, WidthFault>
         }),
     }
 }
-
-#[cfg(test)]
-mod tests;

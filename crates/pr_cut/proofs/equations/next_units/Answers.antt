@@ -1,10 +1,9 @@
-use Rattle.std.proofs.Common.{◌≡◌, ◌≤◌, ℕ, Bool, false, true, ◌||◌, length, get_or, subst, sym, ap, ◌∙◌, arith}
+use Rattle.std.proofs.Common.{◌≡◌, Bool, false, true, ◌||◌, length, get_or, subst, sym, ap, ◌∙◌, arith}
 use Rattle.std.proofs.lemmas.List.{length-map}
 use Rattle.pr_cut_units.specs.Reached.{reached}
 use Rattle.pr_cut_cells.specs.Arguments.{argument_of}
 use Rattle.pr_cut.specs.Operators.{arguments_of}
-use Rattle.std.proofs.lemmas.Option.{slice_get_within}
-use Rattle.pr_flat.specs.Facts.{arity, is_rec, is_input}
+use Rattle.pr_flat.specs.Facts.{arity, is_input}
 use Rattle.pr_flat.specs.Shape.{EquationShape, equation_shape}
 use Rattle.pr_cut_units.proofs.CountNets.{length-arguments}
 use Rattle.pr_cut.specs.Sources.{equations_in, plan_in}

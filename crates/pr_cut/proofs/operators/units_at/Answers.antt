@@ -1,9 +1,7 @@
-use Rattle.std.proofs.Common.{◌≡◌, List, [], ◌∷◌, ◌++◌, length, subst, sym, ap, ◌∙◌, arith}
-use Rattle.pr_net.specs.declared.cells.Slice.{Slice}
+use Rattle.std.proofs.Common.{◌≡◌, List, ◌++◌, length, subst, sym, ◌∙◌, arith}
 use Rattle.pr_flat.specs.declared.equations.Op.{Op}
 use Rattle.pr_cut_units.specs.Widening.{Argument}
 use Rattle.pr_cut_units.specs.Table.{units_at}
-use Rattle.pr_cut_cells.specs.Arguments.{argument_of}
 use Rattle.pr_cut.specs.Operators.{arguments_of}
 use Rattle.pr_cut.proofs.ItemLemmas.{one_argument, two_arguments, three_arguments, is_choice}
 use Rattle.pr_cut.proofs.operators.units_at.Goals as goal

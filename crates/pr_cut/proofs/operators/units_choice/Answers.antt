@@ -1,11 +1,11 @@
-use Rattle.std.proofs.Common.{ℕ, ◌≡◌, List, [], ◌∷◌, length, ap, ap₂, ◌∙◌, arith}
+use Rattle.std.proofs.Common.{◌≡◌, [], ◌∷◌, length, ap, ap₂, ◌∙◌}
 use Rattle.pr_flat.specs.declared.equations.Op.{Op}
 use Rattle.pr_flat.specs.declared.forms.Form.{Form}
 use Rattle.pr_flat.specs.Rows.{natural_form}
 use Rattle.pr_cut_units.specs.Table.{computed_bits}
 use Rattle.pr_cut_units.proofs.LongTable.{long_choice}
 use Rattle.pr_cut_cells.specs.Arguments.{argument_of}
-use Rattle.pr_cut.proofs.OperatorLemmas.{natural_is, bits_are, whole_one, whole_two, result_whole, result_slices}
+use Rattle.pr_cut.proofs.OperatorLemmas.{natural_is, bits_are, result_whole, result_slices}
 use Rattle.pr_cut.proofs.operators.units_choice.Goals as goal
 
 pub finished-requires-clause-whole : goal.finished-requires-clause-whole

@@ -1,17 +1,17 @@
-use Rattle.std.proofs.Common.{◌∙◌, ap₂, ◌+◌, List, ◌++◌, length}
+use Rattle.std.proofs.Common.{◌∙◌, ap₂, List, ◌++◌, length}
 use Rattle.pr_net.specs.declared.cells.Slice.{Slice}
-use Rattle.pr_cut_units.specs.Parts.{Making, followed_by}
-use Rattle.pr_cut_units.specs.Operators.{subtracted, sign_unit}
+use Rattle.pr_cut_units.specs.Parts.{Making}
+use Rattle.pr_cut_units.specs.Operators.{difference_sign}
 use Rattle.pr_cut_ops.proofs.compared.both_signed_less.Goals as goal
 
 pub returns-clause-units : goal.returns-clause-units
 returns-clause-units c =
     let us = c.both_widened.new.units.items in
-    let making : List Slice → List Slice → Making = λ x y. followed_by (subtracted (c.args.m + 1) x y) (sign_unit c.args.m c.args.table) in
+    let making : List Slice → List Slice → Making = difference_sign c.args.m c.args.table in
     c.in_ok-all.ensures.units ∙ ap₂ (λ (x y : List Slice). us ++ (making x y (length us)).units) c.deref.ensures.value c.deref-2.ensures.value ∙ c.in_ok-both.ensures.units making
 
 pub returns-clause-slices : goal.returns-clause-slices
 returns-clause-slices c =
     let us = c.both_widened.new.units.items in
-    let making : List Slice → List Slice → Making = λ x y. followed_by (subtracted (c.args.m + 1) x y) (sign_unit c.args.m c.args.table) in
+    let making : List Slice → List Slice → Making = difference_sign c.args.m c.args.table in
     c.in_ok-all.ensures.slices ∙ ap₂ (λ (x y : List Slice). (making x y (length us)).slices) c.deref.ensures.value c.deref-2.ensures.value ∙ c.in_ok-both.ensures.slices making

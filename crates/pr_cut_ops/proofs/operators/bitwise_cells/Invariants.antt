@@ -1,10 +1,10 @@
 use Rattle.std.proofs.Common.{◌≡◌, vec_len}
 use Rattle.pr_cut_units.specs.Parts.{each}
-use Rattle.pr_cut_units.specs.Cells.{plain, byte, top}
+use Rattle.pr_cut_units.specs.Operators.{bitwise_cell}
 use Rattle.pr_cut_ops.proofs.operators.bitwise_cells.Given as goal
 
 abbrev pub invariant-loop-i : goal.invariant-loop-i
 invariant-loop-i l = record {
   count : vec_len l.all ≡ l.i;
-  all : l.all.items ≡ each l.i (λ i. record plain { a = byte l.x i; hi = byte l.y i; table = l.table; mask = top l.e i });
+  all : l.all.items ≡ each l.i (λ i. bitwise_cell l.e l.table l.x l.y i);
 }

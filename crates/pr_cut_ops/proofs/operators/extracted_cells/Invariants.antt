@@ -1,10 +1,10 @@
 use Rattle.std.proofs.Common.{◌≡◌, vec_len}
 use Rattle.pr_cut_units.specs.Parts.{each}
-use Rattle.pr_cut_units.specs.Cells.{plain, top, with_right}
+use Rattle.pr_cut_units.specs.Operators.{extracted_cell}
 use Rattle.pr_cut_ops.proofs.operators.extracted_cells.Given as goal
 
 abbrev pub invariant-loop-i : goal.invariant-loop-i
 invariant-loop-i l = record {
   count : vec_len l.all ≡ l.i;
-  all : l.all.items ≡ each l.i (λ i. with_right l.x l.l i (record plain { table = 204; mask = top l.e i }));
+  all : l.all.items ≡ each l.i (λ i. extracted_cell l.e l.l l.x i);
 }

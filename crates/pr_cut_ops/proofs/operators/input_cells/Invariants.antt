@@ -1,11 +1,10 @@
-use Rattle.std.proofs.Common.{◌≡◌, ◌+◌, vec_len}
-use Rattle.pr_net.specs.declared.cells.Wire.{Wire}
+use Rattle.std.proofs.Common.{◌≡◌, vec_len}
 use Rattle.pr_cut_units.specs.Parts.{each}
-use Rattle.pr_cut_units.specs.Cells.{plain, top}
+use Rattle.pr_cut_units.specs.Operators.{input_cell}
 use Rattle.pr_cut_ops.proofs.operators.input_cells.Given as goal
 
 abbrev pub invariant-loop-i : goal.invariant-loop-i
 invariant-loop-i l = record {
   count : vec_len l.all ≡ l.i;
-  all : l.all.items ≡ each l.i (λ i. record plain { a = Wire.Bus (l.offset + i); table = 170; mask = top l.w i });
+  all : l.all.items ≡ each l.i (λ i. input_cell l.w l.offset i);
 }

@@ -1,11 +1,10 @@
 use Rattle.std.proofs.Common.{◌≡◌, vec_len}
-use Rattle.pr_base.specs.declared.choices.Mode.{Mode}
 use Rattle.pr_cut_units.specs.Parts.{each}
-use Rattle.pr_cut_units.specs.Cells.{plain, byte}
+use Rattle.pr_cut_units.specs.Operators.{equal_cell}
 use Rattle.pr_cut_ops.proofs.sums.equal_cells.Given as goal
 
 abbrev pub invariant-loop-i : goal.invariant-loop-i
 invariant-loop-i l = record {
   count : vec_len l.all ≡ l.i;
-  all : l.all.items ≡ each l.i (λ i. record plain { a = byte l.x i; hi = byte l.y i; mode = Mode.Zero; table = 102 });
+  all : l.all.items ≡ each l.i (λ i. equal_cell l.x l.y i);
 }

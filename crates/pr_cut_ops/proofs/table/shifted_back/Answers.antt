@@ -1,9 +1,7 @@
 use Rattle.std.proofs.Common.{◌≡◌, ◌∙◌, false, ap, List, ◌++◌, length}
 use Rattle.pr_net.specs.declared.cells.Slice.{Slice}
-use Rattle.pr_cut_units.specs.Parts.{Making, followed_by}
-use Rattle.pr_cut_units.specs.Widening.{flipped}
-use Rattle.pr_cut_units.specs.Operators.{extracted}
-use Rattle.pr_cut_units.specs.Shifts.{shifted_by}
+use Rattle.pr_cut_units.specs.Parts.{Making}
+use Rattle.pr_cut_units.specs.Shifts.{shifted_by, flipped_back}
 use Rattle.pr_cut_units.proofs.JoinLemmas.{then_units, then_slices}
 use Rattle.pr_cut_cells.specs.Arguments.{argument_of}
 use Rattle.pr_cut_ops.proofs.table.shifted_back.Goals as goal
@@ -15,7 +13,7 @@ returns-clause-units c =
     let w = c.args.a.now.width in
     let rows : List Slice → Making = λ by. shifted_by false w by c.args.by.now.width c.args.x.now in
     let first : Making = rows c.args.by.now.slices.items in
-    let second : List Slice → Making = λ y. followed_by (flipped (argument_of c.args.a.now) y) (λ z. extracted c.args.e w 0 z) in
+    let second : List Slice → Making = flipped_back c.args.e (argument_of c.args.a.now) in
     let made : vs ≡ us ++ (first (length us)).units = c.in_ok-y.ensures.units ∙ ap (λ (by : List Slice). us ++ (rows by (length us)).units) c.deref.ensures.value in
     let now : c.in_ok-y.y.items ≡ (first (length us)).slices = c.in_ok-y.ensures.slices ∙ ap (λ (by : List Slice). (rows by (length us)).slices) c.deref.ensures.value in
     c.in_ok-low.ensures.units ∙ ap (λ (y : List Slice). vs ++ (second y (length vs)).units) c.deref-2.ensures.value ∙ then_units first second c.in_ok-y.y.items us vs made now
@@ -27,7 +25,7 @@ returns-clause-slices c =
     let w = c.args.a.now.width in
     let rows : List Slice → Making = λ by. shifted_by false w by c.args.by.now.width c.args.x.now in
     let first : Making = rows c.args.by.now.slices.items in
-    let second : List Slice → Making = λ y. followed_by (flipped (argument_of c.args.a.now) y) (λ z. extracted c.args.e w 0 z) in
+    let second : List Slice → Making = flipped_back c.args.e (argument_of c.args.a.now) in
     let made : vs ≡ us ++ (first (length us)).units = c.in_ok-y.ensures.units ∙ ap (λ (by : List Slice). us ++ (rows by (length us)).units) c.deref.ensures.value in
     let now : c.in_ok-y.y.items ≡ (first (length us)).slices = c.in_ok-y.ensures.slices ∙ ap (λ (by : List Slice). (rows by (length us)).slices) c.deref.ensures.value in
     c.in_ok-low.ensures.slices ∙ ap (λ (y : List Slice). (second y (length vs)).slices) c.deref-2.ensures.value ∙ then_slices first second c.in_ok-y.y.items us vs made now

@@ -1,9 +1,8 @@
-use Rattle.std.proofs.Common.{◌≡◌, ◌∙◌, false, ap, ap₂, List, ◌++◌, length}
+use Rattle.std.proofs.Common.{◌≡◌, ◌∙◌, ap, ap₂, List, ◌++◌, length}
 use Rattle.pr_net.specs.declared.cells.Slice.{Slice}
-use Rattle.pr_cut_units.specs.Parts.{Making, followed_by}
-use Rattle.pr_cut_units.specs.Widening.{flipped}
-use Rattle.pr_cut_units.specs.Operators.{extracted}
-use Rattle.pr_cut_units.specs.Shifts.{shifted_by}
+use Rattle.pr_cut_units.specs.Parts.{Making}
+use Rattle.pr_cut_units.specs.Widening.{flipped, read_as}
+use Rattle.pr_cut_units.specs.Shifts.{shifted_back}
 use Rattle.pr_cut_units.proofs.JoinLemmas.{then_units, then_slices}
 use Rattle.pr_cut_cells.specs.Arguments.{argument_of}
 use Rattle.pr_cut_ops.proofs.table.signed_moved_by.Goals as goal
@@ -13,9 +12,9 @@ returns-clause-units c =
     let us = c.args.units.now.items in
     let vs = c.flipped.new.units.items in
     let w = c.args.a.now.width in
-    let flip : List Slice → List Slice → Making = λ a x. flipped (record { slices = a; form = record { signed = c.args.a.now.signed; width = w } }) x in
+    let flip : List Slice → List Slice → Making = λ a x. flipped (read_as c.args.a.now.signed w a) x in
     let first : Making = flip c.args.a.now.slices.items c.args.a.now.slices.items in
-    let second : List Slice → Making = λ x. followed_by (shifted_by false w c.args.by.now.slices.items c.args.by.now.width x) (λ y. followed_by (flipped (argument_of c.args.a.now) y) (λ z. extracted c.args.e w 0 z)) in
+    let second : List Slice → Making = shifted_back c.args.e (argument_of c.args.a.now) (argument_of c.args.by.now) in
     let made : vs ≡ us ++ (first (length us)).units = c.in_ok-x.ensures.units ∙ ap₂ (λ (a x : List Slice). us ++ (flip a x (length us)).units) c.deref.ensures.value c.deref-2.ensures.value in
     let now : c.in_ok-x.x.items ≡ (first (length us)).slices = c.in_ok-x.ensures.slices ∙ ap₂ (λ (a x : List Slice). (flip a x (length us)).slices) c.deref.ensures.value c.deref-2.ensures.value in
     c.in_ok-low.ensures.units ∙ ap (λ (y : List Slice). vs ++ (second y (length vs)).units) c.deref-3.ensures.value ∙ then_units first second c.in_ok-x.x.items us vs made now
@@ -25,9 +24,9 @@ returns-clause-slices c =
     let us = c.args.units.now.items in
     let vs = c.flipped.new.units.items in
     let w = c.args.a.now.width in
-    let flip : List Slice → List Slice → Making = λ a x. flipped (record { slices = a; form = record { signed = c.args.a.now.signed; width = w } }) x in
+    let flip : List Slice → List Slice → Making = λ a x. flipped (read_as c.args.a.now.signed w a) x in
     let first : Making = flip c.args.a.now.slices.items c.args.a.now.slices.items in
-    let second : List Slice → Making = λ x. followed_by (shifted_by false w c.args.by.now.slices.items c.args.by.now.width x) (λ y. followed_by (flipped (argument_of c.args.a.now) y) (λ z. extracted c.args.e w 0 z)) in
+    let second : List Slice → Making = shifted_back c.args.e (argument_of c.args.a.now) (argument_of c.args.by.now) in
     let made : vs ≡ us ++ (first (length us)).units = c.in_ok-x.ensures.units ∙ ap₂ (λ (a x : List Slice). us ++ (flip a x (length us)).units) c.deref.ensures.value c.deref-2.ensures.value in
     let now : c.in_ok-x.x.items ≡ (first (length us)).slices = c.in_ok-x.ensures.slices ∙ ap₂ (λ (a x : List Slice). (flip a x (length us)).slices) c.deref.ensures.value c.deref-2.ensures.value in
     c.in_ok-low.ensures.slices ∙ ap (λ (y : List Slice). (second y (length vs)).slices) c.deref-3.ensures.value ∙ then_slices first second c.in_ok-x.x.items us vs made now

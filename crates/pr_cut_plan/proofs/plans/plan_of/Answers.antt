@@ -4,7 +4,7 @@ use Rattle.pr_base.specs.declared.caps.Cap.{Cap}
 use Rattle.pr_flat.specs.Shape.{shapes_of}
 use Rattle.pr_cut_units.specs.Equations.{plan_of, hold_unit}
 use Rattle.pr_cut_units.proofs.CountNets.{length-reached}
-use Rattle.pr_cut_plan.specs.Plans.{all_units}
+use Rattle.pr_cut_units.specs.Equations.{all_units}
 use Rattle.pr_cut_plan.proofs.ReachedLemmas.{shapes_few}
 use Rattle.pr_cut_plan.proofs.PlanLemmas.{units_counted, bytes_passed, outputs_passed, units_passed, none_passed}
 use Rattle.pr_cut_plan.proofs.plans.plan_of.Goals as goal

@@ -182,31 +182,31 @@ make_rec-returns-clause-value t c =
     let declared = c.declared-width.result in
     let grown = body-appends v (scene_appends items s c.requires) name p width e 0 begun in
     let n = number_after name p width e v begun in
-    let counts = counted_as v name width e begun p at declared (streams_in c.set.new.self) (made_of c.in_ok-counted.counted) c.place_at-at.ensures c.declared-width.ensures c.in_ok-set.ensures c.in_ok-counted.ensures.value in
+    let counts = counted_as v name width e begun p at declared (streams_in c.set.new.self) (made_of c.in_ok-counted.counted) c.place_at-at.ensures c.declared-width.ensures c.in_ok-set.ensures.stands c.in_ok-counted.ensures.value in
     let length_is = counted_number c.in_ok-counted.counted.ledger.equations.items c.len-number.result (omega arith) in
     let first_is = counted_number c.args.begun.ledger.equations.items c.len-first.result (omega arith) in
     let start = cut_shapes c.in_ok-ledger.ledger.equations.items c.in_ok-counted.counted.ledger.equations.items c.args.begun.ledger.equations.items c.len-first.result (omega arith) c.in_ok-ledger.ensures in
     let kept = visible_kept items s c.make_body.new.statics c.in_ok-counted.ensures.names in
-    let body = body_as v (visible_in items c.make_body.new.statics) name width e begun p at declared c.len-number.result (streams_in c.set.new.self) (streams_in c.set-2.new.self) (made_of c.in_ok-counted.counted) (made_of c.in_ok-made.made) (shapes_in c.in_ok-ledger.ledger) grown.more c.place_at-at.ensures c.declared-width.ensures c.in_ok-set.ensures c.in_ok-counted.ensures.value length_is start c.in_ok-set-2.ensures kept c.in_ok-made.ensures.value grown.is in
+    let body = body_as v (visible_in items c.make_body.new.statics) name width e begun p at declared c.len-number.result (streams_in c.set.new.self) (streams_in c.set-2.new.self) (made_of c.in_ok-counted.counted) (made_of c.in_ok-made.made) (shapes_in c.in_ok-ledger.ledger) grown.more c.place_at-at.ensures c.declared-width.ensures c.in_ok-set.ensures.stands c.in_ok-counted.ensures.value length_is start c.in_ok-set-2.ensures.stands kept c.in_ok-made.ensures.value grown.is in
     let again = body-appends v (scene_appends items s c.requires) name p width e n begun in
     let number_is : c.len-number.result ≡ n = length_is ∙ ap (λ (m : Made). length m.equations) counts in
-    let one : streams_in c.set.new.self ≡ with_standing name p (Own 0) begun.streams = c.in_ok-set.ensures ∙ (λ i. with_standing name (c.place_at-at.ensures i) (Own 0) begun.streams) in
-    let two : streams_in c.set-2.new.self ≡ with_standing name p (Own n) begun.streams = c.in_ok-set-2.ensures ∙ ((λ i. with_standing name (c.place_at-at.ensures i) (Own (number_is i)) (one i)) ∙ twice name p (Own 0) (Own n) begun.streams) in
+    let one : streams_in c.set.new.self ≡ with_standing name p (Own 0) begun.streams = c.in_ok-set.ensures.stands ∙ (λ i. with_standing name (c.place_at-at.ensures i) (Own 0) begun.streams) in
+    let two : streams_in c.set-2.new.self ≡ with_standing name p (Own n) begun.streams = c.in_ok-set-2.ensures.stands ∙ ((λ i. with_standing name (c.place_at-at.ensures i) (Own (number_is i)) (one i)) ∙ twice name p (Own 0) (Own n) begun.streams) in
     let other = visible_kept items s c.make_body-2.new.statics (names_on c.in_ok-counted.ensures.names c.in_ok-made.ensures.names) in
-    let stands = stands_as v (visible_in items c.make_body-2.new.statics) name width e begun p at declared c.len-number.result c.len-first.result (streams_in c.set-2.new.self) (streams_in c.set-3.new.self) (made_of c.in_ok-made.made) _ (made_of c.in_ok-made-2.made) again.more c.place_at-at.ensures c.declared-width.ensures number_is first_is body two c.in_ok-set-3.ensures other refl c.in_ok-made-2.ensures.value again.is in
-    let three : streams_in c.set-3.new.self ≡ with_standing name p (Own 0) begun.streams = c.in_ok-set-3.ensures ∙ ((λ i. with_standing name (c.place_at-at.ensures i) (Own 0) (two i)) ∙ twice name p (Own n) (Own 0) begun.streams) in
+    let stands = stands_as v (visible_in items c.make_body-2.new.statics) name width e begun p at declared c.len-number.result c.len-first.result (streams_in c.set-2.new.self) (streams_in c.set-3.new.self) (made_of c.in_ok-made.made) _ (made_of c.in_ok-made-2.made) again.more c.place_at-at.ensures c.declared-width.ensures number_is first_is body two c.in_ok-set-3.ensures.stands other refl c.in_ok-made-2.ensures.value again.is in
+    let three : streams_in c.set-3.new.self ≡ with_standing name p (Own 0) begun.streams = c.in_ok-set-3.ensures.stands ∙ ((λ i. with_standing name (c.place_at-at.ensures i) (Own 0) (two i)) ∙ twice name p (Own n) (Own 0) begun.streams) in
     rec_as v c.args.target.now width c.args.init.now e begun at c.value_of-init.result declared (streams_in c.set-3.new.self) (streams_in c.set-4.new.self) (made_of c.in_ok-made-2.made) (made_of c.in_ok-made-3.made)
     c.place_at-at.ensures c.value_of-init.ensures c.declared-width.ensures
     (λ x. (λ i. with_standing name p x (three i)) ∙ twice name p (Own 0) x begun.streams) stands
     (rec_last _ _ _ _ _ c.len-first.result (length begun.equations) first_is c.in_ok-made-3.ensures.value)
-    c.in_ok-set-4.ensures
+    c.in_ok-set-4.ensures.stands
 
 pub make_rec-returns-in_err-counted-clause-limit : goal.make_rec-returns-in_err-counted-clause-limit
 make_rec-returns-in_err-counted-clause-limit t c =
     let v = visible_in c.args.items.now c.args.statics.now in
     let begun = progress_of c.args.begun in
     passed_on c.from_residual-in_err-counted.result c.in_err-counted.field-0.0 _ _ c.from_residual-in_err-counted.ensures.1
-    (counted_within v c.args.target.now c.args.width c.args.init.now c.args.body.now begun _ (counted_as v c.args.target.now.name c.args.width c.args.body.now begun (place c.args.target.now (known_in c.args.statics.now)) c.place_at-at.result c.declared-width.result (streams_in c.set.new.self) _ c.place_at-at.ensures c.declared-width.ensures c.in_ok-set.ensures refl))
+    (counted_within v c.args.target.now c.args.width c.args.init.now c.args.body.now begun _ (counted_as v c.args.target.now.name c.args.width c.args.body.now begun (place c.args.target.now (known_in c.args.statics.now)) c.place_at-at.result c.declared-width.result (streams_in c.set.new.self) _ c.place_at-at.ensures c.declared-width.ensures c.in_ok-set.ensures.stands refl))
     c.in_err-counted.ensures.limit
 
 pub make_rec-returns-in_err-made-clause-limit : goal.make_rec-returns-in_err-made-clause-limit
@@ -223,13 +223,13 @@ make_rec-returns-in_err-made-clause-limit t c =
     let declared = c.declared-width.result in
     let grown = body-appends v (scene_appends items s c.requires) name p width e 0 begun in
     let n = number_after name p width e v begun in
-    let counts = counted_as v name width e begun p at declared (streams_in c.set.new.self) (made_of c.in_ok-counted.counted) c.place_at-at.ensures c.declared-width.ensures c.in_ok-set.ensures c.in_ok-counted.ensures.value in
+    let counts = counted_as v name width e begun p at declared (streams_in c.set.new.self) (made_of c.in_ok-counted.counted) c.place_at-at.ensures c.declared-width.ensures c.in_ok-set.ensures.stands c.in_ok-counted.ensures.value in
     let length_is = counted_number c.in_ok-counted.counted.ledger.equations.items c.len-number.result (omega arith) in
     let first_is = counted_number c.args.begun.ledger.equations.items c.len-first.result (omega arith) in
     let start = cut_shapes c.in_ok-ledger.ledger.equations.items c.in_ok-counted.counted.ledger.equations.items c.args.begun.ledger.equations.items c.len-first.result (omega arith) c.in_ok-ledger.ensures in
     let kept = visible_kept items s c.make_body.new.statics c.in_ok-counted.ensures.names in
     passed_on c.from_residual-in_err-made.result c.in_err-made.field-0.0 _ _ c.from_residual-in_err-made.ensures.1
-    (body_within v c.args.target.now width c.args.init.now e begun _ (body_as v (visible_in items c.make_body.new.statics) name width e begun p at declared c.len-number.result (streams_in c.set.new.self) (streams_in c.set-2.new.self) (made_of c.in_ok-counted.counted) _ (shapes_in c.in_ok-ledger.ledger) grown.more c.place_at-at.ensures c.declared-width.ensures c.in_ok-set.ensures c.in_ok-counted.ensures.value length_is start c.in_ok-set-2.ensures kept refl grown.is))
+    (body_within v c.args.target.now width c.args.init.now e begun _ (body_as v (visible_in items c.make_body.new.statics) name width e begun p at declared c.len-number.result (streams_in c.set.new.self) (streams_in c.set-2.new.self) (made_of c.in_ok-counted.counted) _ (shapes_in c.in_ok-ledger.ledger) grown.more c.place_at-at.ensures c.declared-width.ensures c.in_ok-set.ensures.stands c.in_ok-counted.ensures.value length_is start c.in_ok-set-2.ensures.stands kept refl grown.is))
     c.in_err-made.ensures.limit
 
 pub make_rec-returns-in_err-made-2-clause-limit : goal.make_rec-returns-in_err-made-2-clause-limit
@@ -246,19 +246,19 @@ make_rec-returns-in_err-made-2-clause-limit t c =
     let declared = c.declared-width.result in
     let grown = body-appends v (scene_appends items s c.requires) name p width e 0 begun in
     let n = number_after name p width e v begun in
-    let counts = counted_as v name width e begun p at declared (streams_in c.set.new.self) (made_of c.in_ok-counted.counted) c.place_at-at.ensures c.declared-width.ensures c.in_ok-set.ensures c.in_ok-counted.ensures.value in
+    let counts = counted_as v name width e begun p at declared (streams_in c.set.new.self) (made_of c.in_ok-counted.counted) c.place_at-at.ensures c.declared-width.ensures c.in_ok-set.ensures.stands c.in_ok-counted.ensures.value in
     let length_is = counted_number c.in_ok-counted.counted.ledger.equations.items c.len-number.result (omega arith) in
     let first_is = counted_number c.args.begun.ledger.equations.items c.len-first.result (omega arith) in
     let start = cut_shapes c.in_ok-ledger.ledger.equations.items c.in_ok-counted.counted.ledger.equations.items c.args.begun.ledger.equations.items c.len-first.result (omega arith) c.in_ok-ledger.ensures in
     let kept = visible_kept items s c.make_body.new.statics c.in_ok-counted.ensures.names in
-    let body = body_as v (visible_in items c.make_body.new.statics) name width e begun p at declared c.len-number.result (streams_in c.set.new.self) (streams_in c.set-2.new.self) (made_of c.in_ok-counted.counted) (made_of c.in_ok-made.made) (shapes_in c.in_ok-ledger.ledger) grown.more c.place_at-at.ensures c.declared-width.ensures c.in_ok-set.ensures c.in_ok-counted.ensures.value length_is start c.in_ok-set-2.ensures kept c.in_ok-made.ensures.value grown.is in
+    let body = body_as v (visible_in items c.make_body.new.statics) name width e begun p at declared c.len-number.result (streams_in c.set.new.self) (streams_in c.set-2.new.self) (made_of c.in_ok-counted.counted) (made_of c.in_ok-made.made) (shapes_in c.in_ok-ledger.ledger) grown.more c.place_at-at.ensures c.declared-width.ensures c.in_ok-set.ensures.stands c.in_ok-counted.ensures.value length_is start c.in_ok-set-2.ensures.stands kept c.in_ok-made.ensures.value grown.is in
     let again = body-appends v (scene_appends items s c.requires) name p width e n begun in
     let number_is : c.len-number.result ≡ n = length_is ∙ ap (λ (m : Made). length m.equations) counts in
-    let one : streams_in c.set.new.self ≡ with_standing name p (Own 0) begun.streams = c.in_ok-set.ensures ∙ (λ i. with_standing name (c.place_at-at.ensures i) (Own 0) begun.streams) in
-    let two : streams_in c.set-2.new.self ≡ with_standing name p (Own n) begun.streams = c.in_ok-set-2.ensures ∙ ((λ i. with_standing name (c.place_at-at.ensures i) (Own (number_is i)) (one i)) ∙ twice name p (Own 0) (Own n) begun.streams) in
+    let one : streams_in c.set.new.self ≡ with_standing name p (Own 0) begun.streams = c.in_ok-set.ensures.stands ∙ (λ i. with_standing name (c.place_at-at.ensures i) (Own 0) begun.streams) in
+    let two : streams_in c.set-2.new.self ≡ with_standing name p (Own n) begun.streams = c.in_ok-set-2.ensures.stands ∙ ((λ i. with_standing name (c.place_at-at.ensures i) (Own (number_is i)) (one i)) ∙ twice name p (Own 0) (Own n) begun.streams) in
     let other = visible_kept items s c.make_body-2.new.statics (names_on c.in_ok-counted.ensures.names c.in_ok-made.ensures.names) in
     passed_on c.from_residual-in_err-made-2.result c.in_err-made-2.field-0.0 _ _ c.from_residual-in_err-made-2.ensures.1
-    (stands_within v c.args.target.now width c.args.init.now e begun _ (stands_as v (visible_in items c.make_body-2.new.statics) name width e begun p at declared c.len-number.result c.len-first.result (streams_in c.set-2.new.self) (streams_in c.set-3.new.self) (made_of c.in_ok-made.made) _ _ again.more c.place_at-at.ensures c.declared-width.ensures number_is first_is body two c.in_ok-set-3.ensures other refl refl again.is))
+    (stands_within v c.args.target.now width c.args.init.now e begun _ (stands_as v (visible_in items c.make_body-2.new.statics) name width e begun p at declared c.len-number.result c.len-first.result (streams_in c.set-2.new.self) (streams_in c.set-3.new.self) (made_of c.in_ok-made.made) _ _ again.more c.place_at-at.ensures c.declared-width.ensures number_is first_is body two c.in_ok-set-3.ensures.stands other refl refl again.is))
     c.in_err-made-2.ensures.limit
 
 pub make_rec-returns-in_err-made-3-clause-limit : goal.make_rec-returns-in_err-made-3-clause-limit
@@ -275,19 +275,19 @@ make_rec-returns-in_err-made-3-clause-limit t c =
     let declared = c.declared-width.result in
     let grown = body-appends v (scene_appends items s c.requires) name p width e 0 begun in
     let n = number_after name p width e v begun in
-    let counts = counted_as v name width e begun p at declared (streams_in c.set.new.self) (made_of c.in_ok-counted.counted) c.place_at-at.ensures c.declared-width.ensures c.in_ok-set.ensures c.in_ok-counted.ensures.value in
+    let counts = counted_as v name width e begun p at declared (streams_in c.set.new.self) (made_of c.in_ok-counted.counted) c.place_at-at.ensures c.declared-width.ensures c.in_ok-set.ensures.stands c.in_ok-counted.ensures.value in
     let length_is = counted_number c.in_ok-counted.counted.ledger.equations.items c.len-number.result (omega arith) in
     let first_is = counted_number c.args.begun.ledger.equations.items c.len-first.result (omega arith) in
     let start = cut_shapes c.in_ok-ledger.ledger.equations.items c.in_ok-counted.counted.ledger.equations.items c.args.begun.ledger.equations.items c.len-first.result (omega arith) c.in_ok-ledger.ensures in
     let kept = visible_kept items s c.make_body.new.statics c.in_ok-counted.ensures.names in
-    let body = body_as v (visible_in items c.make_body.new.statics) name width e begun p at declared c.len-number.result (streams_in c.set.new.self) (streams_in c.set-2.new.self) (made_of c.in_ok-counted.counted) (made_of c.in_ok-made.made) (shapes_in c.in_ok-ledger.ledger) grown.more c.place_at-at.ensures c.declared-width.ensures c.in_ok-set.ensures c.in_ok-counted.ensures.value length_is start c.in_ok-set-2.ensures kept c.in_ok-made.ensures.value grown.is in
+    let body = body_as v (visible_in items c.make_body.new.statics) name width e begun p at declared c.len-number.result (streams_in c.set.new.self) (streams_in c.set-2.new.self) (made_of c.in_ok-counted.counted) (made_of c.in_ok-made.made) (shapes_in c.in_ok-ledger.ledger) grown.more c.place_at-at.ensures c.declared-width.ensures c.in_ok-set.ensures.stands c.in_ok-counted.ensures.value length_is start c.in_ok-set-2.ensures.stands kept c.in_ok-made.ensures.value grown.is in
     let again = body-appends v (scene_appends items s c.requires) name p width e n begun in
     let number_is : c.len-number.result ≡ n = length_is ∙ ap (λ (m : Made). length m.equations) counts in
-    let one : streams_in c.set.new.self ≡ with_standing name p (Own 0) begun.streams = c.in_ok-set.ensures ∙ (λ i. with_standing name (c.place_at-at.ensures i) (Own 0) begun.streams) in
-    let two : streams_in c.set-2.new.self ≡ with_standing name p (Own n) begun.streams = c.in_ok-set-2.ensures ∙ ((λ i. with_standing name (c.place_at-at.ensures i) (Own (number_is i)) (one i)) ∙ twice name p (Own 0) (Own n) begun.streams) in
+    let one : streams_in c.set.new.self ≡ with_standing name p (Own 0) begun.streams = c.in_ok-set.ensures.stands ∙ (λ i. with_standing name (c.place_at-at.ensures i) (Own 0) begun.streams) in
+    let two : streams_in c.set-2.new.self ≡ with_standing name p (Own n) begun.streams = c.in_ok-set-2.ensures.stands ∙ ((λ i. with_standing name (c.place_at-at.ensures i) (Own (number_is i)) (one i)) ∙ twice name p (Own 0) (Own n) begun.streams) in
     let other = visible_kept items s c.make_body-2.new.statics (names_on c.in_ok-counted.ensures.names c.in_ok-made.ensures.names) in
-    let stands = stands_as v (visible_in items c.make_body-2.new.statics) name width e begun p at declared c.len-number.result c.len-first.result (streams_in c.set-2.new.self) (streams_in c.set-3.new.self) (made_of c.in_ok-made.made) _ (made_of c.in_ok-made-2.made) again.more c.place_at-at.ensures c.declared-width.ensures number_is first_is body two c.in_ok-set-3.ensures other refl c.in_ok-made-2.ensures.value again.is in
-    let three : streams_in c.set-3.new.self ≡ with_standing name p (Own 0) begun.streams = c.in_ok-set-3.ensures ∙ ((λ i. with_standing name (c.place_at-at.ensures i) (Own 0) (two i)) ∙ twice name p (Own n) (Own 0) begun.streams) in
+    let stands = stands_as v (visible_in items c.make_body-2.new.statics) name width e begun p at declared c.len-number.result c.len-first.result (streams_in c.set-2.new.self) (streams_in c.set-3.new.self) (made_of c.in_ok-made.made) _ (made_of c.in_ok-made-2.made) again.more c.place_at-at.ensures c.declared-width.ensures number_is first_is body two c.in_ok-set-3.ensures.stands other refl c.in_ok-made-2.ensures.value again.is in
+    let three : streams_in c.set-3.new.self ≡ with_standing name p (Own 0) begun.streams = c.in_ok-set-3.ensures.stands ∙ ((λ i. with_standing name (c.place_at-at.ensures i) (Own 0) (two i)) ∙ twice name p (Own n) (Own 0) begun.streams) in
     let last = with_equation (op.Rec c.value_of-init.result c.len-first.result) (c.in_ok-made-2.made.given ∷ []) declared (shapes_in c.in_ok-made-2.made.ledger) in
     let whole = rec_as v c.args.target.now width c.args.init.now e begun at c.value_of-init.result declared (streams_in c.set-3.new.self) _ (made_of c.in_ok-made-2.made) last
     c.place_at-at.ensures c.value_of-init.ensures c.declared-width.ensures

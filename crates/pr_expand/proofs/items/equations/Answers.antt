@@ -1,7 +1,8 @@
 use Rattle.std.proofs.Common.{List, subst, sym}
 use Rattle.pr_lang.specs.declared.trees.Item.{Item}
 use Rattle.pr_scope.specs.Walk.{start}
-use Rattle.pr_scope_facts.proofs.InvertedItems.{AllItems, program-inverted}
+use Rattle.pr_scope_facts.specs.Items.{AllItems}
+use Rattle.pr_scope_facts.proofs.InvertedItems.{program-inverted}
 use Rattle.pr_expand.proofs.items.equations.Goals as goal
 
 pub all_items-requires-clause-walked : goal.all_items-requires-clause-walked

@@ -13,10 +13,10 @@ pub returns-clause-inputs : goal.returns-clause-inputs
 returns-clause-inputs c = inputs_stay
 
 pub returns-clause-widths : goal.returns-clause-widths
-returns-clause-widths c = width_stays
+returns-clause-widths c = λ equations outputs widths narrowed news flat all n k output. width_stays equations outputs widths narrowed news k output flat all n
 
 pub returns-clause-lists : goal.returns-clause-lists
-returns-clause-lists c = list_stays
+returns-clause-lists c = λ equations outputs widths narrowed news flat all n samples are k output. list_stays equations outputs widths narrowed news samples k output flat all n are
 
 pub returns-clause-one : goal.returns-clause-one
 returns-clause-one c = one_narrowing

@@ -33,7 +33,7 @@ pub expr-returns-in_err-no-clause-err : goal.expr-returns-in_err-no-clause-err
 expr-returns-in_err-no-clause-err t c = let p = err_from_is_err_and c.from_residual-in_err-no.result c.from_residual-in_err-no.ensures.1 in rw (p.1, p.2) (failed c.in_err-no.field-0.0 c.in_err-no.ensures.err (open_then (took (c.in_ok-rest-2.ensures.ok c.args.text.now) refl (open_then (read c.in_ok-yes.ensures.ok (open_then (took (c.in_ok-rest.ensures.ok c.args.text.now) refl (open_then (there (by_test (this_symbol Ask) _ c.args.text.now c.in_ok-test.rest.now (c.is.ensures c.args.text.now) c.if-not-is.false) (read c.in_ok-test.ensures.ok (open_then (open_rule begun))))))))))))
 
 pub expr-returns-clause-ok : goal.expr-returns-clause-ok
-expr-returns-clause-ok t c = rw c.in_ok-whole.ensures.ok (made _ (λ ts. refl) (read c.in_ok-no.ensures.ok (open_then (took (c.in_ok-rest-2.ensures.ok c.args.text.now) refl (open_then (read c.in_ok-yes.ensures.ok (open_then (took (c.in_ok-rest.ensures.ok c.args.text.now) refl (open_then (there (by_test (this_symbol Ask) _ c.args.text.now c.in_ok-test.rest.now (c.is.ensures c.args.text.now) c.if-not-is.false) (read c.in_ok-test.ensures.ok (open_then (open_rule begun)))))))))))))
+expr-returns-clause-ok t c = rw (c.in_ok-whole.ensures.ok, c.in_ok-condition.ensures.ok, c.in_ok-chosen.ensures.ok) (made _ (λ ts. refl) (read c.in_ok-no.ensures.ok (open_then (took (c.in_ok-rest-2.ensures.ok c.args.text.now) refl (open_then (read c.in_ok-yes.ensures.ok (open_then (took (c.in_ok-rest.ensures.ok c.args.text.now) refl (open_then (there (by_test (this_symbol Ask) _ c.args.text.now c.in_ok-test.rest.now (c.is.ensures c.args.text.now) c.if-not-is.false) (read c.in_ok-test.ensures.ok (open_then (open_rule begun)))))))))))))
 
 pub chain-returns-in_err-left-clause-err : goal.chain-returns-in_err-left-clause-err
 chain-returns-in_err-left-clause-err t c = let p = err_from_is_err_and c.from_residual.result c.from_residual.ensures.1 in rw (p.1, p.2) (failed c.in_err-left.field-0.0 c.in_err-left.ensures.err (open_then (open_rule begun)))
@@ -45,7 +45,7 @@ pub chain-returns-in_err-right-clause-err : goal.chain-returns-in_err-right-clau
 chain-returns-in_err-right-clause-err t c = let p = err_from_is_err_and c.from_residual-in_err-right.result c.from_residual-in_err-right.ensures.1 in rw (p.1, p.2) (failed c.in_err-right.field-0.0 c.in_err-right.ensures.err (operator _ (found_signs _ _ c.operators.ensures _ _ _ _ (c.in-Some.ensures.found c.args.text.now)) c.loop-op.invariant))
 
 pub chain-loop-op-preserved : goal.chain-loop-op-preserved
-chain-loop-op-preserved t c = rw c.in_ok-left-2.ensures.ok (operated _ (found_signs _ _ c.operators.ensures _ _ _ _ (c.in-Some.ensures.found c.args.text.now)) c.in_ok-right.ensures.ok c.loop-op.invariant)
+chain-loop-op-preserved t c = rw (c.in_ok-left-2.ensures.ok, c.in_ok-first.ensures.ok) (operated _ (found_signs _ _ c.operators.ensures _ _ _ _ (c.in-Some.ensures.found c.args.text.now)) c.in_ok-right.ensures.ok c.loop-op.invariant)
 
 pub chain-returns-clause-ok : goal.chain-returns-clause-ok
 chain-returns-clause-ok t c = no_more (by_none (one_of _) _ c.args.text.now c.loop-op.rest.now (none_signs _ _ c.operators.ensures c.args.text.now c.loop-op.rest.now (c.in_default.ensures.found c.args.text.now))) c.loop-op.invariant
@@ -60,7 +60,7 @@ pub comparison-returns-in_err-right-clause-err : goal.comparison-returns-in_err-
 comparison-returns-in_err-right-clause-err t c = let p = err_from_is_err_and c.from_residual-in_err-right.result c.from_residual-in_err-right.ensures.1 in rw (p.1, p.2) (failed c.in_err-right.field-0.0 c.in_err-right.ensures.err (open_then (took (c.in-Some.ensures.found c.args.text.now).0 (c.in-Some.ensures.found c.args.text.now).1 (open_then (there (by_token (one_of comparisons) _ (c.in-Some.ensures.found c.args.text.now).0 (c.in-Some.ensures.found c.args.text.now).1) (read c.in_ok-left.ensures.ok (open_then (open_rule begun))))))))
 
 pub comparison-returns-clause-ok : goal.comparison-returns-clause-ok
-comparison-returns-clause-ok t c = rw c.in_ok-whole.ensures.ok (made _ (λ ts. refl) (read c.in_ok-right.ensures.ok (open_then (took (c.in-Some.ensures.found c.args.text.now).0 (c.in-Some.ensures.found c.args.text.now).1 (open_then (there (by_token (one_of comparisons) _ (c.in-Some.ensures.found c.args.text.now).0 (c.in-Some.ensures.found c.args.text.now).1) (read c.in_ok-left.ensures.ok (open_then (open_rule begun)))))))))
+comparison-returns-clause-ok t c = rw (c.in_ok-whole.ensures.ok, c.in_ok-first.ensures.ok) (made _ (λ ts. refl) (read c.in_ok-right.ensures.ok (open_then (took (c.in-Some.ensures.found c.args.text.now).0 (c.in-Some.ensures.found c.args.text.now).1 (open_then (there (by_token (one_of comparisons) _ (c.in-Some.ensures.found c.args.text.now).0 (c.in-Some.ensures.found c.args.text.now).1) (read c.in_ok-left.ensures.ok (open_then (open_rule begun)))))))))
 
 pub prefix-returns-then-not-is-clause-ok : goal.prefix-returns-then-not-is-clause-ok
 prefix-returns-then-not-is-clause-ok t c = IfOk-weaker _ _ _ (λ x r. read r (second (by_test (this_symbol Tilde) _ c.args.text.now c.args.tokens.now (c.is.ensures c.args.text.now) c.if-not-is.true) (open_rule begun))) c.postfix.ensures.ok
@@ -99,7 +99,7 @@ pub postfix-returns-in_err-after-2-clause-err : goal.postfix-returns-in_err-afte
 postfix-returns-in_err-after-2-clause-err t c = let p = err_from_is_err_and c.from_residual-in_err-after-2.result c.from_residual-in_err-after-2.ensures.1 in rw (p.1, p.2) (not_there c.in_err-after-2.field-0.0 (c.in_err-after-2.ensures.err c.args.text.now) (open_then (read c.in_ok-low.ensures.ok (open_then (took (c.in_ok-after.ensures.ok c.args.text.now) refl (open_then (read c.in_ok-high.ensures.ok (open_then (took (c.in_ok-inside.ensures.ok c.args.text.now) refl (open_then (again (by_test (this_symbol OpenCurly) _ c.args.text.now c.loop-alloc.rest.now (c.is.ensures c.args.text.now) c.loop-alloc-test.true) c.loop-alloc.invariant)))))))))))
 
 pub postfix-loop-alloc-preserved : goal.postfix-loop-alloc-preserved
-postfix-loop-alloc-preserved t c = rw c.in_ok-whole-2.ensures.ok (made _ (λ ts. refl) (took (c.in_ok-after-2.ensures.ok c.args.text.now) refl (open_then (read c.in_ok-low.ensures.ok (open_then (took (c.in_ok-after.ensures.ok c.args.text.now) refl (open_then (read c.in_ok-high.ensures.ok (open_then (took (c.in_ok-inside.ensures.ok c.args.text.now) refl (open_then (again (by_test (this_symbol OpenCurly) _ c.args.text.now c.loop-alloc.rest.now (c.is.ensures c.args.text.now) c.loop-alloc-test.true) c.loop-alloc.invariant))))))))))))
+postfix-loop-alloc-preserved t c = rw (c.slice-whole.ensures, c.in_ok-sliced.ensures.ok) (made _ (λ ts. refl) (took (c.in_ok-after-2.ensures.ok c.args.text.now) refl (open_then (read c.in_ok-low.ensures.ok (open_then (took (c.in_ok-after.ensures.ok c.args.text.now) refl (open_then (read c.in_ok-high.ensures.ok (open_then (took (c.in_ok-inside.ensures.ok c.args.text.now) refl (open_then (again (by_test (this_symbol OpenCurly) _ c.args.text.now c.loop-alloc.rest.now (c.is.ensures c.args.text.now) c.loop-alloc-test.true) c.loop-alloc.invariant))))))))))))
 
 pub postfix-returns-clause-ok : goal.postfix-returns-clause-ok
 postfix-returns-clause-ok t c = no_more (by_test (this_symbol OpenCurly) _ c.args.text.now c.loop-alloc.rest.now (c.is.ensures c.args.text.now) c.loop-alloc-test.false) c.loop-alloc.invariant
@@ -107,32 +107,44 @@ postfix-returns-clause-ok t c = no_more (by_test (this_symbol OpenCurly) _ c.arg
 pub primary-returns-in-Ok-clause-ok : goal.primary-returns-in-Ok-clause-ok
 primary-returns-in-Ok-clause-ok t c = rw c.number-in-Ok.ensures (took (c.in-Ok.ensures.ok c.args.text.now) refl (first (by_one any_number (c.in-Ok.ensures.ok c.args.text.now) refl) (open_rule begun)))
 
-pub primary-returns-in_err-inside-clause-err : goal.primary-returns-in_err-inside-clause-err
-primary-returns-in_err-inside-clause-err t c = let p = err_from_is_err_and c.from_residual.result c.from_residual.ensures.1 in rw (p.1, p.2) (not_there c.in_err-inside.field-0.0 (c.in_err-inside.ensures.err c.args.text.now) (open_then (first (by_test (this_symbol OpenRound) _ c.args.text.now c.args.tokens.now (c.is.ensures c.args.text.now) c.if-is.true) (second (by_none_one any_number c.args.text.now c.args.tokens.now (c.in_default.ensures.err c.args.text.now).other) (open_rule begun)))))
-
-pub primary-returns-in_err-inner-clause-err : goal.primary-returns-in_err-inner-clause-err
-primary-returns-in_err-inner-clause-err t c = let p = err_from_is_err_and c.from_residual-in_err-inner.result c.from_residual-in_err-inner.ensures.1 in rw (p.1, p.2) (failed c.in_err-inner.field-0.0 c.in_err-inner.ensures.err (open_then (took (c.in_ok-inside.ensures.ok c.args.text.now) refl (open_then (first (by_test (this_symbol OpenRound) _ c.args.text.now c.args.tokens.now (c.is.ensures c.args.text.now) c.if-is.true) (second (by_none_one any_number c.args.text.now c.args.tokens.now (c.in_default.ensures.err c.args.text.now).other) (open_rule begun)))))))
-
-pub primary-returns-in_err-rest-clause-err : goal.primary-returns-in_err-rest-clause-err
-primary-returns-in_err-rest-clause-err t c = let p = err_from_is_err_and c.from_residual-in_err-rest.result c.from_residual-in_err-rest.ensures.1 in rw (p.1, p.2) (not_there c.in_err-rest.field-0.0 (c.in_err-rest.ensures.err c.args.text.now) (open_then (read c.in_ok-inner.ensures.ok (open_then (took (c.in_ok-inside.ensures.ok c.args.text.now) refl (open_then (first (by_test (this_symbol OpenRound) _ c.args.text.now c.args.tokens.now (c.is.ensures c.args.text.now) c.if-is.true) (second (by_none_one any_number c.args.text.now c.args.tokens.now (c.in_default.ensures.err c.args.text.now).other) (open_rule begun)))))))))
-
 pub primary-returns-then-is-clause-ok : goal.primary-returns-then-is-clause-ok
-primary-returns-then-is-clause-ok t c = rw c.in_ok-whole.ensures.ok (made _ (λ ts. refl) (took (c.in_ok-rest.ensures.ok c.args.text.now) refl (open_then (read c.in_ok-inner.ensures.ok (open_then (took (c.in_ok-inside.ensures.ok c.args.text.now) refl (open_then (first (by_test (this_symbol OpenRound) _ c.args.text.now c.args.tokens.now (c.is.ensures c.args.text.now) c.if-is.true) (second (by_none_one any_number c.args.text.now c.args.tokens.now (c.in_default.ensures.err c.args.text.now).other) (open_rule begun))))))))))
+primary-returns-then-is-clause-ok t c = IfOk-weaker _ _ _ (λ x r. read r (first (by_test (this_symbol OpenRound) _ c.args.text.now c.args.tokens.now (c.is.ensures c.args.text.now) c.if-is.true) (second (by_none_one any_number c.args.text.now c.args.tokens.now (c.in_default.ensures.err c.args.text.now).other) (open_rule begun)))) c.grouped.ensures.ok
 
-pub primary-returns-in_err-after-clause-err : goal.primary-returns-in_err-after-clause-err
-primary-returns-in_err-after-clause-err t c = let p = err_from_is_err_and c.from_residual-in_err-after.result c.from_residual-in_err-after.ensures.1 in rw (p.1, p.2) (not_there c.in_err-after.field-0.0 (c.in_err-after.ensures.err c.args.text.now) (open_then (first (by_test (this_keyword Cat) _ c.args.text.now c.args.tokens.now (c.is-2.ensures c.args.text.now) c.if-is-2.true) (second (by_test (this_symbol OpenRound) _ c.args.text.now c.args.tokens.now (c.is.ensures c.args.text.now) c.if-is.false) (second (by_none_one any_number c.args.text.now c.args.tokens.now (c.in_default.ensures.err c.args.text.now).other) (open_rule begun))))))
-
-pub primary-returns-in_err-inside-2-clause-err : goal.primary-returns-in_err-inside-2-clause-err
-primary-returns-in_err-inside-2-clause-err t c = let p = err_from_is_err_and c.from_residual-in_err-inside-2.result c.from_residual-in_err-inside-2.ensures.1 in rw (p.1, p.2) (not_there c.in_err-inside-2.field-0.0 (c.in_err-inside-2.ensures.err c.args.text.now) (open_then (took (c.in_ok-after.ensures.ok c.args.text.now) refl (open_then (first (by_test (this_keyword Cat) _ c.args.text.now c.args.tokens.now (c.is-2.ensures c.args.text.now) c.if-is-2.true) (second (by_test (this_symbol OpenRound) _ c.args.text.now c.args.tokens.now (c.is.ensures c.args.text.now) c.if-is.false) (second (by_none_one any_number c.args.text.now c.args.tokens.now (c.in_default.ensures.err c.args.text.now).other) (open_rule begun))))))))
-
-pub primary-returns-in_err-parts-clause-err : goal.primary-returns-in_err-parts-clause-err
-primary-returns-in_err-parts-clause-err t c = let p = err_from_is_err_and c.from_residual-in_err-parts.result c.from_residual-in_err-parts.ensures.1 in rw (p.1, p.2) (failed c.in_err-parts.field-0.0 c.in_err-parts.ensures.err (open_then (took (c.in_ok-inside-2.ensures.ok c.args.text.now) refl (open_then (took (c.in_ok-after.ensures.ok c.args.text.now) refl (open_then (first (by_test (this_keyword Cat) _ c.args.text.now c.args.tokens.now (c.is-2.ensures c.args.text.now) c.if-is-2.true) (second (by_test (this_symbol OpenRound) _ c.args.text.now c.args.tokens.now (c.is.ensures c.args.text.now) c.if-is.false) (second (by_none_one any_number c.args.text.now c.args.tokens.now (c.in_default.ensures.err c.args.text.now).other) (open_rule begun))))))))))
-
-pub primary-returns-in_err-rest-2-clause-err : goal.primary-returns-in_err-rest-2-clause-err
-primary-returns-in_err-rest-2-clause-err t c = let p = err_from_is_err_and c.from_residual-in_err-rest-2.result c.from_residual-in_err-rest-2.ensures.1 in rw (p.1, p.2) (not_there c.in_err-rest-2.field-0.0 (c.in_err-rest-2.ensures.err c.args.text.now) (open_then (read c.in_ok-parts.ensures.ok (open_then (took (c.in_ok-inside-2.ensures.ok c.args.text.now) refl (open_then (took (c.in_ok-after.ensures.ok c.args.text.now) refl (open_then (first (by_test (this_keyword Cat) _ c.args.text.now c.args.tokens.now (c.is-2.ensures c.args.text.now) c.if-is-2.true) (second (by_test (this_symbol OpenRound) _ c.args.text.now c.args.tokens.now (c.is.ensures c.args.text.now) c.if-is.false) (second (by_none_one any_number c.args.text.now c.args.tokens.now (c.in_default.ensures.err c.args.text.now).other) (open_rule begun))))))))))))
+pub primary-returns-then-is-clause-err : goal.primary-returns-then-is-clause-err
+primary-returns-then-is-clause-err t c = passed_on c.grouped.result (first (by_test (this_symbol OpenRound) _ c.args.text.now c.args.tokens.now (c.is.ensures c.args.text.now) c.if-is.true) (second (by_none_one any_number c.args.text.now c.args.tokens.now (c.in_default.ensures.err c.args.text.now).other) (open_rule begun))) c.grouped.ensures.err
 
 pub primary-returns-then-is-2-clause-ok : goal.primary-returns-then-is-2-clause-ok
-primary-returns-then-is-2-clause-ok t c = rw c.cat.ensures (made _ (λ ts. refl) (took (c.in_ok-rest-2.ensures.ok c.args.text.now) refl (open_then (read c.in_ok-parts.ensures.ok (open_then (took (c.in_ok-inside-2.ensures.ok c.args.text.now) refl (open_then (took (c.in_ok-after.ensures.ok c.args.text.now) refl (open_then (first (by_test (this_keyword Cat) _ c.args.text.now c.args.tokens.now (c.is-2.ensures c.args.text.now) c.if-is-2.true) (second (by_test (this_symbol OpenRound) _ c.args.text.now c.args.tokens.now (c.is.ensures c.args.text.now) c.if-is.false) (second (by_none_one any_number c.args.text.now c.args.tokens.now (c.in_default.ensures.err c.args.text.now).other) (open_rule begun)))))))))))))
+primary-returns-then-is-2-clause-ok t c = IfOk-weaker _ _ _ (λ x r. read r (first (by_test (this_keyword Cat) _ c.args.text.now c.args.tokens.now (c.is-2.ensures c.args.text.now) c.if-is-2.true) (second (by_test (this_symbol OpenRound) _ c.args.text.now c.args.tokens.now (c.is.ensures c.args.text.now) c.if-is.false) (second (by_none_one any_number c.args.text.now c.args.tokens.now (c.in_default.ensures.err c.args.text.now).other) (open_rule begun))))) c.concatenation.ensures.ok
+
+pub primary-returns-then-is-2-clause-err : goal.primary-returns-then-is-2-clause-err
+primary-returns-then-is-2-clause-err t c = passed_on c.concatenation.result (first (by_test (this_keyword Cat) _ c.args.text.now c.args.tokens.now (c.is-2.ensures c.args.text.now) c.if-is-2.true) (second (by_test (this_symbol OpenRound) _ c.args.text.now c.args.tokens.now (c.is.ensures c.args.text.now) c.if-is.false) (second (by_none_one any_number c.args.text.now c.args.tokens.now (c.in_default.ensures.err c.args.text.now).other) (open_rule begun)))) c.concatenation.ensures.err
+
+pub grouped-returns-in_err-inside-clause-err : goal.grouped-returns-in_err-inside-clause-err
+grouped-returns-in_err-inside-clause-err t c = let p = err_from_is_err_and c.from_residual.result c.from_residual.ensures.1 in rw (p.1, p.2) (not_there c.in_err-inside.field-0.0 (c.in_err-inside.ensures.err c.args.text.now) (open_then begun))
+
+pub grouped-returns-in_err-inner-clause-err : goal.grouped-returns-in_err-inner-clause-err
+grouped-returns-in_err-inner-clause-err t c = let p = err_from_is_err_and c.from_residual-in_err-inner.result c.from_residual-in_err-inner.ensures.1 in rw (p.1, p.2) (failed c.in_err-inner.field-0.0 c.in_err-inner.ensures.err (open_then (took (c.in_ok-inside.ensures.ok c.args.text.now) refl (open_then begun))))
+
+pub grouped-returns-in_err-rest-clause-err : goal.grouped-returns-in_err-rest-clause-err
+grouped-returns-in_err-rest-clause-err t c = let p = err_from_is_err_and c.from_residual-in_err-rest.result c.from_residual-in_err-rest.ensures.1 in rw (p.1, p.2) (not_there c.in_err-rest.field-0.0 (c.in_err-rest.ensures.err c.args.text.now) (open_then (read c.in_ok-inner.ensures.ok (open_then (took (c.in_ok-inside.ensures.ok c.args.text.now) refl (open_then begun))))))
+
+pub grouped-returns-clause-ok : goal.grouped-returns-clause-ok
+grouped-returns-clause-ok t c = rw (c.paren.ensures, c.in_ok-held.ensures.ok) (made _ (λ ts. refl) (took (c.in_ok-rest.ensures.ok c.args.text.now) refl (open_then (read c.in_ok-inner.ensures.ok (open_then (took (c.in_ok-inside.ensures.ok c.args.text.now) refl (open_then begun)))))))
+
+pub concatenation-returns-in_err-after-clause-err : goal.concatenation-returns-in_err-after-clause-err
+concatenation-returns-in_err-after-clause-err t c = let p = err_from_is_err_and c.from_residual.result c.from_residual.ensures.1 in rw (p.1, p.2) (not_there c.in_err-after.field-0.0 (c.in_err-after.ensures.err c.args.text.now) (open_then begun))
+
+pub concatenation-returns-in_err-inside-clause-err : goal.concatenation-returns-in_err-inside-clause-err
+concatenation-returns-in_err-inside-clause-err t c = let p = err_from_is_err_and c.from_residual-in_err-inside.result c.from_residual-in_err-inside.ensures.1 in rw (p.1, p.2) (not_there c.in_err-inside.field-0.0 (c.in_err-inside.ensures.err c.args.text.now) (open_then (took (c.in_ok-after.ensures.ok c.args.text.now) refl (open_then begun))))
+
+pub concatenation-returns-in_err-parts-clause-err : goal.concatenation-returns-in_err-parts-clause-err
+concatenation-returns-in_err-parts-clause-err t c = let p = err_from_is_err_and c.from_residual-in_err-parts.result c.from_residual-in_err-parts.ensures.1 in rw (p.1, p.2) (failed c.in_err-parts.field-0.0 c.in_err-parts.ensures.err (open_then (took (c.in_ok-inside.ensures.ok c.args.text.now) refl (open_then (took (c.in_ok-after.ensures.ok c.args.text.now) refl (open_then begun))))))
+
+pub concatenation-returns-in_err-rest-clause-err : goal.concatenation-returns-in_err-rest-clause-err
+concatenation-returns-in_err-rest-clause-err t c = let p = err_from_is_err_and c.from_residual-in_err-rest.result c.from_residual-in_err-rest.ensures.1 in rw (p.1, p.2) (not_there c.in_err-rest.field-0.0 (c.in_err-rest.ensures.err c.args.text.now) (open_then (read c.in_ok-parts.ensures.ok (open_then (took (c.in_ok-inside.ensures.ok c.args.text.now) refl (open_then (took (c.in_ok-after.ensures.ok c.args.text.now) refl (open_then begun))))))))
+
+pub concatenation-returns-clause-ok : goal.concatenation-returns-clause-ok
+concatenation-returns-clause-ok t c = rw c.cat.ensures (made _ (λ ts. refl) (took (c.in_ok-rest.ensures.ok c.args.text.now) refl (open_then (read c.in_ok-parts.ensures.ok (open_then (took (c.in_ok-inside.ensures.ok c.args.text.now) refl (open_then (took (c.in_ok-after.ensures.ok c.args.text.now) refl (open_then begun)))))))))
 
 pub primary-returns-clause-ok : goal.primary-returns-clause-ok
 primary-returns-clause-ok t c = IfOk-weaker _ _ _ (λ x r. read r (second (by_test (this_keyword Cat) _ c.args.text.now c.args.tokens.now (c.is-2.ensures c.args.text.now) c.if-is-2.false) (second (by_test (this_symbol OpenRound) _ c.args.text.now c.args.tokens.now (c.is.ensures c.args.text.now) c.if-is.false) (second (by_none_one any_number c.args.text.now c.args.tokens.now (c.in_default.ensures.err c.args.text.now).other) (open_rule begun))))) c.named.ensures.ok

@@ -28,6 +28,12 @@ decreases-postfix l = 32 * length l.tokens.now + 2
 abbrev pub decreases-primary : goal.decreases-primary
 decreases-primary l = 32 * length l.tokens.now + 1
 
+abbrev pub decreases-grouped : goal.decreases-grouped
+decreases-grouped l = 32 * length l.tokens.now
+
+abbrev pub decreases-concatenation : goal.decreases-concatenation
+decreases-concatenation l = 32 * length l.tokens.now
+
 abbrev pub decreases-named : goal.decreases-named
 decreases-named l = 32 * length l.tokens.now
 

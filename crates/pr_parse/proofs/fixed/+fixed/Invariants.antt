@@ -14,6 +14,9 @@ decreases-product l = 8 * length l.tokens.now + 2
 abbrev pub decreases-primary : goal.decreases-primary
 decreases-primary l = 8 * length l.tokens.now + 1
 
+abbrev pub decreases-grouped : goal.decreases-grouped
+decreases-grouped l = 8 * length l.tokens.now
+
 abbrev pub decreases-index : goal.decreases-index
 decreases-index l = 8 * length l.tokens.now + 4
 

@@ -1,9 +1,10 @@
-use Rattle.std.proofs.Common.{refl, arith, ◌∙◌}
+use Rattle.std.proofs.Common.{ℕ, List, refl, sym, subst, arith, ◌∙◌}
+use Rattle.pr_share.specs.Items.{IsNoneOf}
 use Rattle.pr_share.proofs.RoundSteps.{sharing_round}
 use Rattle.pr_share.proofs.rounds.make_round.Goals as goal
 
 pub loop-number-init : goal.loop-number-init
-loop-number-init g c = record { sharing = λ firsts start r st. st; count = refl; told = refl; shelf_later = omega arith; out_later = omega arith }
+loop-number-init g c = record { sharing = λ firsts start r st. st; count = refl; told = refl; others = λ q none. refl; names = refl; shelf_later = omega arith; out_later = omega arith }
 
 pub loop-number-preserved : goal.loop-number-preserved
 loop-number-preserved g c =
@@ -12,6 +13,8 @@ loop-number-preserved g c =
       sharing = λ firsts start r st. c.in-Ok.ensures.next firsts start r (inv.sharing firsts start r st);
       count = c.take_place.ensures.count ∙ inv.count;
       told = c.take_place.ensures.told ∙ inv.told;
+      others = λ q none. c.take_place.ensures.others q (subst (λ (ns : List (List ℕ)). IsNoneOf ns q) (sym inv.names) none) ∙ inv.others q none;
+      names = c.take_place.ensures.names ∙ inv.names;
       shelf_later = omega (arith, inv.shelf_later, c.take_place.ensures.shelf_later);
       out_later = omega (arith, inv.out_later, c.take_place.ensures.out_later);
     }
@@ -29,3 +32,6 @@ returns-clause-round g c = λ firsts start r st.
     let inv = c.loop-number.invariant in
     sharing_round (g.S.Shelf.told c.loop-number.shelf) firsts c.loop-number.items start (g.S.Shelf.faults c.loop-number.shelf) (g.K.Sink.told c.loop-number.out) r c.loop-number.number (inv.sharing firsts start r st)
     (omega (arith, inv.count, c.loop-number-test.false, c.loop-number.auto.number-end))
+
+pub returns-in-Err-clause-others : goal.returns-in-Err-clause-others
+returns-in-Err-clause-others g c = λ q none. c.take_place.ensures.others q (subst (λ (ns : List (List ℕ)). IsNoneOf ns q) (sym c.loop-number.invariant.names) none) ∙ c.loop-number.invariant.others q none

@@ -1,6 +1,6 @@
 use Rattle.std.proofs.Common.{◌≡◌, ◌≤◌, ℕ, List, length}
 use Rattle.pr_share.specs.declared.items.ShareItem.{ShareItem}
-use Rattle.pr_share.specs.Items.{World, world, IsSharing}
+use Rattle.pr_share.specs.Items.{World, world, names_of, IsNoneOf, IsSharing}
 use Rattle.pr_share.proofs.rounds.make_round.Given as goal
 
 abbrev pub invariant-loop-number : goal.invariant-loop-number
@@ -9,6 +9,8 @@ invariant-loop-number g l = record {
       → IsSharing firsts l.items start (world (g.S.Shelf.told l.shelf) (g.S.Shelf.faults l.shelf) (g.K.Sink.told l.out)) r l.number;
   count : length l.items ≡ length l.initial.items;
   told : g.S.Shelf.told l.shelf ≡ g.S.Shelf.told l.initial.shelf;
+  others : (q : List ℕ) → IsNoneOf (names_of l.initial.items) q → g.S.Shelf.reach l.shelf q ≡ g.S.Shelf.reach l.initial.shelf q;
+  names : names_of l.items ≡ names_of l.initial.items;
   shelf_later : g.S.Shelf.faults l.initial.shelf ≤ g.S.Shelf.faults l.shelf;
   out_later : g.K.Sink.faults l.initial.out ≤ g.K.Sink.faults l.out;
 }

@@ -1,5 +1,5 @@
-use Rattle.std.proofs.Common.{◌∙◌, refl, arith}
-use Rattle.pr_share.specs.Items.{world}
+use Rattle.std.proofs.Common.{◌∙◌, ℕ, List, refl, sym, subst, arith}
+use Rattle.pr_share.specs.Items.{world, IsNoneOf}
 use Rattle.pr_share.proofs.RoundSteps.{sharing_start, sharing_end, few_rounds}
 use Rattle.pr_share.proofs.rounds.share.Goals as goal
 
@@ -9,6 +9,8 @@ loop-init g c = record {
   count = refl;
   few = omega arith;
   told = refl;
+  others = λ q none. refl;
+  names = refl;
   shelf_later = omega arith;
   out_later = omega arith;
 }
@@ -34,6 +36,8 @@ loop-preserved g c =
       count = c.make_round.ensures.count ∙ inv.count;
       few = omega (arith, few);
       told = c.make_round.ensures.told ∙ inv.told;
+      others = λ q none. c.make_round.ensures.others q (subst (λ (ns : List (List ℕ)). IsNoneOf ns q) (sym inv.names) none) ∙ inv.others q none;
+      names = c.make_round.ensures.names ∙ inv.names;
       shelf_later = omega (arith, inv.shelf_later, c.make_round.ensures.shelf_later);
       out_later = omega (arith, inv.out_later, c.make_round.ensures.out_later);
     }
@@ -42,3 +46,6 @@ pub make_round-requires : goal.make_round-requires
 make_round-requires g c =
     let start = world (g.S.Shelf.told c.args.shelf.now) (g.S.Shelf.faults c.args.shelf.now) (g.K.Sink.told c.args.out.now) in
     (omega arith, (omega arith, (omega arith, (omega (arith, c.loop.invariant.count), (c.args.parts.now, start, c.loop.counter, c.loop.invariant.sharing)))))
+
+pub returns-in-Err-clause-others : goal.returns-in-Err-clause-others
+returns-in-Err-clause-others g c = λ q none. c.make_round.ensures.others q (subst (λ (ns : List (List ℕ)). IsNoneOf ns q) (sym c.loop.invariant.names) none) ∙ c.loop.invariant.others q none

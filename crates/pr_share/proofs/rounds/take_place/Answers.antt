@@ -2,9 +2,10 @@ use Rattle.std.proofs.Common.{◌+◌, slice_set, get_or, is_some, sym, ap, ◌�
 use Rattle.std.proofs.lemmas.List.{get_or_default}
 use Rattle.pr_edge.specs.Files.{Told}
 use Rattle.pr_samples.proofs.ResultLemmas.{on_ok, on_err}
+use Rattle.pr_samples.specs.Feed.{name_of}
 use Rattle.pr_share.specs.declared.items.ShareItem.{ShareItem}
 use Rattle.pr_share.specs.Items.{world, IsTurn, IsHalf}
-use Rattle.pr_share.proofs.ListFacts.{got_from, got_any, none_from}
+use Rattle.pr_share.proofs.ListFacts.{got_from, got_any, map_at, map_set, none_from}
 use Rattle.pr_share.proofs.RoundSteps.{taken_here, skip_here, turn_here, told_same}
 use Rattle.pr_share.proofs.StopSteps.{stop_here, stop_told}
 use Rattle.pr_share.proofs.rounds.take_place.Goals as goal
@@ -71,3 +72,13 @@ returns-clause-stopped g c = λ firsts start r st.
     (stop_here told firsts c.args.items.now start b before r c.args.number st now here c.take_turn.new.item b' after (none_from now.ended going) c.take_turn.ensures.shelf_later
     (subst (λ (x : Told). IsHalf w.0 c.take_turn.new.item w.1.0 c.args.number (world told b before) (world x b' after)) c.take_turn.ensures.told half)))
     (c.take_turn.ensures.half w.0 w.1.0 w.1.1)
+
+pub returns-clause-others : goal.returns-clause-others
+returns-clause-others g c = λ q none.
+    let here = got_any c.args.items.now c.args.number c.index-items-number-2.result c.requires.at in
+    c.take_turn.ensures.others q (none c.args.number _ (map_at (λ (x : ShareItem g.row.N g.row.P). name_of x.feed) c.args.items.now c.args.number _ here))
+
+pub returns-clause-names : goal.returns-clause-names
+returns-clause-names g c =
+    let here = got_any c.args.items.now c.args.number c.index-items-number-2.result c.requires.at in
+    map_set (λ (x : ShareItem g.row.N g.row.P). name_of x.feed) c.args.items.now c.args.number _ c.take_turn.new.item here c.take_turn.ensures.name

@@ -21,6 +21,7 @@ loop-init g c = record {
   stripes = refl;
   time = (let t = time_start c.args.machine.now _ _ c.requires.resumed in omega (arith, t));
   told = refl;
+  others = λ q other. refl;
   shelf_later = omega arith;
   out_later = omega arith;
 }
@@ -92,6 +93,7 @@ loop-preserved g c =
       stripes = c.cycle-turn.ensures.stripes ∙ (kept_stripes c.feed_step-used.new.machine c.write_step.new.machine k2 ∙ (kept_stripes c.loop.machine c.feed_step-used.new.machine k1 ∙ inv.stripes));
       time = (let t1 = kept_time c.loop.machine c.feed_step-used.new.machine k1 in let t2 = kept_time c.feed_step-used.new.machine c.write_step.new.machine k2 in omega (arith, inv.time, t1, t2, c.cycle-turn.ensures.time));
       told = c.feed_step-used.ensures.told ∙ inv.told;
+      others = λ q other. c.feed_step-used.ensures.others q (λ e. other (e ∙ inv.file.name)) ∙ inv.others q other;
       shelf_later = omega (arith, inv.shelf_later, c.feed_step-used.ensures.later);
       out_later = omega (arith, inv.out_later, c.write_step.ensures.later);
     }
@@ -104,3 +106,9 @@ unreachable-requires g c =
     let b0 = given_begins c.args.machine.now c.args.feed.now (g.S.Shelf.told c.args.shelf.now) (g.K.Sink.told c.args.out.now) c.args.number q.0 q.1.0 q.1.1 in
     let few = few_turns s0 c.loop.counter c.loop.machine c.loop.feed (g.S.Shelf.told c.loop.shelf) (g.K.Sink.told c.loop.out) c.loop.used (set_of s0 c.args.machine.now refl refl) (omega (arith, inv.count, c.ranges.quota.fits)) (inv.on s0 b0) in
     absurd (omega (arith, few, c.loop-test.false))
+
+pub returns-in-Err-clause-others : goal.returns-in-Err-clause-others
+returns-in-Err-clause-others g c = λ q other. c.feed_step-used.ensures.others q (λ e. other (e ∙ c.loop.invariant.file.name)) ∙ c.loop.invariant.others q other
+
+pub returns-then-is_over-clause-others : goal.returns-then-is_over-clause-others
+returns-then-is_over-clause-others g c = λ q other. c.feed_step-used.ensures.others q (λ e. other (e ∙ c.loop.invariant.file.name)) ∙ c.loop.invariant.others q other

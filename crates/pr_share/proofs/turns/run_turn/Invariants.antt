@@ -1,4 +1,4 @@
-use Rattle.std.proofs.Common.{◌≡◌, ◌≤◌, true, []}
+use Rattle.std.proofs.Common.{◌≡◌, ◌≢◌, ◌≤◌, ℕ, List, true, []}
 use Rattle.pr_samples.specs.declared.feed.Got.{Got}
 use Rattle.pr_samples.specs.Feed.{name_of, widths_of, SameFile}
 use Rattle.pr_samples.specs.Got.{is_sample}
@@ -21,6 +21,7 @@ invariant-loop g l = record {
   stripes : stripes_of l.machine ≡ stripes_of l.initial.machine;
   time : time_of l.machine ≤ l.counter;
   told : g.S.Shelf.told l.shelf ≡ g.S.Shelf.told l.initial.shelf;
+  others : (q : List ℕ) → q ≢ name_of l.initial.feed → g.S.Shelf.reach l.shelf q ≡ g.S.Shelf.reach l.initial.shelf q;
   shelf_later : g.S.Shelf.faults l.initial.shelf ≤ g.S.Shelf.faults l.shelf;
   out_later : g.K.Sink.faults l.initial.out ≤ g.K.Sink.faults l.out;
 }

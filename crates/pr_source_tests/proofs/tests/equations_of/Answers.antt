@@ -7,4 +7,4 @@ use Rattle.pr_source_tests.proofs.tests.equations_of.Goals as goal
 pub returns-in-Ok : goal.returns-in-Ok
 returns-in-Ok c =
     let scoped = c.args.scoped.now in
-    ap input_widths c.in-Ok.ensures.equations ∙ (inputs-of-equations scoped.program c.requires.0 ∙ sym (inputs-scoped scoped.program scoped c.requires))
+    ap input_widths c.in-Ok.ensures.equations ∙ (inputs-of-equations scoped.program scoped.lawful ∙ sym (inputs-scoped scoped))

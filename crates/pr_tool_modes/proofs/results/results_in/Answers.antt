@@ -28,7 +28,7 @@ samples-init g c = record {
 }
 
 pub next-requires : goal.next-requires
-next-requires g c = omega (arith, c.samples.invariant.sample, c.args.front.now.scoped.inputs.ok.0, ap length c.requires.scoped.2, ap length (c.samples.invariant.file.widths ∙ c.requires.feed.inputs))
+next-requires g c = omega (arith, c.samples.invariant.sample, c.args.front.now.scoped.inputs.ok.0, ap length c.args.front.now.scoped.declared, ap length (c.samples.invariant.file.widths ∙ c.requires.feed.inputs))
 
 pub next-requires-in-Sample-clause-widths : goal.next-requires-in-Sample-clause-widths
 next-requires-in-Sample-clause-widths g c = subst (λ (es : List EquationShape). AreWidths es c.args.front.now.widths) (sym c.requires.flat.equations) c.requires.widths
@@ -43,7 +43,7 @@ next-requires-in-Sample-clause-sample g c =
     let seen = subst (λ (t : Told). (bytes : List ℕ) → IsSeen t bytes f → ReadsOn t bytes f f' (λ file. StandsFor f file → IsGiven f' (given_of f) c.next.new.into file)) c.samples.invariant.same c.in-Sample.ensures.seen in
     let inputs : widths_of f' ≡ input_widths equations =
     c.next.ensures.file.widths ∙ (c.samples.invariant.file.widths ∙ (c.requires.feed.inputs
-    ∙ (sym c.requires.scoped.2 ∙ (inputs-scoped program c.args.front.now.scoped c.requires.scoped ∙ (sym (inputs-of-equations program c.requires.scoped.0) ∙ sym (ap input_widths c.requires.flat.equations)))))) in
+    ∙ (sym c.args.front.now.scoped.declared ∙ (inputs-scoped c.args.front.now.scoped ∙ (sym (inputs-of-equations program c.args.front.now.scoped.lawful) ∙ sym (ap input_widths c.requires.flat.equations)))))) in
     lawful_next (g.S.Shelf.told c.args.shelf.now) (input_widths equations) c.args.feed.now f f' c.samples.invariant.done.rows c.next.new.into c.samples.invariant.done.reads seen inputs
 
 pub next-requires-in-Sample-clause-stands : goal.next-requires-in-Sample-clause-stands
@@ -81,7 +81,7 @@ returns-in_default-clause-results g c = λ no_fault.
     let same = same_later c.args.feed.now f f' c.samples.invariant.file c.next.ensures.file in
     let seen = subst (λ (t : Told). (bytes : List ℕ) → IsSeen t bytes f → ReadsOn t bytes f f' (λ file. StandsFor f file → Gives c.next.result (given_of f) f' c.next.new.into file)) c.samples.invariant.same c.next.ensures.seen in
     let means = rows_mean program flat c.args.front.now.widths done.rows (record {
-      lawful = c.requires.scoped.0;
+      lawful = c.args.front.now.scoped.lawful;
       equations = c.requires.flat.equations;
       outputs = c.requires.flat.outputs;
       wide = subst (λ (es : List EquationShape). AreWidths es c.args.front.now.widths) (sym c.requires.flat.equations) c.requires.widths;

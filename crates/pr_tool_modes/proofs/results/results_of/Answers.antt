@@ -10,12 +10,12 @@ use Rattle.pr_tool_modes.proofs.InputWidths.{IsInputWidth, lawful_inputs}
 use Rattle.pr_tool_modes.proofs.results.results_of.Goals as goal
 
 pub make_bounded-requires-clause-widths : goal.make_bounded-requires-clause-widths
-make_bounded-requires-clause-widths g c = subst (All IsInputWidth) (sym (c.deref.ensures.value ∙ c.requires.scoped.2)) (lawful_inputs c.args.front.now.scoped.program c.requires.scoped.0)
+make_bounded-requires-clause-widths g c = subst (All IsInputWidth) (sym (c.deref.ensures.value ∙ c.args.front.now.scoped.declared)) (lawful_inputs c.args.front.now.scoped.program c.args.front.now.scoped.lawful)
 
 pub evaluate-requires-clause-feed : goal.evaluate-requires-clause-feed
 evaluate-requires-clause-feed g c = record {
   fresh = record { bytes = c.in-Ok.ensures.start.0; samples = c.in-Ok.ensures.start.1; few = omega (arith, c.in-Ok.ensures.most); stands = c.in-Ok.ensures.stands };
-  inputs = c.in-Ok.ensures.widths ∙ (c.deref.ensures.value ∙ c.requires.scoped.2);
+  inputs = c.in-Ok.ensures.widths ∙ (c.deref.ensures.value ∙ c.args.front.now.scoped.declared);
   limit = c.in-Ok.ensures.limit;
   most = c.in-Ok.ensures.most;
 }
@@ -46,7 +46,7 @@ returns-in-Ok-false-clause-results g c =
     let last = subst (λ (t : Told). (bytes : List ℕ) → IsSeen t bytes f → ReadsOn t bytes f f' (λ file. c.in-Ok-false.field-0 ≡ nat_lt (limit_of f) (length file))) c.evaluate.ensures.same c.in-Ok-false.ensures.seen in
     let short : IsShortFeed (inputs_of c.args.front.now.scoped.program) first = record {
       fresh = record { bytes = c.in-Ok.ensures.start.0; samples = c.in-Ok.ensures.start.1; few = omega (arith, c.in-Ok.ensures.most); stands = c.in-Ok.ensures.stands };
-      inputs = c.in-Ok.ensures.widths ∙ (c.deref.ensures.value ∙ c.requires.scoped.2);
+      inputs = c.in-Ok.ensures.widths ∙ (c.deref.ensures.value ∙ c.args.front.now.scoped.declared);
       limit = c.in-Ok.ensures.limit;
       most = c.in-Ok.ensures.most;
     } in

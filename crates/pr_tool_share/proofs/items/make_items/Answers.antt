@@ -24,7 +24,7 @@ returns-in-Err-clause-refused g c =
     slice_get-map entry_in c.args.entries.now number ∙ ap (option_map entry_in) (got_from c.args.entries.now number entry c.loop-number-test.true c.index-entries-number.is) in
     let refused = subst (λ (t : Told). IsSourceRefusal t (source_in (entry_in entry)) mid now c.in-Err.answer) inv.same c.in-Err.ensures.refused in
     let at = refused_at told before mid now entries c.loop-number.items.items 0 number (entry_in entry) c.in-Err.answer inv.ready here inv.later refused in
-    let same : part_answer (0 + number) c.in-Err.answer ≡ c.part_of.result = ap (λ (n : ℕ). part_answer n c.in-Err.answer) (omega (arith, c.loop-number-test.true, c.requires)) ∙ sym c.part_of.ensures in
+    let same : part_answer (0 + number) c.in-Err.answer ≡ c.part_answer.result = ap (λ (n : ℕ). part_answer n c.in-Err.answer) (omega (arith, c.loop-number-test.true, c.requires)) ∙ sym c.part_answer.ensures in
     inl (subst (λ (a : Answer). IsProgramRefusal told before now 0 entries a) same at)
 
 pub loop-number-preserved : goal.loop-number-preserved
@@ -43,4 +43,23 @@ loop-number-preserved g c =
       ready = subst (λ (xs : List Item). AreItemsOf told (take (number + 1) entries) xs) (sym pushed) (subst (λ (n : ℕ). AreItemsOf told (take n entries) (c.loop-number.items.items ++ c.in-Ok.item ∷ [])) one (items_more told entries c.loop-number.items.items number (entry_in entry) c.in-Ok.item inv.ready here ready));
       later = omega (arith, inv.later, c.make_item.ensures.later);
       same = c.make_item.ensures.same ∙ inv.same;
+      others = λ q none. c.make_item.ensures.others q (none number (entry_in entry) here) ∙ inv.others q none;
     }
+
+pub returns-in-Err-clause-others : goal.returns-in-Err-clause-others
+returns-in-Err-clause-others g c = λ q none.
+    let inv = c.loop-number.invariant in
+    let number = c.loop-number.number in
+    let entry = c.index-entries-number.result in
+    let here : slice_get (map entry_in c.args.entries.now) number ≡ Some (entry_in entry) =
+    slice_get-map entry_in c.args.entries.now number ∙ ap (option_map entry_in) (got_from c.args.entries.now number entry c.loop-number-test.true c.index-entries-number.is) in
+    c.make_item.ensures.others q (none number (entry_in entry) here) ∙ inv.others q none
+
+pub returns-then-is_err-clause-others : goal.returns-then-is_err-clause-others
+returns-then-is_err-clause-others g c = λ q none.
+    let inv = c.loop-number.invariant in
+    let number = c.loop-number.number in
+    let entry = c.index-entries-number.result in
+    let here : slice_get (map entry_in c.args.entries.now) number ≡ Some (entry_in entry) =
+    slice_get-map entry_in c.args.entries.now number ∙ ap (option_map entry_in) (got_from c.args.entries.now number entry c.loop-number-test.true c.index-entries-number.is) in
+    c.make_item.ensures.others q (none number (entry_in entry) here) ∙ inv.others q none

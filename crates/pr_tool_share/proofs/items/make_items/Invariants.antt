@@ -1,5 +1,6 @@
-use Rattle.std.proofs.Common.{◌≡◌, ◌≤◌, map, take}
+use Rattle.std.proofs.Common.{◌≡◌, ◌≤◌, ℕ, List, map, take}
 use Rattle.pr_share_list.specs.List.{entry_in}
+use Rattle.pr_tool_share.specs.Lists.{IsNoProgram}
 use Rattle.pr_tool_share.specs.Items.{AreItemsOf}
 use Rattle.pr_tool_share.proofs.items.make_items.Given as goal
 
@@ -8,4 +9,5 @@ invariant-loop-number g l = record {
   ready : AreItemsOf (g.S.Shelf.told l.initial.shelf) (take l.number (map entry_in l.entries)) l.items.items;
   later : g.S.Shelf.faults l.initial.shelf ≤ g.S.Shelf.faults l.shelf;
   same : g.S.Shelf.told l.shelf ≡ g.S.Shelf.told l.initial.shelf;
+  others : (q : List ℕ) → IsNoProgram (map entry_in l.entries) q → g.S.Shelf.reach l.shelf q ≡ g.S.Shelf.reach l.initial.shelf q;
 }

@@ -1,12 +1,13 @@
-use Rattle.std.proofs.Common.{◌≡◌, ◌⊎◌, List, length, map, refl, sym, ap, subst, arith, inl, inr}
+use Rattle.std.proofs.Common.{◌≡◌, ◌⊎◌, ◌∙◌, List, length, map, refl, sym, ap, subst, arith, inl, inr}
 use Rattle.pr_edge.specs.Files.{Told}
-use Rattle.pr_share.specs.Items.{AreReady}
+use Rattle.pr_share.specs.Items.{world, AreReady, names_of, IsNoneOf}
 use Rattle.pr_share_list.specs.List.{entry_in}
 use Rattle.pr_share_list.specs.declared.lines.Entry.{Entry as Named}
 use Rattle.pr_tool_answers.specs.declared.answers.Answer.{Answer}
-use Rattle.pr_tool_share.specs.Lists.{IsProgramRefusal}
+use Rattle.pr_tool_share.specs.Lists.{IsProgramRefusal, IsNoProgram}
 use Rattle.pr_tool_share.specs.Items.{Item, AreItemsOf}
-use Rattle.pr_tool_share.proofs.ItemLemmas.{program_earlier, length-items, are_ready, listed_quotas}
+use Rattle.pr_tool_share.specs.Shares.{HaveTaken}
+use Rattle.pr_tool_share.proofs.ItemLemmas.{program_earlier, length-items, are_ready, listed_quotas, items_unnamed}
 use Rattle.pr_tool_share.proofs.shares.share_list.Goals as goal
 
 pub returns-in-Err-make_items-clause-shared : goal.returns-in-Err-make_items-clause-shared
@@ -43,3 +44,49 @@ take_turns-requires-clause-ready g c =
     let least = listed_quotas _ _ c.in-Ok.ensures.list.listed in
     let ready = subst (λ (xs : List Named). AreItemsOf (g.S.Shelf.told c.load_list.new.shelf) (map entry_in xs) c.in-Ok-make_items.items.items) c.deref.ensures.value c.in-Ok-make_items.ensures.ready in
     subst (λ (xs : List Item). AreReady xs) (sym c.deref_mut.ensures.value) (are_ready _ (map entry_in c.in-Ok.entries.items) c.in-Ok-make_items.items.items ready least)
+
+pub returns-in-Err-make_items-clause-others : goal.returns-in-Err-make_items-clause-others
+returns-in-Err-make_items-clause-others g c = λ q none.
+    let programs = subst (λ (xs : List Named). IsNoProgram (map entry_in xs) q) (sym c.deref.ensures.value) (none.no_program _ c.in-Ok.ensures.list) in
+    c.make_items.ensures.others q programs ∙ c.load_list.ensures.others q none.other
+
+pub returns-in-Ok-make_place-clause-others : goal.returns-in-Ok-make_place-clause-others
+returns-in-Ok-make_place-clause-others g c = λ q none.
+    let programs = subst (λ (xs : List Named). IsNoProgram (map entry_in xs) q) (sym c.deref.ensures.value) (none.no_program _ c.in-Ok.ensures.list) in
+    let ready = subst (λ (xs : List Named). AreItemsOf (g.S.Shelf.told c.load_list.new.shelf) (map entry_in xs) c.in-Ok-make_items.items.items) c.deref.ensures.value c.in-Ok-make_items.ensures.ready in
+    let names = items_unnamed _ (map entry_in c.in-Ok.entries.items) c.in-Ok-make_items.items.items q ready (none.no_samples _ c.in-Ok.ensures.list) in
+    c.take_turns.ensures.others q (subst (λ (xs : List Item). IsNoneOf (names_of xs) q) (sym c.deref_mut.ensures.value) names) ∙ (c.make_items.ensures.others q programs ∙ c.load_list.ensures.others q none.other)
+
+pub returns-clause-others : goal.returns-clause-others
+returns-clause-others g c = λ q none.
+    let programs = subst (λ (xs : List Named). IsNoProgram (map entry_in xs) q) (sym c.deref.ensures.value) (none.no_program _ c.in-Ok.ensures.list) in
+    c.make_items.ensures.others q programs ∙ c.load_list.ensures.others q none.other
+
+pub returns-in-Ok-make_place-clause-shared : goal.returns-in-Ok-make_place-clause-shared
+returns-in-Ok-make_place-clause-shared g c =
+    let told = g.S.Shelf.told c.args.shelf.now in
+    let start = g.S.Shelf.faults c.make_items.new.shelf in
+    let now = g.S.Shelf.faults c.take_turns.new.shelf in
+    let old = g.K.Sink.told c.args.out.now in
+    let new = g.K.Sink.told c.take_turns.new.out in
+    let before = g.K.Sink.faults c.args.out.now in
+    let after = g.K.Sink.faults c.take_turns.new.out in
+    let entries = map entry_in c.in-Ok.entries.items in
+    let firsts = c.in-Ok-make_items.items.items in
+    let items = c.take_turns.new.items in
+    let same : g.S.Shelf.told c.make_items.new.shelf ≡ told = c.make_items.ensures.same ∙ c.load_list.ensures.same in
+    let ready = subst (λ (xs : List Named). AreItemsOf (g.S.Shelf.told c.load_list.new.shelf) (map entry_in xs) firsts) c.deref.ensures.value c.in-Ok-make_items.ensures.ready in
+    let later = subst (λ (t : Told). HaveTaken c.deref_mut.result.now items (world (g.S.Shelf.told c.make_items.new.shelf) start old) (world t now new) before after c.take_turns.result) (c.take_turns.ensures.told ∙ same) c.take_turns.ensures.taken in
+    let taken = subst (λ (t : Told). HaveTaken c.deref_mut.result.now items (world t start old) (world told now new) before after c.take_turns.result) same later in
+    inr (record {
+      machine = c.in-Ok-make_place.place.machine;
+      stripes_are = c.in-Ok-make_place.ensures;
+      entries = entries;
+      has = c.in-Ok.ensures.list;
+      firsts = firsts;
+      ready = subst (λ (t : Told). AreItemsOf t entries firsts) c.load_list.ensures.same ready;
+      faults = start;
+      later = omega (arith, c.load_list.ensures.later, c.make_items.ensures.later);
+      items = items;
+      taken = subst (λ (xs : List Item). HaveTaken xs items (world told start old) (world told now new) before after c.take_turns.result) c.deref_mut.ensures.value taken;
+    })

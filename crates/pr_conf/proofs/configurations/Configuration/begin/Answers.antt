@@ -1,5 +1,4 @@
-use Rattle.std.proofs.Common.{◌≡◌, ◌<◌, List, ap, ◌∙◌, arith, length, map, slice_set, refl}
-use Rattle.pr_conf.specs.declared.pes.Pe.{Pe}
+use Rattle.std.proofs.Common.{◌<◌, ap, ◌∙◌, arith, length, map}
 use Rattle.pr_conf.specs.Configuration.{pes_of}
 use Rattle.pr_conf.specs.Rules.{are_lawful_stages, bytes_in}
 use Rattle.pr_conf.proofs.AfterLaws.{set_lawful, stages_begun}
