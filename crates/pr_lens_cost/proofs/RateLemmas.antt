@@ -1,5 +1,5 @@
 -- As many samples more as the rate says take as many cycles more.
-use Rattle.std.proofs.Common.{◌≡◌, ℕ, zero, suc, ◌+◌, ◌-◌, ◌*◌, ◌/◌, ◌%◌, ◌<◌, ◌≤◌, cond, leb, sym, ap, ◌∙◌, subst, arith, inl, inr, absurd}
+use Rattle.std.proofs.Common.{◌≡◌, ℕ, zero, suc, ◌+◌, ◌-◌, ◌*◌, ◌/◌, ◌%◌, ◌<◌, ◌≤◌, cond, leb, sym, ap, ◌∙◌, subst, arith, inl, inr}
 use Rattle.std.proofs.lemmas.Bool.{lt-leb, le-leb, cases_lt, cond-true, cond-false}
 use Rattle.std.proofs.Math.Nat.{add-mod_right, add-div_right, mul-suc}
 use Rattle.pr_control.specs.Counts.{cycles_of}

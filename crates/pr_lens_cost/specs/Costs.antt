@@ -9,7 +9,7 @@ use Rattle.pr_code_show.specs.Shown.{writes, changes_state}
 use Rattle.pr_compile_front.specs.Refusals.{HasWidths}
 use Rattle.pr_compile.specs.Configured.{IsCompiled, HasUnits}
 use Rattle.pr_lens_cost.specs.declared.counts.StageCost.{StageCost}
-use Rattle.pr_lens_cost.specs.declared.costs.Cost.{Cost}
+use Rattle.pr_lens_cost.specs.declared.amounts.Cost.{Cost}
 
 -- a stage: its elements that do anything, those that write a register, and those that change their state
 abbrev pub stage_cost : List Pe → StageCost

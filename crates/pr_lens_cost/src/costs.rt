@@ -1,22 +1,14 @@
 //! The cost of a program.
 
-ghost use Rattle.std.specs.Prelude.{◌≡◌, ◌≤◌, length, vec_len, IfOk, IfErr};
+ghost use Rattle.std.specs.Prelude.{◌≡◌, ◌≤◌, length, IfOk, IfErr};
 ghost use Rattle.pr_compile.specs.Refusals.{IsCompileAnswer};
 ghost use Rattle.pr_lens_cost.specs.Costs.{HasEquationCount, IsCost};
 
-use crate::counts::{StageCost, stage_costs};
+use crate::amounts::Cost;
+use crate::counts::stage_costs;
 use pr_compile::{CompileFault, compile_counted};
 use pr_compile_front::read_program;
 use std::alloc::{AllocError, Global};
-
-/// What a program costs.
-#[derive(Drop)]
-pub struct Cost {
-    pub equations: usize,
-    pub units: usize,
-    pub stages: Vec<StageCost>,
-    pub ghost few: { vec_len stages ≤ 32768 },
-}
 
 /// How many equations the program of a text has.
 fn equations_of(alloc: Global, text: &[u8]) -> Result<usize, AllocError>

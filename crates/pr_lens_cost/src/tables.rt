@@ -2,7 +2,7 @@
 
 ghost use Rattle.std.specs.Prelude.{◌≤◌, ◌^◌};
 
-use crate::costs::Cost;
+use crate::amounts::Cost;
 use crate::counts::StageCost;
 use crate::cycles::{Row, rows_of};
 use itoa::Buffer;
