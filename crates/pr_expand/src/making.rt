@@ -1,7 +1,7 @@
 //! Equations that are made one after the other.
 ghost use Rattle.std.specs.Prelude.{◌≡◌, ◌++◌, [], ◌∷◌, false, IfErr, IfOk, Some, None, length};
 ghost use Rattle.pr_flat.specs.Shape.{equation_shape};
-ghost use Rattle.pr_expand_spec.specs.Making.{declare_last, fitted, is_signed, kinds_read, made, with_equation};
+ghost use Rattle.pr_expand_spec.specs.Making.{declare_last, fitted, form_of_kind, is_signed, kinds_read, made, with_equation};
 ghost use Rattle.pr_expand.specs.Code.{IsPast, made_of, shapes_in};
 
 use crate::keys::{key_of, noted};
@@ -9,7 +9,8 @@ use crate::ledgers::{Ledger, Made};
 use crate::stops::Stop;
 use pr_base::Cap;
 use pr_expand_spec::Given;
-use pr_flat::{Equation, Op, Operand};
+use pr_flat::{Equation, Form, Op, Operand};
+use pr_flat_ops::{signed_one, signed_two};
 use std::alloc::{AllocError, Global};
 
 /// One equation more.
@@ -100,30 +101,18 @@ fn kind_of_one(op: Op, a: bool) -> bool
     ensures { kinds_read op (a ∷ []) ≡ result ∷ [] }
 {
     match op {
-        Op::Input => a,
-        Op::Add => a,
-        Op::Sub => a,
-        Op::Mul => a,
-        Op::And => a,
-        Op::Or => a,
-        Op::Xor => a,
-        Op::Not => a,
-        Op::Equal => a,
-        Op::NotEqual => a,
-        Op::Less => a,
-        Op::LessEqual => a,
-        Op::Greater => a,
-        Op::GreaterEqual => a,
-        Op::Choose => false,
-        Op::Left(_) => a,
-        Op::Right(_) => a,
-        Op::LeftBy => a,
-        Op::RightBy => a,
-        Op::Slice(_, _) => false,
-        Op::Cat => false,
-        Op::Fit => a,
-        Op::Delay(_) => false,
-        Op::Rec { init: _, first: _ } => a,
+        Op::Choose | Op::Slice(_, _) | Op::Cat | Op::Delay(_) => false,
+        _ => a,
+    }
+}
+
+// the form of an operand of which only the kind is known
+fn form_of(kind: bool) -> Form
+    ensures { result ≡ form_of_kind kind }
+{
+    Form {
+        signed: kind,
+        width: 0,
     }
 }
 
@@ -131,32 +120,7 @@ fn kind_of_one(op: Op, a: bool) -> bool
 fn signed_of_one(op: Op, a: bool) -> bool
     ensures { is_signed op (a ∷ []) ≡ result }
 {
-    match op {
-        Op::Input => false,
-        Op::Add => false,
-        Op::Sub => false,
-        Op::Mul => false,
-        Op::And => false,
-        Op::Or => false,
-        Op::Xor => false,
-        Op::Not => a,
-        Op::Equal => false,
-        Op::NotEqual => false,
-        Op::Less => false,
-        Op::LessEqual => false,
-        Op::Greater => false,
-        Op::GreaterEqual => false,
-        Op::Choose => false,
-        Op::Left(_) => a,
-        Op::Right(_) => a,
-        Op::LeftBy => false,
-        Op::RightBy => false,
-        Op::Slice(_, _) => false,
-        Op::Cat => false,
-        Op::Fit => a,
-        Op::Delay(_) => a,
-        Op::Rec { init: _, first: _ } => false,
-    }
+    signed_one(op, form_of(a))
 }
 
 /// An input.
@@ -194,30 +158,10 @@ fn kinds_of_two(op: Op, a: bool, b: bool) -> (bool, bool)
     ensures { kinds_read op (a ∷ b ∷ []) ≡ result.0 ∷ result.1 ∷ [] }
 {
     match op {
-        Op::Input => (a, b),
-        Op::Add => (a, b),
-        Op::Sub => (a, b),
-        Op::Mul => (a, b),
-        Op::And => (a, b),
-        Op::Or => (a, b),
-        Op::Xor => (a, b),
-        Op::Not => (a, b),
-        Op::Equal => (a, b),
-        Op::NotEqual => (a, b),
-        Op::Less => (a, b),
-        Op::LessEqual => (a, b),
-        Op::Greater => (a, b),
-        Op::GreaterEqual => (a, b),
         Op::Choose => (false, b),
-        Op::Left(_) => (a, b),
-        Op::Right(_) => (a, b),
-        Op::LeftBy => (a, false),
-        Op::RightBy => (a, false),
-        Op::Slice(_, _) => (false, false),
-        Op::Cat => (false, false),
-        Op::Fit => (a, b),
-        Op::Delay(_) => (false, false),
-        Op::Rec { init: _, first: _ } => (a, b),
+        Op::LeftBy | Op::RightBy => (a, false),
+        Op::Slice(_, _) | Op::Cat | Op::Delay(_) => (false, false),
+        _ => (a, b),
     }
 }
 
@@ -225,32 +169,7 @@ fn kinds_of_two(op: Op, a: bool, b: bool) -> (bool, bool)
 fn signed_of_two(op: Op, a: bool, b: bool) -> bool
     ensures { is_signed op (a ∷ b ∷ []) ≡ result }
 {
-    match op {
-        Op::Input => false,
-        Op::Add => a || b,
-        Op::Sub => a || b,
-        Op::Mul => a || b,
-        Op::And => a || b,
-        Op::Or => a || b,
-        Op::Xor => a || b,
-        Op::Not => false,
-        Op::Equal => false,
-        Op::NotEqual => false,
-        Op::Less => false,
-        Op::LessEqual => false,
-        Op::Greater => false,
-        Op::GreaterEqual => false,
-        Op::Choose => false,
-        Op::Left(_) => false,
-        Op::Right(_) => false,
-        Op::LeftBy => a,
-        Op::RightBy => a,
-        Op::Slice(_, _) => false,
-        Op::Cat => false,
-        Op::Fit => false,
-        Op::Delay(_) => false,
-        Op::Rec { init: _, first: _ } => false,
-    }
+    signed_two(op, form_of(a), form_of(b))
 }
 
 /// An operation on two operands.
