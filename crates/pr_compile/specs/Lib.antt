@@ -2,4 +2,3 @@ pub mod Configured
 pub mod Refusals
 pub mod Faults
 pub mod Meant
-pub mod Laws

@@ -12,7 +12,7 @@ ghost use Rattle.pr_conf.specs.Rules.{IsLawful};
 ghost use Rattle.pr_conf.specs.Shape.{Shape};
 ghost use Rattle.pr_compile_front.specs.Refusals.{HasWidths};
 ghost use Rattle.pr_compile.specs.Configured.{AreReady, IsConfigured, IsConfiguredBy, HasUnitsBy, IsCompiled, HasUnits};
-ghost use Rattle.pr_compile.specs.Laws.{AtMostOne, NeverBoth};
+ghost use Rattle.pr_base.specs.Laws.{AtMostOne, NeverBoth};
 ghost use Rattle.pr_compile.specs.Meant.{IsMeant};
 ghost use Rattle.pr_compile.specs.Refusals.{IsNetRefusal, IsRefused};
 
