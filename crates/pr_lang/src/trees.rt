@@ -30,13 +30,27 @@ pub enum FixedOp {
 }
 
 /// A constant expression.
-#[derive(Debug, Drop)]
+#[derive(Debug)]
 pub enum Fixed {
     Number(u64),
     /// A constant or an index, or with an index an entry of a table.
     Refer(Name, Option<Box<Fixed>>),
     Binary(FixedOp, Box<Fixed>, Box<Fixed>),
     Paren(Box<Fixed>),
+}
+
+// a chain of operators is as deep as it is long, so a loop goes down the first operands
+impl Drop for Fixed {
+    fn drop(mut self) {
+        loop {
+            match self {
+                Fixed::Number(_number) => return,
+                Fixed::Refer(_name, _index) => return,
+                Fixed::Binary(_op, first, _second) => self = Box::into_inner(first),
+                Fixed::Paren(inner) => self = Box::into_inner(inner),
+            }
+        }
+    }
 }
 
 /// A name, or one of several that an index tells apart.
@@ -47,7 +61,7 @@ pub struct Ref {
 }
 
 /// An expression over streams.
-#[derive(Debug, Drop)]
+#[derive(Debug)]
 pub enum Expr {
     Number(u64),
     Refer(Ref),
@@ -63,6 +77,26 @@ pub enum Expr {
     /// The parts beside one another, the first one highest.
     Cat(Vec<Expr>),
     Paren(Box<Expr>),
+}
+
+// a loop down the first operands, as for constant expressions
+impl Drop for Expr {
+    fn drop(mut self) {
+        loop {
+            match self {
+                Expr::Number(_number) => return,
+                Expr::Refer(_stream) => return,
+                Expr::Delay(_stream, _back) => return,
+                Expr::Slice(inner, _high, _low) => self = Box::into_inner(inner),
+                Expr::Not(inner) => self = Box::into_inner(inner),
+                Expr::Binary(_op, first, _second) => self = Box::into_inner(first),
+                Expr::Choose(condition, _one, _other) => self = Box::into_inner(condition),
+                Expr::Call(_name, _args) => return,
+                Expr::Cat(_parts) => return,
+                Expr::Paren(inner) => self = Box::into_inner(inner),
+            }
+        }
+    }
 }
 
 /// What stands in a function's body and in a loop, and among the items.
