@@ -1,5 +1,5 @@
 -- Arguments and parameters, and declared widths.
-use Rattle.std.proofs.Common.{◌≡◌, ℕ, zero, suc, ◌+◌, ◌≤◌, ◌<◌, min, List, [], ◌∷◌, length, drop, set, get_or, Some, refl, ap, arith}
+use Rattle.std.proofs.Common.{◌≡◌, ℕ, zero, suc, ◌+◌, ◌≤◌, min, List, [], ◌∷◌, length, drop, set, get_or, Some, refl, ap, arith}
 use Rattle.pr_lang.specs.declared.trees.Param.{Param}
 use Rattle.pr_flat.specs.declared.equations.Equation.{Equation}
 use Rattle.pr_flat.specs.Shape.{EquationShape, equation_shape, shapes_of}

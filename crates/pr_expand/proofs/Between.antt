@@ -1,6 +1,6 @@
 -- What is visible between items.
 use mathlib.Core.Path.{fun_ext}
-use Rattle.std.proofs.Common.{◌≡◌, ◌∙◌, ℕ, zero, suc, ◌+◌, ◌≤◌, ◌<◌, List, [], ◌∷◌, Option, Some, None, refl, sym, ap, subst, arith, add-one, slice_get, ⊎_elim, cond, Bool, true, false, bytes_eq, map, length, drop, get_or, Vec, Global, Result, Ok, Err, IfOk}
+use Rattle.std.proofs.Common.{◌≡◌, ◌∙◌, ℕ, ◌+◌, ◌≤◌, ◌<◌, List, [], Option, Some, None, refl, sym, ap, subst, arith, add-one, slice_get, ⊎_elim, cond, Bool, true, false, bytes_eq, map, length, drop, get_or, Vec, Global, Result, Ok, Err, IfOk}
 use Rattle.std.proofs.Math.Nat.{eq-or-lt_of_le}
 use Rattle.std.proofs.lemmas.List.{at_drop_more}
 use Rattle.pr_lang.specs.declared.trees.Item.{Item}

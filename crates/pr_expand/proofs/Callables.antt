@@ -1,5 +1,5 @@
 -- What a call does: the function of an item before, or the one that is built in.
-use Rattle.std.proofs.Common.{◌≡◌, ◌∙◌, ◌<◌, ◌≤◌, ℕ, zero, suc, Bool, true, false, cond, List, Option, Some, None, refl, sym, ap, ap₂, subst, arith, bytes_eq, slice_get}
+use Rattle.std.proofs.Common.{◌≡◌, ◌∙◌, ◌<◌, ℕ, zero, suc, Bool, true, false, cond, List, Option, Some, None, refl, sym, ap, subst, arith, bytes_eq, slice_get}
 use Rattle.std.specs.Prelude.{codes}
 use Rattle.std.proofs.lemmas.Bool.{false≢true}
 use Rattle.pr_lang.specs.declared.trees.Item.{Item}
@@ -10,7 +10,7 @@ use Rattle.pr_scope_names.specs.declared.names.Static.TheVariants.{Constant, Fun
 use Rattle.pr_scope_names.specs.declared.names.Statics.{Statics}
 use Rattle.pr_scope_names.specs.Names.{Known, before, built_in, entries_in, horizon_in, known_in}
 use Rattle.pr_lang_meaning.specs.Programs.{function_at}
-use Rattle.pr_expand_spec.specs.Expressions.{AllMade, Inlined, Visible, called, function_of}
+use Rattle.pr_expand_spec.specs.Expressions.{AllMade, Inlined, called, function_of}
 use Rattle.pr_expand_spec.specs.Programs.{inlined, signed_function}
 use Rattle.pr_expand.specs.Scopes.{IsCallable, IsEarlier, IsScene, after, called_at, callee_in, defined, functions_before, visible_at, visible_in}
 

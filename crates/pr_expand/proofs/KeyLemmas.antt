@@ -1,5 +1,5 @@
 -- The number of each key is that of the first delay which has it.
-use Rattle.std.proofs.Common.{◌≡◌, ◌∙◌, ◌<◌, ◌≤◌, ℕ, zero, suc, ◌+◌, ◌-◌, Bool, true, false, cond, ◌&&◌, nat_eq, List, [], ◌∷◌, ◌++◌, length, take, map, Option, Some, None, is_some, option_map, Vec, Global, refl, sym, ap, subst, arith, ⊎_elim, bytes_eq, eq-eqb, unwrap_or}
+use Rattle.std.proofs.Common.{◌≡◌, ◌∙◌, ◌<◌, ◌≤◌, ℕ, zero, suc, ◌+◌, Bool, true, false, cond, ◌&&◌, nat_eq, List, [], ◌∷◌, ◌++◌, length, take, Option, Some, None, is_some, option_map, Vec, Global, refl, sym, ap, subst, arith, ⊎_elim, bytes_eq, eq-eqb, unwrap_or}
 use Rattle.std.specs.Cmp.Lexicographic.{bytes_decides, nat_list_eq_equiv}
 use Rattle.std.proofs.lemmas.Bool.{cases_Bool, cond-true, cond-false, eqb-true}
 use Rattle.pr_scope_names.specs.Names.{bind, unbind}

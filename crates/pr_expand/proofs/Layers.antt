@@ -1,5 +1,5 @@
 -- What each kind of expression and statement makes.
-use Rattle.std.proofs.Common.{◌≡◌, ◌∙◌, ◌<◌, ℕ, suc, ◌+◌, ◌-◌, List, [], ◌∷◌, ◌++◌, append_assoc, map, length, drop, get_or, Option, Some, None, Result, Vec, Global, refl, sym, ap, subst, arith}
+use Rattle.std.proofs.Common.{◌≡◌, ◌∙◌, ◌<◌, ℕ, suc, ◌+◌, ◌-◌, List, [], ◌∷◌, ◌++◌, append_assoc, map, length, drop, get_or, Option, Some, None, Result, Vec, Global, refl, sym, ap, arith}
 use Rattle.std.specs.Global.{Box}
 use Rattle.std.proofs.lemmas.List.{at_drop_more}
 use Rattle.pr_lang.specs.declared.trees.BinOp.{BinOp}

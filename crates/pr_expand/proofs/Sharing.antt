@@ -1,12 +1,7 @@
 -- Looking for a delay, and making several.
-use Rattle.std.proofs.Common.{◌≡◌, ◌∙◌, ◌<◌, ◌≤◌, ℕ, suc, ◌+◌, ◌-◌, Bool, true, false, cond, List, [], ◌∷◌, length, drop, get_or, Option, Some, None, refl, sym, ap, arith}
-use Rattle.std.proofs.lemmas.List.{at_drop_more}
-use Rattle.std.proofs.lemmas.Bool.{cond-true, cond-false}
-use Rattle.pr_flat.specs.declared.equations.Equation.{Equation}
+use Rattle.std.proofs.Common.{◌≡◌, ◌∙◌, ◌<◌, ℕ, suc, ◌+◌, ◌-◌, Bool, sym, ap, arith}
 use Rattle.pr_flat.specs.declared.equations.Operand.{Operand}
-use Rattle.pr_flat.specs.Shape.{shapes_of}
-use Rattle.pr_expand_spec.specs.declared.givens.Given.{Given}
-use Rattle.pr_expand_spec.specs.Making.{Equations, Made, delay_from, delayed, delayed_once, is_delay_of}
+use Rattle.pr_expand_spec.specs.Making.{Equations, Made, delayed, delayed_once}
 
 -- one step more
 pub delay_step : (samples k c : ℕ) (operand : Operand) (signed : Bool) (now : Equations) (once : Made) (w : Made) → k < samples → once ≡ delayed_once operand c now → delayed (samples - k) (record { operand = operand; signed = signed }) c now ≡ w → delayed (samples - (k + 1)) (record { operand = once.given.operand; signed = signed }) c once.equations ≡ w

@@ -1,5 +1,5 @@
 -- How much a recursion has before it: the text at hand, and the functions that it can still call.
-use Rattle.std.proofs.Common.{◌≡◌, ◌∙◌, ◌<◌, ◌≤◌, ℕ, zero, suc, ◌+◌, List, [], ◌∷◌, map, length, get_or, Option, Some, None, Vec, Global, refl, sym, ap, subst, arith, slice_get, ⊎_elim}
+use Rattle.std.proofs.Common.{◌≡◌, ◌∙◌, ◌<◌, ◌≤◌, ℕ, zero, suc, ◌+◌, List, [], ◌∷◌, map, length, get_or, Option, Some, None, Vec, Global, sym, ap, subst, arith, slice_get, ⊎_elim}
 use Rattle.std.proofs.Math.Nat.{eq-or-lt_of_le}
 use Rattle.std.specs.Global.{Box}
 use Rattle.pr_lang.specs.declared.trees.BinOp.{BinOp}

@@ -2,26 +2,29 @@
 ghost use Rattle.std.specs.Prelude.{◌≡◌, IfErr, IfOk};
 ghost use Rattle.pr_expand_spec.specs.Making.{delay_from, delayed, delayed_once};
 ghost use Rattle.pr_expand.specs.Code.{IsPast, made_of, shapes_in};
+ghost use Rattle.pr_expand.specs.Keys.{delay_key};
 
 use crate::keys::key_numbers;
 use crate::ledgers::{Ledger, Made};
-use crate::making::one;
+use crate::making::delay_of;
 use crate::stops::Stop;
 use pr_expand_spec::Given;
-use pr_flat::{Op, Operand};
+use pr_flat::Operand;
 use std::alloc::{AllocError, Global};
 
-/// The number of the first delay of an operand after this number.
+/// The number of the first delay of an operand after this number, and its key.
 fn find(
     alloc: Global,
     ledger: &Ledger,
     operand: Operand,
     init: u64,
-) -> Result<Option<u32>, AllocError>
-    ensures { IfOk result (λ o. o ≡ delay_from 0 (shapes_in ledger.now) operand init) }
+) -> Result<(Option<u32>, Vec<u64>), AllocError>
+    ensures number { IfOk result (λ found. found.0 ≡ delay_from 0 (shapes_in ledger.now) operand init) }
+    ensures key { IfOk result (λ found. found.1.items ≡ delay_key operand init) }
 {
     let key = key_numbers(alloc, operand, init)?;
-    Ok(ledger.delays.get(key.as_slice()).copied())
+    let number = ledger.delays.get(key.as_slice()).copied();
+    Ok((number, key))
 }
 
 /// One sample earlier.
@@ -29,7 +32,8 @@ fn delay_once(alloc: Global, ledger: Ledger, operand: Operand, init: u64) -> Res
     ensures value { IfOk result (λ m. made_of m ≡ delayed_once operand init (shapes_in ledger)) }
     ensures limit { IfErr result (λ s. IsPast s (delayed_once operand init (shapes_in ledger)).equations) }
 {
-    match find(alloc, &ledger, operand, init)? {
+    let (found, key) = find(alloc, &ledger, operand, init)?;
+    match found {
         Some(number) => Ok(Made {
             ledger,
             given: Given {
@@ -37,13 +41,7 @@ fn delay_once(alloc: Global, ledger: Ledger, operand: Operand, init: u64) -> Res
                 signed: false,
             },
         }),
-        None => {
-            let given = Given {
-                operand,
-                signed: false,
-            };
-            one(alloc, ledger, Op::Delay(init), given, None)
-        }
+        None => delay_of(alloc, ledger, operand, init, key),
     }
 }
 

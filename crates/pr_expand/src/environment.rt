@@ -40,7 +40,8 @@ impl Environment {
         place: Option<u64>,
         standing: Standing,
     ) -> Result<(), AllocError>
-        ensures stands { OnOk result (streams_in self.new ≡ with_standing name.now place standing (streams_in self.old)) }
+        ensures stands { OnOk result (streams_in self.new
+            ≡ with_standing name.now place standing (streams_in self.old)) }
         ensures same { OnErr result (streams_in self.new ≡ streams_in self.old) }
     {
         self.instances.set(alloc, name, place, standing)

@@ -1,14 +1,16 @@
 //! The equations of expressions and statements, with functions inlined and loops unrolled.
-ghost use Rattle.std.specs.Prelude.{◌≡◌, ◌-◌, IfErr, IfOk, OnOk, None, Some, map, option_map, slice_get, take};
+ghost use Rattle.std.specs.Prelude.{◌≡◌, IfErr, IfOk, OnOk, None, option_map, slice_get, take};
 ghost use Rattle.pr_scope_names.specs.Names.{KeepsNames, known_in};
 ghost use Rattle.pr_expand_spec.specs.Making.{Equations, declare_last};
-ghost use Rattle.pr_expand_spec.specs.Expressions.{all_made, assigned, called, declared_at_operator, declared_else, function_of, made_with, plan_of};
-ghost use Rattle.pr_expand_spec.specs.Statements.{change_of, changes_of, let_change, rec_change, turns, with_index};
+ghost use Rattle.pr_expand_spec.specs.Expressions.{declared_at_operator, declared_else, made_with, plan_of};
 ghost use Rattle.pr_expand_spec.specs.Statements as statements;
 ghost use Rattle.pr_expand_spec.specs.Programs as programs;
-ghost use Rattle.pr_expand_spec.specs.Programs.{no_streams, signed_function};
+ghost use Rattle.pr_expand_spec.specs.Programs.{signed_function};
 ghost use Rattle.pr_expand.specs.Code.{IsPast, all_of, longer, made_of, progress_of, shapes_in, streams_in};
-ghost use Rattle.pr_expand.specs.Scopes.{IsScene, callee_in, defined, visible_in};
+ghost use Rattle.pr_expand.specs.Parts.{arguments_made, body_run, call_made, expr_made, exprs_made, item_called};
+ghost use Rattle.pr_expand.specs.Parts.{let_made, rec_made, recurring, stmt_made, stmts_made, turn_made, turns_made};
+ghost use Rattle.pr_expand.specs.Parts.{stood, value_made};
+ghost use Rattle.pr_expand.specs.Scopes.{IsScene, callee_in};
 
 use crate::environment::Environment;
 use crate::ledgers::{AllMade, Ledger, Made, Progress, cut};
@@ -22,6 +24,44 @@ use pr_flat::{Op, Operand};
 use pr_lang::{Expr, Fixed, Item, Name, Param, Ref, Stmt};
 use pr_scope_names::{Callee, Static, Statics, amount};
 use std::alloc::Global;
+
+/// A value and its declared width, if it has one.
+#[derive(Clone, Copy)]
+pub struct Assigned<'a> {
+    pub width: Option<u64>,
+    pub expr: &'a Expr,
+}
+
+/// A recurrence.
+#[derive(Clone, Copy)]
+struct Rec<'a> {
+    target: &'a Ref,
+    init: &'a Fixed,
+    body: Assigned<'a>,
+}
+
+/// The body of a recurrence, how many equations stand before it, and how many with it.
+#[derive(Clone, Copy)]
+struct Counted<'a> {
+    first: usize,
+    number: u32,
+    body: Assigned<'a>,
+}
+
+/// A loop's index, its first value, and the one after its last.
+#[derive(Clone, Copy)]
+struct Span<'a> {
+    index: &'a Name,
+    from: u64,
+    to: u64,
+}
+
+/// A loop's index at one of its values.
+#[derive(Clone, Copy)]
+struct Turn<'a> {
+    index: &'a Name,
+    at: u64,
+}
 
 /// The function that a name stands for.
 fn callee_of(statics: &Statics, name: &Name) -> Option<Callee>
@@ -46,8 +86,8 @@ fn make(
     expr: &Expr,
 ) -> Result<Made, Stop>
     requires { IsScene items.now statics.old }
-    ensures value { IfOk result (λ m. made_of m ≡ (plan_of expr.now).making (visible_in items.now statics.old) (streams_in env.now) (shapes_in ledger)) }
-    ensures limit { IfErr result (λ s. IsPast s ((plan_of expr.now).making (visible_in items.now statics.old) (streams_in env.now) (shapes_in ledger)).equations) }
+    ensures value { IfOk result (λ m. made_of m ≡ expr_made expr.now items.now statics.old env.now ledger) }
+    ensures limit { IfErr result (λ s. IsPast s (expr_made expr.now items.now statics.old env.now ledger).equations) }
     ensures names { OnOk result (KeepsNames statics.old statics.new) }
 {
     match expr {
@@ -104,8 +144,8 @@ fn make_all(
     exprs: &[Expr],
 ) -> Result<AllMade, Stop>
     requires { IsScene items.now statics.old }
-    ensures value { IfOk result (λ a. all_of a ≡ all_made (map plan_of exprs.now) (visible_in items.now statics.old) (streams_in env.now) (shapes_in ledger)) }
-    ensures limit { IfErr result (λ s. IsPast s (all_made (map plan_of exprs.now) (visible_in items.now statics.old) (streams_in env.now) (shapes_in ledger)).equations) }
+    ensures value { IfOk result (λ a. all_of a ≡ exprs_made exprs.now items.now statics.old env.now ledger) }
+    ensures limit { IfErr result (λ s. IsPast s (exprs_made exprs.now items.now statics.old env.now ledger).equations) }
     ensures names { OnOk result (KeepsNames statics.old statics.new) }
 {
     let mut ledger = ledger;
@@ -142,8 +182,8 @@ fn call(
     all: AllMade,
 ) -> Result<Made, Stop>
     requires { IsScene items.now statics.old }
-    ensures value { IfOk result (λ m. made_of m ≡ called (function_of (known_in statics.old name.now) ((visible_in items.now statics.old).functions name.now)) (all_of all)) }
-    ensures limit { IfErr result (λ s. IsPast s (called (function_of (known_in statics.old name.now) ((visible_in items.now statics.old).functions name.now)) (all_of all)).equations) }
+    ensures value { IfOk result (λ m. made_of m ≡ call_made name.now items.now statics.old all) }
+    ensures limit { IfErr result (λ s. IsPast s (call_made name.now items.now statics.old all).equations) }
     ensures names { OnOk result (KeepsNames statics.old statics.new) }
 {
     match callee_of(statics, name) {
@@ -183,8 +223,10 @@ fn call_item(
     all: AllMade,
 ) -> Result<Made, Stop>
     requires { IsScene items.now statics.old }
-    ensures value { IfOk result (λ m. made_of m ≡ defined (option_map (λ i. i.now) item.entry) (visible_in items.now statics.old) all.given.items (shapes_in all.ledger)) }
-    ensures limit { IfErr result (λ s. IsPast s (defined (option_map (λ i. i.now) item.entry) (visible_in items.now statics.old) all.given.items (shapes_in all.ledger)).equations) }
+    ensures value { IfOk result (λ m. made_of m ≡ item_called (option_map (λ i. i.now) item.entry)
+        items.now statics.old all) }
+    ensures limit { IfErr result (λ s. IsPast s (item_called (option_map (λ i. i.now) item.entry)
+        items.now statics.old all).equations) }
     ensures names { OnOk result (KeepsNames statics.old statics.new) }
 {
     match item {
@@ -208,7 +250,11 @@ fn call_item(
                 result,
             } => {
                 let begun = with_arguments(alloc, params, all)?;
-                run(alloc, items, statics, begun, *width, body, result)
+                let last = Assigned {
+                    width: *width,
+                    expr: result,
+                };
+                run(alloc, items, statics, begun, body, &last)
             }
             Item::Step(_) => Ok(gives(all.ledger, Operand::Const(0), false)),
         },
@@ -222,17 +268,18 @@ fn run(
     items: &[Item],
     statics: &mut Statics,
     begun: Progress,
-    width: Option<u64>,
     body: &[Stmt],
-    last: &Expr,
+    last: &Assigned,
 ) -> Result<Made, Stop>
     requires { IsScene items.now statics.old }
-    ensures value { IfOk result (λ m. made_of m ≡ assigned width last.now (visible_in items.now statics.old) (changes_of body.now (visible_in items.now statics.old) (progress_of begun)).streams (changes_of body.now (visible_in items.now statics.old) (progress_of begun)).equations) }
-    ensures limit { IfErr result (λ s. IsPast s (assigned width last.now (visible_in items.now statics.old) (changes_of body.now (visible_in items.now statics.old) (progress_of begun)).streams (changes_of body.now (visible_in items.now statics.old) (progress_of begun)).equations).equations) }
+    ensures value { IfOk result (λ m. made_of m ≡ body_run body.now last.now.width last.now.expr.now
+        items.now statics.old begun) }
+    ensures limit { IfErr result (λ s. IsPast s (body_run body.now last.now.width last.now.expr.now
+        items.now statics.old begun).equations) }
     ensures names { OnOk result (KeepsNames statics.old statics.new) }
 {
     let Progress { env, ledger } = make_stmts(alloc, items, statics, begun, body)?;
-    make_assigned(alloc, items, statics, &env, ledger, width, last)
+    make_assigned(alloc, items, statics, &env, ledger, last)
 }
 
 /// An argument under its parameter's declared width.
@@ -248,8 +295,8 @@ fn passed(alloc: Global, ledger: Ledger, width: Option<u64>, given: Given) -> Re
 
 /// The streams of a function's parameters.
 fn with_arguments(alloc: Global, params: &[Param], all: AllMade) -> Result<Progress, Stop>
-    ensures value { IfOk result (λ p. progress_of p ≡ programs.with_arguments params.now all.given.items (record { streams = no_streams; equations = shapes_in all.ledger })) }
-    ensures limit { IfErr result (λ s. IsPast s (programs.with_arguments params.now all.given.items (record { streams = no_streams; equations = shapes_in all.ledger })).equations) }
+    ensures value { IfOk result (λ p. progress_of p ≡ arguments_made params.now all) }
+    ensures limit { IfErr result (λ s. IsPast s (arguments_made params.now all).equations) }
 {
     let mut env = Environment::new(alloc);
     let mut ledger = all.ledger;
@@ -292,23 +339,26 @@ pub fn make_assigned(
     statics: &mut Statics,
     env: &Environment,
     ledger: Ledger,
-    width: Option<u64>,
-    expr: &Expr,
+    value: &Assigned,
 ) -> Result<Made, Stop>
     requires { IsScene items.now statics.old }
-    ensures value { IfOk result (λ m. made_of m ≡ assigned width expr.now (visible_in items.now statics.old) (streams_in env.now) (shapes_in ledger)) }
-    ensures limit { IfErr result (λ s. IsPast s (assigned width expr.now (visible_in items.now statics.old) (streams_in env.now) (shapes_in ledger)).equations) }
+    ensures value { IfOk result (λ m. made_of m ≡ value_made value.now.width value.now.expr.now
+        items.now statics.old env.now ledger) }
+    ensures limit { IfErr result (λ s. IsPast s (value_made value.now.width value.now.expr.now
+        items.now statics.old env.now ledger).equations) }
     ensures names { OnOk result (KeepsNames statics.old statics.new) }
 {
-    let width = declared(width);
-    let made = make(alloc, items, statics, env, ledger, expr)?;
-    assign(alloc, made, width, is_operator(expr))
+    let width = declared(value.width);
+    let made = make(alloc, items, statics, env, ledger, value.expr)?;
+    assign(alloc, made, width, is_operator(value.expr))
 }
 
 /// A declared width for what is made.
 fn assign(alloc: Global, made: Made, width: Option<u8>, operator: bool) -> Result<Made, Stop>
-    ensures value { IfOk result (λ m. made_of m ≡ declared_else operator width (declared_at_operator operator width (made_of made))) }
-    ensures limit { IfErr result (λ s. IsPast s (declared_else operator width (declared_at_operator operator width (made_of made))).equations) }
+    ensures value { IfOk result (λ m. made_of m ≡ declared_else operator width
+        (declared_at_operator operator width (made_of made))) }
+    ensures limit { IfErr result (λ s. IsPast s (declared_else operator width
+        (declared_at_operator operator width (made_of made))).equations) }
 {
     match width {
         None => Ok(made),
@@ -319,6 +369,19 @@ fn assign(alloc: Global, made: Made, width: Option<u8>, operator: bool) -> Resul
                 fit(alloc, made.ledger, made.given, width)
             }
         }
+    }
+}
+
+/// A declared width for an operator's own equation.
+fn declare_operator(made: Made, width: Option<u8>, operator: bool) -> Made
+    ensures { made_of result ≡ declared_at_operator operator width (made_of made) }
+{
+    if !operator {
+        return made;
+    }
+    match width {
+        None => made,
+        Some(width) => declare(made, width),
     }
 }
 
@@ -342,8 +405,8 @@ fn make_stmts(
     stmts: &[Stmt],
 ) -> Result<Progress, Stop>
     requires { IsScene items.now statics.old }
-    ensures value { IfOk result (λ p. progress_of p ≡ changes_of stmts.now (visible_in items.now statics.old) (progress_of begun)) }
-    ensures limit { IfErr result (λ s. IsPast s (changes_of stmts.now (visible_in items.now statics.old) (progress_of begun)).equations) }
+    ensures value { IfOk result (λ p. progress_of p ≡ stmts_made stmts.now items.now statics.old begun) }
+    ensures limit { IfErr result (λ s. IsPast s (stmts_made stmts.now items.now statics.old begun).equations) }
     ensures names { OnOk result (KeepsNames statics.old statics.new) }
 {
     let mut at = begun;
@@ -363,8 +426,8 @@ pub fn make_stmt(
     stmt: &Stmt,
 ) -> Result<Progress, Stop>
     requires { IsScene items.now statics.old }
-    ensures value { IfOk result (λ p. progress_of p ≡ change_of stmt.now (visible_in items.now statics.old) (progress_of begun)) }
-    ensures limit { IfErr result (λ s. IsPast s (change_of stmt.now (visible_in items.now statics.old) (progress_of begun)).equations) }
+    ensures value { IfOk result (λ p. progress_of p ≡ stmt_made stmt.now items.now statics.old begun) }
+    ensures limit { IfErr result (λ s. IsPast s (stmt_made stmt.now items.now statics.old begun).equations) }
     ensures names { OnOk result (KeepsNames statics.old statics.new) }
 {
     match stmt {
@@ -372,13 +435,26 @@ pub fn make_stmt(
             target,
             width,
             value,
-        } => make_let(alloc, items, statics, begun, target, *width, value),
+        } => {
+            let value = Assigned {
+                width: *width,
+                expr: value,
+            };
+            make_let(alloc, items, statics, begun, target, &value)
+        }
         Stmt::Rec {
             target,
             width,
             init,
             body,
-        } => make_rec(alloc, items, statics, begun, target, *width, init, body),
+        } => {
+            let body = Assigned {
+                width: *width,
+                expr: body,
+            };
+            let stmt = Rec { target, init, body };
+            make_rec(alloc, items, statics, begun, &stmt)
+        }
         Stmt::For {
             index,
             low,
@@ -387,7 +463,8 @@ pub fn make_stmt(
         } => {
             let from = value_of(statics, low);
             let to = value_of(statics, high);
-            make_turns(alloc, items, statics, begun, index, from, to, body)
+            let span = Span { index, from, to };
+            make_turns(alloc, items, statics, begun, &span, body)
         }
     }
 }
@@ -399,19 +476,23 @@ fn make_turns(
     items: &[Item],
     statics: &mut Statics,
     begun: Progress,
-    index: &Name,
-    from: u64,
-    to: u64,
+    span: &Span,
     body: &[Stmt],
 ) -> Result<Progress, Stop>
     requires { IsScene items.now statics.old }
-    ensures value { IfOk result (λ p. progress_of p ≡ turns (to - from) from (λ at. changes_of body.now (with_index index.now at (visible_in items.now statics.old))) (progress_of begun)) }
-    ensures limit { IfErr result (λ s. IsPast s (turns (to - from) from (λ at. changes_of body.now (with_index index.now at (visible_in items.now statics.old))) (progress_of begun)).equations) }
+    ensures value { IfOk result (λ p. progress_of p ≡ turns_made span.now.index.now span.now.from span.now.to body.now
+        items.now statics.old begun) }
+    ensures limit { IfErr result (λ s. IsPast s (turns_made span.now.index.now span.now.from span.now.to body.now
+        items.now statics.old begun).equations) }
     ensures names { OnOk result (KeepsNames statics.old statics.new) }
 {
     let mut now = begun;
-    for at in from..to {
-        now = make_turn(alloc, items, statics, now, index, at, body)?;
+    for at in span.from..span.to {
+        let turn = Turn {
+            index: span.index,
+            at,
+        };
+        now = make_turn(alloc, items, statics, now, &turn, body)?;
     }
     Ok(now)
 }
@@ -423,18 +504,19 @@ fn make_turn(
     items: &[Item],
     statics: &mut Statics,
     begun: Progress,
-    index: &Name,
-    at: u64,
+    turn: &Turn,
     body: &[Stmt],
 ) -> Result<Progress, Stop>
     requires { IsScene items.now statics.old }
-    ensures value { IfOk result (λ p. progress_of p ≡ changes_of body.now (with_index index.now at (visible_in items.now statics.old)) (progress_of begun)) }
-    ensures limit { IfErr result (λ s. IsPast s (changes_of body.now (with_index index.now at (visible_in items.now statics.old)) (progress_of begun)).equations) }
+    ensures value { IfOk result (λ p. progress_of p ≡ turn_made turn.now.index.now turn.now.at body.now
+        items.now statics.old begun) }
+    ensures limit { IfErr result (λ s. IsPast s (turn_made turn.now.index.now turn.now.at body.now
+        items.now statics.old begun).equations) }
     ensures names { OnOk result (KeepsNames statics.old statics.new) }
 {
-    let was = statics.swap_index(alloc, index, Some(Static::Index(at)))?;
+    let was = statics.swap_index(alloc, turn.index, Some(Static::Index(turn.at)))?;
     let ended = make_stmts(alloc, items, statics, begun, body)?;
-    let _turn = statics.swap_index(alloc, index, was)?;
+    let _turn = statics.swap_index(alloc, turn.index, was)?;
     Ok(ended)
 }
 
@@ -446,18 +528,36 @@ fn make_let(
     statics: &mut Statics,
     begun: Progress,
     target: &Ref,
-    width: Option<u64>,
-    value: &Expr,
+    value: &Assigned,
 ) -> Result<Progress, Stop>
     requires { IsScene items.now statics.old }
-    ensures value { IfOk result (λ p. progress_of p ≡ let_change target.now width value.now (visible_in items.now statics.old) (progress_of begun)) }
-    ensures limit { IfErr result (λ s. IsPast s (let_change target.now width value.now (visible_in items.now statics.old) (progress_of begun)).equations) }
+    ensures value { IfOk result (λ p. progress_of p ≡ let_made target.now value.now.width value.now.expr.now
+        items.now statics.old begun) }
+    ensures limit { IfErr result (λ s. IsPast s (let_made target.now value.now.width value.now.expr.now
+        items.now statics.old begun).equations) }
     ensures names { OnOk result (KeepsNames statics.old statics.new) }
 {
     let at = place_at(statics, target);
     let Progress { env, ledger } = begun;
-    let made = make_assigned(alloc, items, statics, &env, ledger, width, value)?;
+    let made = make_assigned(alloc, items, statics, &env, ledger, value)?;
     named(alloc, env, &target.name, at, made)
+}
+
+/// An instance that stands for this from now on.
+fn stands(
+    alloc: Global,
+    env: Environment,
+    name: &Name,
+    at: Option<u64>,
+    standing: Standing,
+    ledger: Ledger,
+) -> Result<Progress, Stop>
+    ensures value { IfOk result (λ p. progress_of p ≡ stood name.now at standing env ledger) }
+    ensures limit { (es : Equations) → IfErr result (λ s. IsPast s es) }
+{
+    let mut env = env;
+    env.set(alloc, name, at, standing)?;
+    Ok(Progress { env, ledger })
 }
 
 /// An instance that is assigned; it is 0 before its first sample.
@@ -471,16 +571,11 @@ pub fn named(
     ensures value { IfOk result (λ p. progress_of p ≡ statements.named name.now at (streams_in env) (made_of made)) }
     ensures limit { (es : Equations) → IfErr result (λ s. IsPast s es) }
 {
-    let mut env = env;
     let standing = Standing::Stream {
         given: made.given,
         init: 0,
     };
-    env.set(alloc, name, at, standing)?;
-    Ok(Progress {
-        env,
-        ledger: made.ledger,
-    })
+    stands(alloc, env, name, at, standing, made.ledger)
 }
 
 /// The body of a recurrence of this number.
@@ -491,51 +586,44 @@ fn make_body(
     statics: &mut Statics,
     env: &Environment,
     ledger: Ledger,
-    width: Option<u8>,
-    body: &Expr,
+    body: &Assigned,
 ) -> Result<Made, Stop>
     requires { IsScene items.now statics.old }
-    ensures value { IfOk result (λ m. made_of m ≡ declared_at_operator (plan_of body.now).is_operator width ((plan_of body.now).making (visible_in items.now statics.old) (streams_in env.now) (shapes_in ledger))) }
-    ensures limit { IfErr result (λ s. IsPast s (declared_at_operator (plan_of body.now).is_operator width ((plan_of body.now).making (visible_in items.now statics.old) (streams_in env.now) (shapes_in ledger))).equations) }
+    ensures value { IfOk result (λ m. made_of m ≡ recurring body.now.width body.now.expr.now
+        items.now statics.old env.now (shapes_in ledger)) }
+    ensures limit { IfErr result (λ s. IsPast s (recurring body.now.width body.now.expr.now
+        items.now statics.old env.now (shapes_in ledger)).equations) }
     ensures names { OnOk result (KeepsNames statics.old statics.new) }
 {
-    let made = make(alloc, items, statics, env, ledger, body)?;
-    match width {
-        None => Ok(made),
-        Some(width) => {
-            if is_operator(body) {
-                Ok(declare(made, width))
-            } else {
-                Ok(made)
-            }
-        }
-    }
+    let made = make(alloc, items, statics, env, ledger, body.expr)?;
+    Ok(declare_operator(made, declared(body.width), is_operator(body.expr)))
 }
 
-/// The body of a recurrence that stands: the one that is made, unless the counted one has more equations. Then that one is made
-/// again.
+/// The body of a recurrence that stands: the one that is made, unless the counted one has more equations. Then that one
+/// is made again.
 #[cycle(make)]
 fn settle(
     alloc: Global,
     items: &[Item],
     statics: &mut Statics,
     env: &Environment,
-    first: usize,
-    counted: u32,
     made: Made,
-    width: Option<u8>,
-    body: &Expr,
+    counted: &Counted,
 ) -> Result<Made, Stop>
     requires { IsScene items.now statics.old }
-    ensures value { IfOk result (λ m. made_of m ≡ longer counted (declared_at_operator (plan_of body.now).is_operator width ((plan_of body.now).making (visible_in items.now statics.old) (streams_in env.now) (take first (shapes_in made.ledger)))) (made_of made)) }
-    ensures limit { IfErr result (λ s. IsPast s (longer counted (declared_at_operator (plan_of body.now).is_operator width ((plan_of body.now).making (visible_in items.now statics.old) (streams_in env.now) (take first (shapes_in made.ledger)))) (made_of made)).equations) }
+    ensures value { IfOk result (λ m. made_of m ≡ longer counted.now.number
+        (recurring counted.now.body.width counted.now.body.expr.now items.now statics.old env.now
+        (take counted.now.first (shapes_in made.ledger))) (made_of made)) }
+    ensures limit { IfErr result (λ s. IsPast s (longer counted.now.number
+        (recurring counted.now.body.width counted.now.body.expr.now items.now statics.old env.now
+        (take counted.now.first (shapes_in made.ledger))) (made_of made)).equations) }
     ensures names { OnOk result (KeepsNames statics.old statics.new) }
 {
-    if counted as usize <= made.ledger.equations.len() {
+    if counted.number as usize <= made.ledger.equations.len() {
         return Ok(made);
     }
-    let ledger = cut(alloc, made.ledger, first)?;
-    make_body(alloc, items, statics, env, ledger, width, body)
+    let ledger = cut(alloc, made.ledger, counted.first)?;
+    make_body(alloc, items, statics, env, ledger, &counted.body)
 }
 
 /// A recurrence: its body is made once to count its equations, and once more when its number is known.
@@ -545,44 +633,42 @@ fn make_rec(
     items: &[Item],
     statics: &mut Statics,
     begun: Progress,
-    target: &Ref,
-    width: Option<u64>,
-    init: &Fixed,
-    body: &Expr,
+    stmt: &Rec,
 ) -> Result<Progress, Stop>
     requires { IsScene items.now statics.old }
-    ensures value { IfOk result (λ p. progress_of p ≡ rec_change target.now width init.now body.now (visible_in items.now statics.old) (progress_of begun)) }
-    ensures limit { IfErr result (λ s. IsPast s (rec_change target.now width init.now body.now (visible_in items.now statics.old) (progress_of begun)).equations) }
+    ensures value { IfOk result (λ p. progress_of p ≡ rec_made stmt.now.target.now stmt.now.body.width stmt.now.init.now
+        stmt.now.body.expr.now items.now statics.old begun) }
+    ensures limit { IfErr result (λ s. IsPast s (rec_made stmt.now.target.now stmt.now.body.width stmt.now.init.now
+        stmt.now.body.expr.now items.now statics.old begun).equations) }
     ensures names { OnOk result (KeepsNames statics.old statics.new) }
 {
-    let at = place_at(statics, target);
-    let init = value_of(statics, init);
-    let width = declared(width);
-    let Progress { env, ledger } = begun;
-    let mut env = env;
+    let at = place_at(statics, stmt.target);
+    let init = value_of(statics, stmt.init);
+    let Progress { mut env, ledger } = begun;
     let first = ledger.equations.len();
-    env.set(alloc, &target.name, at, Standing::Own(0))?;
-    let counted = make_body(alloc, items, statics, &env, ledger, width, body)?;
+    env.set(alloc, &stmt.target.name, at, Standing::Own(0))?;
+    let counted = make_body(alloc, items, statics, &env, ledger, &stmt.body)?;
     let number = counted.ledger.equations.len() as u32;
     let ledger = cut(alloc, counted.ledger, first)?;
-    env.set(alloc, &target.name, at, Standing::Own(number))?;
-    let made = make_body(alloc, items, statics, &env, ledger, width, body)?;
-    env.set(alloc, &target.name, at, Standing::Own(0))?;
-    let made = settle(
-        alloc, items, statics, &env, first, number, made, width, body,
-    )?;
+    env.set(alloc, &stmt.target.name, at, Standing::Own(number))?;
+    let made = make_body(alloc, items, statics, &env, ledger, &stmt.body)?;
+    env.set(alloc, &stmt.target.name, at, Standing::Own(0))?;
+    let count = Counted {
+        first,
+        number,
+        body: stmt.body,
+    };
+    let made = settle(alloc, items, statics, &env, made, &count)?;
     let op = Op::Rec {
         init,
         first: first as u32,
     };
+    let width = declared(stmt.body.width);
     let made = one(alloc, made.ledger, op, made.given, width)?;
     let given = Given {
         operand: made.given.operand,
         signed: false,
     };
-    env.set(alloc, &target.name, at, Standing::Stream { given, init })?;
-    Ok(Progress {
-        env,
-        ledger: made.ledger,
-    })
+    let standing = Standing::Stream { given, init };
+    stands(alloc, env, &stmt.target.name, at, standing, made.ledger)
 }

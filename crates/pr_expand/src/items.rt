@@ -1,29 +1,29 @@
 //! The equations of items.
-ghost use Rattle.std.specs.Prelude.{◌≡◌, ℕ, ◌+◌, ◌<◌, ◌^◌, length, vec_len, List, ◌++◌, [], ◌∷◌, IfErr, IfOk, None, Some, map, slice_get};
+ghost use Rattle.std.specs.Prelude.{◌≡◌, ℕ, ◌+◌, ◌<◌, ◌^◌, length, vec_len, List, ◌++◌, [], ◌∷◌, IfErr, IfOk};
+ghost use Rattle.std.specs.Prelude.{None, Some, map, slice_get};
 ghost use Rattle.pr_scope_names.specs.declared.names.Static.TheVariants as static;
 ghost use Rattle.pr_scope_names.specs.Names.{KeepsNames, bind, known_in};
 ghost use Rattle.pr_lang.specs.declared.trees.Item.{Item};
-ghost use Rattle.pr_flat.specs.declared.equations.Op.TheVariants.{Input};
 ghost use Rattle.pr_flat.specs.Shape.{shapes_of};
 ghost use Rattle.pr_lang_meaning.specs.Programs.{function_at};
-ghost use Rattle.pr_expand_spec.specs.Making.{Equations, constant, with_equation};
-ghost use Rattle.pr_expand_spec.specs.Expressions.{assigned};
+ghost use Rattle.pr_expand_spec.specs.Making.{Equations, constant};
 ghost use Rattle.pr_expand_spec.specs.Statements as statements;
 ghost use Rattle.pr_expand_spec.specs.Statements.{change_of};
 ghost use Rattle.pr_expand_spec.specs.Programs.{equations_of, input_width, item_change, items_change, start};
 ghost use Rattle.pr_expand.specs.Code.{IsPast, progress_of};
+ghost use Rattle.pr_expand.specs.Parts.{input_made, output_made};
 ghost use Rattle.pr_expand.specs.Scopes.{IsBefore, visible_at};
 ghost use Rattle.pr_scope.specs.Walk.{offence};
 ghost use Rattle.pr_expand.specs.Worlds.{AreWalked, IsFree, flattened, world_at};
 
 use crate::environment::Environment;
-use crate::expressions::{make_assigned, make_stmt, named};
+use crate::expressions::{Assigned, make_assigned, make_stmt, named};
 use crate::ledgers::{Expansion, Ledger, Progress, no_equations};
 use crate::making::input;
 use crate::operands::value_of;
 use crate::stops::Stop;
 use pr_flat::Operand;
-use pr_lang::{Expr, Fixed, Item, Name, Param, Program, Stmt};
+use pr_lang::{Fixed, Item, Name, Param, Program, Stmt};
 use pr_scope_names::{Callee, Static, Statics, Table};
 use std::alloc::{AllocError, Global};
 
@@ -67,7 +67,8 @@ fn introduce(
 ) -> Result<World, Stop>
     requires at { IsBefore items.now world.statics number }
     requires free { known_in world.statics name.now ≡ None }
-    requires known { (visible_at items.now (number + 1)).known ≡ bind name.now what (visible_at items.now number).known }
+    requires known { (visible_at items.now (number + 1)).known
+        ≡ bind name.now what (visible_at items.now number).known }
     ensures at { IfOk result (λ w. IsBefore items.now w.statics (number + 1)) }
     ensures progress { IfOk result (λ w. w.progress ≡ world.progress) }
     ensures outputs { IfOk result (λ w. w.outputs ≡ world.outputs) }
@@ -80,12 +81,34 @@ fn introduce(
 
 /// An input.
 fn input_item(alloc: Global, progress: Progress, name: &Name, width: u64) -> Result<Progress, Stop>
-    ensures value { IfOk result (λ p. progress_of p ≡ statements.named name.now None (progress_of progress).streams (with_equation Input [] (Some (input_width width)) (progress_of progress).equations)) }
-    ensures limit { IfErr result (λ s. IsPast s (with_equation Input [] (Some (input_width width)) (progress_of progress).equations).equations) }
+    ensures value { IfOk result (λ p. progress_of p
+        ≡ statements.named name.now None (progress_of progress).streams (input_made width progress)) }
+    ensures limit { IfErr result (λ s. IsPast s (input_made width progress).equations) }
 {
     let Progress { env, ledger } = progress;
     let made = input(alloc, ledger, width_of(width))?;
     named(alloc, env, name, None, made)
+}
+
+/// What an input adds.
+fn add_input(alloc: Global, world: World, name: &Name, width: u64) -> Result<World, Stop>
+    ensures progress { IfOk result (λ w. progress_of w.progress
+        ≡ statements.named name.now None (progress_of world.progress).streams (input_made width world.progress)) }
+    ensures outputs { IfOk result (λ w. w.outputs ≡ world.outputs) }
+    ensures names { IfOk result (λ w. KeepsNames world.statics w.statics) }
+    ensures limit { IfErr result (λ s. IsPast s (input_made width world.progress).equations) }
+{
+    let World {
+        statics,
+        progress,
+        outputs,
+    } = world;
+    let progress = input_item(alloc, progress, name, width)?;
+    Ok(World {
+        statics,
+        progress,
+        outputs,
+    })
 }
 
 /// An output.
@@ -95,14 +118,17 @@ fn output_item(
     world: World,
     number: u32,
     name: &Name,
-    width: Option<u64>,
-    value: &Expr,
+    value: &Assigned,
 ) -> Result<World, Stop>
     requires { IsBefore items.now world.statics number }
-    ensures progress { IfOk result (λ w. progress_of w.progress ≡ statements.named name.now None (progress_of world.progress).streams (assigned width value.now (visible_at items.now number) (progress_of world.progress).streams (progress_of world.progress).equations)) }
-    ensures outputs { IfOk result (λ w. w.outputs.items ≡ world.outputs.items ++ (assigned width value.now (visible_at items.now number) (progress_of world.progress).streams (progress_of world.progress).equations).given.operand ∷ []) }
+    ensures progress { IfOk result (λ w. progress_of w.progress
+        ≡ statements.named name.now None (progress_of world.progress).streams
+        (output_made value.now.width value.now.expr.now items.now number world.progress)) }
+    ensures outputs { IfOk result (λ w. w.outputs.items ≡ world.outputs.items
+        ++ (output_made value.now.width value.now.expr.now items.now number world.progress).given.operand ∷ []) }
     ensures names { IfOk result (λ w. KeepsNames world.statics w.statics) }
-    ensures limit { IfErr result (λ s. IsPast s (assigned width value.now (visible_at items.now number) (progress_of world.progress).streams (progress_of world.progress).equations).equations) }
+    ensures limit { IfErr result (λ s. IsPast s
+        (output_made value.now.width value.now.expr.now items.now number world.progress).equations) }
 {
     let World {
         mut statics,
@@ -111,7 +137,7 @@ fn output_item(
     } = world;
     let Progress { env, ledger } = progress;
     let frame = statics.enter(alloc, number);
-    let made = make_assigned(alloc, items, &mut statics, &env, ledger, width, value)?;
+    let made = make_assigned(alloc, items, &mut statics, &env, ledger, value)?;
     statics.leave(frame);
     match outputs.push(made.given.operand) {
         Err(failed) => return Err(Stop::Memory(failed.into())),
@@ -134,10 +160,12 @@ fn step_item(
     stmt: &Stmt,
 ) -> Result<World, Stop>
     requires { IsBefore items.now world.statics number }
-    ensures progress { IfOk result (λ w. progress_of w.progress ≡ change_of stmt.now (visible_at items.now number) (progress_of world.progress)) }
+    ensures progress { IfOk result (λ w. progress_of w.progress
+        ≡ change_of stmt.now (visible_at items.now number) (progress_of world.progress)) }
     ensures outputs { IfOk result (λ w. w.outputs ≡ world.outputs) }
     ensures names { IfOk result (λ w. KeepsNames world.statics w.statics) }
-    ensures limit { IfErr result (λ s. IsPast s (change_of stmt.now (visible_at items.now number) (progress_of world.progress)).equations) }
+    ensures limit { IfErr result (λ s. IsPast s
+        (change_of stmt.now (visible_at items.now number) (progress_of world.progress)).equations) }
 {
     let World {
         mut statics,
@@ -179,25 +207,19 @@ fn item(
     requires is { slice_get items.now number ≡ Some item.now }
     requires free { IsFree item.now world.statics }
     ensures at { IfOk result (λ w. IsBefore items.now w.statics (number + 1)) }
-    ensures value { IfOk result (λ w. world_at items.now (number + 1) w ≡ item_change number item.now (world_at items.now number world)) }
-    ensures limit { IfErr result (λ s. IsPast s (item_change number item.now (world_at items.now number world)).progress.equations) }
+    ensures value { IfOk result (λ w. world_at items.now (number + 1) w
+        ≡ item_change number item.now (world_at items.now number world)) }
+    ensures limit { IfErr result (λ s. IsPast s
+        (item_change number item.now (world_at items.now number world)).progress.equations) }
 {
     match item {
-        Item::Input { name, width } => {
-            let World {
-                statics,
-                progress,
-                outputs,
-            } = world;
-            let progress = input_item(alloc, progress, name, *width)?;
-            Ok(World {
-                statics,
-                progress,
-                outputs,
-            })
-        }
+        Item::Input { name, width } => add_input(alloc, world, name, *width),
         Item::Output { name, width, value } => {
-            output_item(alloc, items, world, number, name, *width, value)
+            let value = Assigned {
+                width: *width,
+                expr: value,
+            };
+            output_item(alloc, items, world, number, name, &value)
         }
         Item::Const { name, value } => {
             let amount = value_of(&world.statics, value);

@@ -15,23 +15,24 @@ use std::alloc::{AllocError, Global};
 use std::collections::BTreeMap;
 
 /// The equations so far, in order, and the first delay of each operand after each number.
-#[derive(Debug, Drop)]
+#[derive(Drop)]
 pub struct Ledger {
     pub equations: Vec<Equation>,
     pub delays: BTreeMap<Vec<u64>, u32>,
     pub ghost few: { vec_len equations ≤ 16384 },
-    pub ghost found: { (q : Operand) (c : ℕ) → at_name delays (delay_key q c) ≡ delay_from 0 (shapes_of equations.items) q c } by { Prim.hlevel props },
+    pub ghost found: { (q : Operand) (c : ℕ)
+        → at_name delays (delay_key q c) ≡ delay_from 0 (shapes_of equations.items) q c } by { Prim.hlevel props },
 }
 
 /// What comes of an expression: the equations with its own, and its operand.
-#[derive(Debug, Drop)]
+#[derive(Drop)]
 pub struct Made {
     pub ledger: Ledger,
     pub given: Given,
 }
 
 /// What comes of several expressions.
-#[derive(Debug, Drop)]
+#[derive(Drop)]
 pub struct AllMade {
     pub ledger: Ledger,
     pub given: Vec<Given>,
@@ -64,7 +65,8 @@ pub fn no_equations(alloc: Global) -> Ledger
 
 /// The equations but for the last one.
 fn without_last(alloc: Global, ledger: Ledger) -> Result<Ledger, AllocError>
-    ensures equations { IfOk result (λ l. l.equations.items ≡ take (vec_len ledger.equations - 1) ledger.equations.items) }
+    ensures equations { IfOk result (λ l. l.equations.items
+        ≡ take (vec_len ledger.equations - 1) ledger.equations.items) }
     ensures count { IfOk result (λ l. vec_len l.equations ≡ vec_len ledger.equations - 1) }
 {
     let Ledger {

@@ -1,20 +1,30 @@
 //! Equations that are made one after the other.
-ghost use Rattle.std.specs.Prelude.{◌≡◌, ◌++◌, [], ◌∷◌, false, IfErr, IfOk, Some, None, length};
+ghost use Rattle.std.specs.Prelude.{◌≡◌, ◌++◌, [], ◌∷◌, false, IfErr, IfOk, Some, None, option_map};
 ghost use Rattle.pr_flat.specs.Shape.{equation_shape};
-ghost use Rattle.pr_expand_spec.specs.Making.{declare_last, fitted, is_signed, kinds_read, made, with_equation};
+ghost use Rattle.pr_expand_spec.specs.Making.{declare_last, delay_step, fitted, form_of_kind};
+ghost use Rattle.pr_expand_spec.specs.Making.{is_signed, kinds_read, with_equation};
 ghost use Rattle.pr_expand.specs.Code.{IsPast, made_of, shapes_in};
+ghost use Rattle.pr_expand.specs.Keys.{delay_key, key_in};
+ghost use Rattle.pr_expand.specs.Parts.{added};
 
 use crate::keys::{key_of, noted};
 use crate::ledgers::{Ledger, Made};
 use crate::stops::Stop;
 use pr_base::Cap;
 use pr_expand_spec::Given;
-use pr_flat::{Equation, Op, Operand};
+use pr_flat::{Equation, Form, Op, Operand};
+use pr_flat_ops::{signed_one, signed_two};
 use std::alloc::{AllocError, Global};
 
-/// One equation more.
-fn push(alloc: Global, ledger: Ledger, equation: Equation, signed: bool) -> Result<Made, Stop>
-    ensures value { IfOk result (λ m. made_of m ≡ made (shapes_in ledger ++ equation_shape equation ∷ []) (Operand.Eq (length (shapes_in ledger))) signed) }
+/// One equation more, with its key if it is a delay.
+fn push_keyed(
+    ledger: Ledger,
+    equation: Equation,
+    key: Option<Vec<u64>>,
+    signed: bool,
+) -> Result<Made, Stop>
+    requires { option_map (λ v. v.items) key ≡ key_in equation.op equation.args.items }
+    ensures value { IfOk result (λ m. made_of m ≡ added (equation_shape equation) signed (shapes_in ledger)) }
     ensures limit { IfErr result (λ s. IsPast s (shapes_in ledger ++ equation_shape equation ∷ [])) }
 {
     let Ledger {
@@ -25,7 +35,6 @@ fn push(alloc: Global, ledger: Ledger, equation: Equation, signed: bool) -> Resu
     if number >= Cap::MOST_EQUATIONS {
         return Err(Stop::Limit);
     }
-    let key = key_of(alloc, &equation)?;
     let delays = noted(delays, key, number as u32)?;
     match equations.push(equation) {
         Err(failed) => Err(Stop::Memory(failed.into())),
@@ -39,6 +48,15 @@ fn push(alloc: Global, ledger: Ledger, equation: Equation, signed: bool) -> Resu
     }
 }
 
+/// One equation more.
+fn push(alloc: Global, ledger: Ledger, equation: Equation, signed: bool) -> Result<Made, Stop>
+    ensures value { IfOk result (λ m. made_of m ≡ added (equation_shape equation) signed (shapes_in ledger)) }
+    ensures limit { IfErr result (λ s. IsPast s (shapes_in ledger ++ equation_shape equation ∷ [])) }
+{
+    let key = key_of(alloc, &equation)?;
+    push_keyed(ledger, equation, key, signed)
+}
+
 /// An equation on one operand.
 fn on_one(
     alloc: Global,
@@ -47,7 +65,8 @@ fn on_one(
     declared: Option<u8>,
     kind: bool,
 ) -> Result<Equation, AllocError>
-    ensures { IfOk result (λ e. equation_shape e ≡ record { op = op; args = a ∷ []; declared = declared; kinds = kind ∷ [] }) }
+    ensures { IfOk result (λ e. equation_shape e
+        ≡ record { op = op; args = a ∷ []; declared = declared; kinds = kind ∷ [] }) }
 {
     Ok(Equation {
         op,
@@ -66,7 +85,8 @@ fn on_two(
     first: bool,
     second: bool,
 ) -> Result<Equation, AllocError>
-    ensures { IfOk result (λ e. equation_shape e ≡ record { op = op; args = a ∷ b ∷ []; declared = None; kinds = first ∷ second ∷ [] }) }
+    ensures { IfOk result (λ e. equation_shape e
+        ≡ record { op = op; args = a ∷ b ∷ []; declared = None; kinds = first ∷ second ∷ [] }) }
 {
     Ok(Equation {
         op,
@@ -85,7 +105,8 @@ fn on_three(
     first: bool,
     second: bool,
 ) -> Result<Equation, AllocError>
-    ensures { IfOk result (λ e. equation_shape e ≡ record { op = Op.Choose; args = c ∷ a ∷ b ∷ []; declared = None; kinds = false ∷ first ∷ second ∷ [] }) }
+    ensures { IfOk result (λ e. equation_shape e
+        ≡ record { op = Op.Choose; args = c ∷ a ∷ b ∷ []; declared = None; kinds = false ∷ first ∷ second ∷ [] }) }
 {
     Ok(Equation {
         op: Op::Choose,
@@ -100,30 +121,18 @@ fn kind_of_one(op: Op, a: bool) -> bool
     ensures { kinds_read op (a ∷ []) ≡ result ∷ [] }
 {
     match op {
-        Op::Input => a,
-        Op::Add => a,
-        Op::Sub => a,
-        Op::Mul => a,
-        Op::And => a,
-        Op::Or => a,
-        Op::Xor => a,
-        Op::Not => a,
-        Op::Equal => a,
-        Op::NotEqual => a,
-        Op::Less => a,
-        Op::LessEqual => a,
-        Op::Greater => a,
-        Op::GreaterEqual => a,
-        Op::Choose => false,
-        Op::Left(_) => a,
-        Op::Right(_) => a,
-        Op::LeftBy => a,
-        Op::RightBy => a,
-        Op::Slice(_, _) => false,
-        Op::Cat => false,
-        Op::Fit => a,
-        Op::Delay(_) => false,
-        Op::Rec { init: _, first: _ } => a,
+        Op::Choose | Op::Slice(_, _) | Op::Cat | Op::Delay(_) => false,
+        _ => a,
+    }
+}
+
+// the form of an operand of which only the kind is known
+fn form_of(kind: bool) -> Form
+    ensures { result ≡ form_of_kind kind }
+{
+    Form {
+        signed: kind,
+        width: 0,
     }
 }
 
@@ -131,32 +140,7 @@ fn kind_of_one(op: Op, a: bool) -> bool
 fn signed_of_one(op: Op, a: bool) -> bool
     ensures { is_signed op (a ∷ []) ≡ result }
 {
-    match op {
-        Op::Input => false,
-        Op::Add => false,
-        Op::Sub => false,
-        Op::Mul => false,
-        Op::And => false,
-        Op::Or => false,
-        Op::Xor => false,
-        Op::Not => a,
-        Op::Equal => false,
-        Op::NotEqual => false,
-        Op::Less => false,
-        Op::LessEqual => false,
-        Op::Greater => false,
-        Op::GreaterEqual => false,
-        Op::Choose => false,
-        Op::Left(_) => a,
-        Op::Right(_) => a,
-        Op::LeftBy => false,
-        Op::RightBy => false,
-        Op::Slice(_, _) => false,
-        Op::Cat => false,
-        Op::Fit => a,
-        Op::Delay(_) => a,
-        Op::Rec { init: _, first: _ } => false,
-    }
+    signed_one(op, form_of(a))
 }
 
 /// An input.
@@ -189,35 +173,31 @@ pub fn one(
     push(alloc, ledger, equation, signed_of_one(op, kind))
 }
 
+/// A delay of an operand after a number, of which this is the key.
+pub fn delay_of(
+    alloc: Global,
+    ledger: Ledger,
+    operand: Operand,
+    init: u64,
+    key: Vec<u64>,
+) -> Result<Made, Stop>
+    requires { key.items ≡ delay_key operand init }
+    ensures value { IfOk result (λ m. made_of m ≡ delay_step None operand init (shapes_in ledger)) }
+    ensures limit { IfErr result (λ s. IsPast s (delay_step None operand init (shapes_in ledger)).equations) }
+{
+    let equation = on_one(alloc, Op::Delay(init), operand, None, false)?;
+    push_keyed(ledger, equation, Some(key), false)
+}
+
 /// How an operation reads its two operands.
 fn kinds_of_two(op: Op, a: bool, b: bool) -> (bool, bool)
     ensures { kinds_read op (a ∷ b ∷ []) ≡ result.0 ∷ result.1 ∷ [] }
 {
     match op {
-        Op::Input => (a, b),
-        Op::Add => (a, b),
-        Op::Sub => (a, b),
-        Op::Mul => (a, b),
-        Op::And => (a, b),
-        Op::Or => (a, b),
-        Op::Xor => (a, b),
-        Op::Not => (a, b),
-        Op::Equal => (a, b),
-        Op::NotEqual => (a, b),
-        Op::Less => (a, b),
-        Op::LessEqual => (a, b),
-        Op::Greater => (a, b),
-        Op::GreaterEqual => (a, b),
         Op::Choose => (false, b),
-        Op::Left(_) => (a, b),
-        Op::Right(_) => (a, b),
-        Op::LeftBy => (a, false),
-        Op::RightBy => (a, false),
-        Op::Slice(_, _) => (false, false),
-        Op::Cat => (false, false),
-        Op::Fit => (a, b),
-        Op::Delay(_) => (false, false),
-        Op::Rec { init: _, first: _ } => (a, b),
+        Op::LeftBy | Op::RightBy => (a, false),
+        Op::Slice(_, _) | Op::Cat | Op::Delay(_) => (false, false),
+        _ => (a, b),
     }
 }
 
@@ -225,32 +205,7 @@ fn kinds_of_two(op: Op, a: bool, b: bool) -> (bool, bool)
 fn signed_of_two(op: Op, a: bool, b: bool) -> bool
     ensures { is_signed op (a ∷ b ∷ []) ≡ result }
 {
-    match op {
-        Op::Input => false,
-        Op::Add => a || b,
-        Op::Sub => a || b,
-        Op::Mul => a || b,
-        Op::And => a || b,
-        Op::Or => a || b,
-        Op::Xor => a || b,
-        Op::Not => false,
-        Op::Equal => false,
-        Op::NotEqual => false,
-        Op::Less => false,
-        Op::LessEqual => false,
-        Op::Greater => false,
-        Op::GreaterEqual => false,
-        Op::Choose => false,
-        Op::Left(_) => false,
-        Op::Right(_) => false,
-        Op::LeftBy => a,
-        Op::RightBy => a,
-        Op::Slice(_, _) => false,
-        Op::Cat => false,
-        Op::Fit => false,
-        Op::Delay(_) => false,
-        Op::Rec { init: _, first: _ } => false,
-    }
+    signed_two(op, form_of(a), form_of(b))
 }
 
 /// An operation on two operands.
@@ -266,7 +221,8 @@ pub fn two(alloc: Global, ledger: Ledger, op: Op, a: Given, b: Given) -> Result<
 /// The first of two operands where the condition is 1, and else the second.
 pub fn choose(alloc: Global, ledger: Ledger, c: Given, a: Given, b: Given) -> Result<Made, Stop>
     ensures value { IfOk result (λ m. made_of m ≡ with_equation Op.Choose (c ∷ a ∷ b ∷ []) None (shapes_in ledger)) }
-    ensures limit { IfErr result (λ s. IsPast s (with_equation Op.Choose (c ∷ a ∷ b ∷ []) None (shapes_in ledger)).equations) }
+    ensures limit { IfErr result (λ s. IsPast s
+        (with_equation Op.Choose (c ∷ a ∷ b ∷ []) None (shapes_in ledger)).equations) }
 {
     let equation = on_three(alloc, c.operand, a.operand, b.operand, a.signed, b.signed)?;
     push(alloc, ledger, equation, a.signed || b.signed)

@@ -6,7 +6,8 @@ ghost use Rattle.pr_lang_meaning.specs.Expressions.{constant_shift, operator};
 ghost use Rattle.pr_expand_spec.specs.Making.{constant, lawful, made};
 ghost use Rattle.pr_expand_spec.specs.Expressions as expressions;
 ghost use Rattle.pr_expand_spec.specs.Expressions.{beside, concatenated, earlier, place, referred};
-ghost use Rattle.pr_expand.specs.Code.{IsPast, made_of, shapes_in, streams_in};
+ghost use Rattle.pr_expand.specs.Code.{IsPast, made_of, shapes_in};
+ghost use Rattle.pr_expand.specs.Parts.{earlier_made, standing_in};
 
 use crate::delays::delay;
 use crate::environment::Environment;
@@ -58,7 +59,8 @@ fn refer_stream(ledger: Ledger, standing: Option<Standing>) -> Made
 
 /// A name, alone or with an index.
 pub fn refer(statics: &Statics, env: &Environment, ledger: Ledger, target: &Ref) -> Made
-    ensures { made_of result ≡ referred (known_in statics.now target.now.name) (place target.now (known_in statics.now)) (streams_in env.now target.now.name (place target.now (known_in statics.now))) (shapes_in ledger) }
+    ensures { made_of result ≡ referred (known_in statics.now target.now.name) (place target.now (known_in statics.now))
+        (standing_in statics.now env.now target.now) (shapes_in ledger) }
 {
     let at = place_at(statics, target);
     match statics.get(&target.name) {
@@ -109,8 +111,10 @@ pub fn refer_earlier(
     target: &Ref,
     back: &Fixed,
 ) -> Result<Made, Stop>
-    ensures value { IfOk result (λ m. made_of m ≡ earlier (constant back.now (known_in statics.now)) (streams_in env.now target.now.name (place target.now (known_in statics.now))) (shapes_in ledger)) }
-    ensures limit { IfErr result (λ s. IsPast s (earlier (constant back.now (known_in statics.now)) (streams_in env.now target.now.name (place target.now (known_in statics.now))) (shapes_in ledger)).equations) }
+    ensures value { IfOk result (λ m. made_of m ≡ earlier_made back.now statics.now
+        (standing_in statics.now env.now target.now) ledger) }
+    ensures limit { IfErr result (λ s. IsPast s (earlier_made back.now statics.now
+        (standing_in statics.now env.now target.now) ledger).equations) }
 {
     let samples = value_of(statics, back);
     let standing = env.get(&target.name, place_at(statics, target));

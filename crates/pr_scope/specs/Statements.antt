@@ -48,7 +48,8 @@ rec_begun target width init known count =
 -- where its own instance stands only under `@`
 abbrev pub rec_body : List ℕ → Expr → Known → Streaming → Bool → Ready → Result Ready Offence
 rec_body name body known streams inside begun =
-    and_then (walk_of body known streams (record { own = Some (record { name = name; index = begun.place }); inside = inside }) begun.count) (λ d.
+    and_then (walk_of body known streams
+    (record { own = Some (record { name = name; index = begun.place }); inside = inside }) begun.count) (λ d.
     Ok (record { place = begun.place; count = d }))
 
 abbrev pub rec_ready : Ref → Option ℕ → Fixed → Expr → Known → Streaming → Bool → Count → Result Ready Offence
@@ -104,7 +105,8 @@ stmt_step (Stmt-F.Rec target width init body) known inside s =
     and_then (rec_ready target width init body known s.streams inside s.count) (completed target.name known s.streams)
 stmt_step (Stmt-F.For index low high body) known inside s =
     and_then (for_ready index low high known s.streams s.count) (λ span.
-    turns (span.high - span.low) span.low (turn index body.items known inside) (record { streams = s.streams; count = span.count }))
+    turns (span.high - span.low) span.low (turn index body.items known inside)
+    (record { streams = s.streams; count = span.count }))
 
 abbrev pub change_of : Stmt → Change
 change_of = fold-Stmt Change stmt_step

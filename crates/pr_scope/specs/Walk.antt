@@ -37,16 +37,40 @@ pub record World : Type 0 where
   pub has_output : Bool
 
 abbrev pub start : World
-start = record { known = built_in; streams = λ _. None; count = record { turns = 0; deepest = 0 }; inputs = []; has_output = false }
+start = record {
+  known = built_in;
+  streams = λ _. None;
+  count = record { turns = 0; deepest = 0 };
+  inputs = [];
+  has_output = false;
+}
 
 abbrev pub with_progress : World → Progress → World
-with_progress w s = record { known = w.known; streams = s.streams; count = s.count; inputs = w.inputs; has_output = w.has_output }
+with_progress w s = record {
+  known = w.known;
+  streams = s.streams;
+  count = s.count;
+  inputs = w.inputs;
+  has_output = w.has_output;
+}
 
 abbrev pub with_known : World → Count → Known → World
-with_known w c known = record { known = known; streams = w.streams; count = c; inputs = w.inputs; has_output = w.has_output }
+with_known w c known = record {
+  known = known;
+  streams = w.streams;
+  count = c;
+  inputs = w.inputs;
+  has_output = w.has_output;
+}
 
 abbrev pub with_input : World → ℕ → World
-with_input w width = record { known = w.known; streams = w.streams; count = w.count; inputs = w.inputs ++ width ∷ []; has_output = w.has_output }
+with_input w width = record {
+  known = w.known;
+  streams = w.streams;
+  count = w.count;
+  inputs = w.inputs ++ width ∷ [];
+  has_output = w.has_output;
+}
 
 abbrev pub with_output : World → World
 with_output w = record { known = w.known; streams = w.streams; count = w.count; inputs = w.inputs; has_output = true }
@@ -86,7 +110,13 @@ callee_of at params width body result known =
     and_then (params_from params known (λ _. None)) (λ locals.
     provided (have_widths params && is_width width) Bounds
     (and_then (body_walk body result known locals) (λ d.
-    Ok (record { item = Some at; params = length params; turns = d.turns; depth = d.deepest + 1; past = stmts_past_of body known || past_of result known }))))
+    Ok (record {
+      item = Some at;
+      params = length params;
+      turns = d.turns;
+      depth = d.deepest + 1;
+      past = stmts_past_of body known || past_of result known;
+    }))))
 
 abbrev pub input_change : List ℕ → ℕ → World → Result World Offence
 input_change name width w =
@@ -133,7 +163,8 @@ item_change at (Input name width) w = input_change name width w
 item_change at (Output name width value) w = output_change name width value w
 item_change at (Const name value) w = constant_change name value w
 item_change at (Table name values) w = table_change name values.items w
-item_change at (Function name params width body result) w = function_change at name params.items width body.items result w
+item_change at (Function name params width body result) w =
+    function_change at name params.items width body.items result w
 item_change at (Step stmt) w = step_change stmt w
 
 -- the first offence of a program: too many turns, or the rule of this number at an item
@@ -192,7 +223,13 @@ IsFault (stop.Memory e) at fault = (r : Option Refusal) → IsRefusal fault r
 
 -- what the code keeps
 abbrev pub world_of : Made → World
-world_of m = record { known = known_in m.statics; streams = streams_in m.streams; count = m.count; inputs = m.inputs.items; has_output = m.has_output }
+world_of m = record {
+  known = known_in m.statics;
+  streams = streams_in m.streams;
+  count = m.count;
+  inputs = m.inputs.items;
+  has_output = m.has_output;
+}
 
 abbrev pub Walked : {T : Type 0} → Result T ScopeFault → (T → World) → Result World Refusal → Type 0
 Walked result world outcome = MatchResult result (λ t. outcome ≡ Ok (world t)) (λ e. IsRefusal e (refusal_of outcome))

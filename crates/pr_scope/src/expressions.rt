@@ -183,7 +183,8 @@ fn delay(
 
 /// The bounds of a slice.
 fn slice(statics: &Statics, count: Count, high: &Fixed, low: &Fixed) -> Result<Count, Offence>
-    ensures value { result ≡ bounds (constant_of high.now (known_in statics.now)) (constant_of low.now (known_in statics.now)) count }
+    ensures value { result
+        ≡ bounds (constant_of high.now (known_in statics.now)) (constant_of low.now (known_in statics.now)) count }
     ensures grows { IfOk result (λ c. count.turns ≤ c.turns) }
 {
     let high = constant(statics, high)?;
@@ -337,7 +338,8 @@ fn walk_all(
     count: Count,
     parts: &[Expr],
 ) -> Result<Count, Offence>
-    ensures value { result ≡ walks_of (map reading parts.now) (known_in statics.now) (streams_in streams.now) scene.now count }
+    ensures value { result
+        ≡ walks_of (map reading parts.now) (known_in statics.now) (streams_in streams.now) scene.now count }
     ensures grows { IfOk result (λ c. count.turns ≤ c.turns) }
 {
     let mut count = count;

@@ -16,6 +16,15 @@ use pr_scope_names::{
 };
 use std::alloc::Global;
 
+/// A function without its name.
+#[derive(Clone, Copy)]
+pub struct Function<'a> {
+    pub params: &'a [Param],
+    pub width: Option<u64>,
+    pub body: &'a [Stmt],
+    pub value: &'a Expr,
+}
+
 fn before_input(count: Count, width: u64) -> Result<Ready, Offence>
     ensures value { result ≡ input_ready width count }
     ensures grows { IfOk result (λ r. count.turns < r.count.turns) }
@@ -60,7 +69,8 @@ fn introduce(
     what: Static,
 ) -> Result<(), Stop>
     requires { IsOutside statics.old }
-    ensures known { Gives result (λ _. known_in statics.new) (introduced name.now what (known_in statics.old) (streams_in streams.now)) }
+    ensures known { Gives result (λ _. known_in statics.new)
+        (introduced name.now what (known_in statics.old) (streams_in streams.now)) }
     ensures horizon { horizon_in statics.new ≡ horizon_in statics.old }
 {
     if !is_new(statics, streams, name) {
@@ -152,29 +162,27 @@ fn define(
     alloc: Global,
     statics: &mut Statics,
     number: u32,
-    params: &[Param],
-    width: Option<u64>,
-    body: &[Stmt],
-    value: &Expr,
+    function: &Function,
 ) -> Result<Callee, Stop>
-    ensures walk { Gives result (λ f. f) (callee_of number params.now width body.now value.now (known_in statics.old)) }
+    ensures walk { Gives result (λ f. f) (callee_of number function.now.params.now function.now.width
+        function.now.body.now function.now.value.now (known_in statics.old)) }
     ensures same { OnOk result (known_in statics.new ≡ known_in statics.old) }
     ensures names { OnOk result (KeepsNames statics.old statics.new) }
     ensures horizon { horizon_in statics.new ≡ horizon_in statics.old }
 {
-    let past = any_stmt_past(statics, body) || has_past(statics, value);
-    let locals = match locals_of(alloc, statics, params) {
+    let past = any_stmt_past(statics, function.body) || has_past(statics, function.value);
+    let locals = match locals_of(alloc, statics, function.params) {
         Err(stop) => return Err(stop),
         Ok(locals) => locals,
     };
-    if !(params_have_widths(params) && has_width(width)) {
+    if !(params_have_widths(function.params) && has_width(function.width)) {
         return Err(Stop::Offends(Offence::Breaks(Rule::Bounds)));
     }
-    match walk_body(alloc, statics, locals, body, value) {
+    match walk_body(alloc, statics, locals, function.body, function.value) {
         Err(stop) => Err(stop),
         Ok(count) => Ok(Callee {
             item: Some(number),
-            params: params.len(),
+            params: function.params.len(),
             turns: count.turns,
             depth: u32::from(count.deepest) + 1,
             past,
@@ -297,12 +305,10 @@ fn function_item(
     made: &mut Made,
     number: u32,
     name: &Name,
-    params: &[Param],
-    width: Option<u64>,
-    body: &[Stmt],
-    value: &Expr,
+    function: &Function,
 ) -> Result<(), Stop>
-    ensures walk { Gives result (λ _. world_of made.new) (function_change number name.now params.now width body.now value.now (world_of made.old)) }
+    ensures walk { Gives result (λ _. world_of made.new) (function_change number name.now function.now.params.now
+        function.now.width function.now.body.now function.now.value.now (world_of made.old)) }
     ensures grows { OnOk result (made.old.count.turns < made.new.count.turns) }
 {
     let count = match count_one(made.count, 0) {
@@ -312,7 +318,7 @@ fn function_item(
     if !is_new(&made.statics, &made.streams, name) {
         return Err(Stop::Offends(Offence::Breaks(Rule::Introduced)));
     }
-    let callee = match define(alloc, &mut made.statics, number, params, width, body, value) {
+    let callee = match define(alloc, &mut made.statics, number, function) {
         Err(stop) => return Err(stop),
         Ok(callee) => callee,
     };
@@ -364,7 +370,15 @@ pub fn walk_item(alloc: Global, made: &mut Made, number: u32, item: &Item) -> Re
             width,
             body,
             result,
-        } => { function_item(alloc, made, number, name, params, *width, body, result) }
+        } => {
+            let function = Function {
+                params,
+                width: *width,
+                body,
+                value: result,
+            };
+            function_item(alloc, made, number, name, &function)
+        }
         Item::Step(stmt) => step(alloc, made, stmt),
     }
 }

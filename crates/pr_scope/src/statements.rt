@@ -26,6 +26,39 @@ pub struct Span {
     pub count: Count,
 }
 
+/// A stream that a name is given to.
+#[derive(Clone, Copy)]
+pub struct Let<'a> {
+    pub target: &'a Ref,
+    pub width: Option<u64>,
+    pub value: &'a Expr,
+}
+
+/// A recurrence.
+#[derive(Clone, Copy)]
+pub struct Rec<'a> {
+    pub target: &'a Ref,
+    pub width: Option<u64>,
+    pub init: &'a Fixed,
+    pub body: &'a Expr,
+}
+
+/// A loop's index with its values, and whether the loop stands in a function's body.
+#[derive(Clone, Copy)]
+pub struct Loop<'a> {
+    pub index: &'a Name,
+    pub span: Span,
+    pub inside: bool,
+}
+
+/// A turn of a loop, at one value of its index.
+#[derive(Clone, Copy)]
+pub struct Turn<'a> {
+    pub index: &'a Name,
+    pub at: u64,
+    pub inside: bool,
+}
+
 /// Whether a declared width, where there is one, is a width.
 pub fn has_width(width: Option<u64>) -> bool
     ensures { result ≡ is_width width }
@@ -67,21 +100,20 @@ fn before_let(
     streams: &Streams,
     inside: bool,
     count: Count,
-    target: &Ref,
-    width: Option<u64>,
-    value: &Expr,
+    stmt: &Let,
 ) -> Result<Ready, Offence>
     ensures value { result
-        ≡ let_ready target.now width value.now (known_in statics.now) (streams_in streams.now) inside count }
+        ≡ let_ready stmt.now.target.now stmt.now.width stmt.now.value.now
+        (known_in statics.now) (streams_in streams.now) inside count }
     ensures grows { IfOk result (λ r. count.turns < r.count.turns) }
 {
     let count = count_one(count, 0)?;
-    let index = place(statics, target)?;
-    if !has_width(width) {
+    let index = place(statics, stmt.target)?;
+    if !has_width(stmt.width) {
         return Err(Offence::Breaks(Rule::Bounds));
     }
     let scene = Scene { own: None, inside };
-    let count = walk(statics, streams, &scene, count, value)?;
+    let count = walk(statics, streams, &scene, count, stmt.value)?;
     Ok(Ready {
         place: index,
         count,
@@ -132,38 +164,32 @@ fn let_stmt(
     streams: &mut Streams,
     inside: bool,
     count: Count,
-    target: &Ref,
-    width: Option<u64>,
-    value: &Expr,
+    stmt: &Let,
 ) -> Result<Count, Stop>
     ensures walk { Gives result (progress_of streams.new) (and_then
-        (let_ready target.now width value.now (known_in statics.now) (streams_in streams.old) inside count)
-        (completed target.now.name (known_in statics.now) (streams_in streams.old))) }
+        (let_ready stmt.now.target.now stmt.now.width stmt.now.value.now
+        (known_in statics.now) (streams_in streams.old) inside count)
+        (completed stmt.now.target.now.name (known_in statics.now) (streams_in streams.old))) }
     ensures grows { IfOk result (λ c. count.turns < c.turns) }
 {
-    match before_let(statics, streams, inside, count, target, width, value) {
+    match before_let(statics, streams, inside, count, stmt) {
         Err(offence) => Err(Stop::Offends(offence)),
-        Ok(ready) => complete(alloc, statics, streams, &target.name, ready),
+        Ok(ready) => complete(alloc, statics, streams, &stmt.target.name, ready),
     }
 }
 
-fn begin_rec(
-    statics: &Statics,
-    count: Count,
-    target: &Ref,
-    width: Option<u64>,
-    init: &Fixed,
-) -> Result<Ready, Offence>
-    ensures value { result ≡ rec_begun target.now width init.now (known_in statics.now) count }
+fn begin_rec(statics: &Statics, count: Count, stmt: &Rec) -> Result<Ready, Offence>
+    ensures value { result
+        ≡ rec_begun stmt.now.target.now stmt.now.width stmt.now.init.now (known_in statics.now) count }
     ensures grows { IfOk result (λ r. count.turns < r.count.turns) }
 {
     let count = count_one(count, 0)?;
-    let index = place(statics, target)?;
-    if !has_width(width) {
+    let index = place(statics, stmt.target)?;
+    if !has_width(stmt.width) {
         return Err(Offence::Breaks(Rule::Bounds));
     }
-    let number = constant(statics, init)?;
-    if !within_width(width, number) {
+    let number = constant(statics, stmt.init)?;
+    if !within_width(stmt.width, number) {
         return Err(Offence::Breaks(Rule::Recurrences));
     }
     Ok(Ready {
@@ -178,14 +204,14 @@ fn body_of_rec(
     streams: &Streams,
     inside: bool,
     begun: Ready,
-    name: &Name,
-    body: &Expr,
+    stmt: &Rec,
 ) -> Result<Ready, Stop>
     ensures walk { Gives result (λ r. r)
-        (rec_body name.now body.now (known_in statics.now) (streams_in streams.now) inside begun) }
+        (rec_body stmt.now.target.now.name stmt.now.body.now
+        (known_in statics.now) (streams_in streams.now) inside begun) }
     ensures grows { IfOk result (λ r. begun.count.turns ≤ r.count.turns) }
 {
-    match name.copy(alloc) {
+    match stmt.target.name.copy(alloc) {
         Err(error) => Err(Stop::Memory(error)),
         Ok(name) => {
             let own = Some(Instance {
@@ -193,7 +219,7 @@ fn body_of_rec(
                 index: begun.place,
             });
             let scene = Scene { own, inside };
-            match walk(statics, streams, &scene, begun.count, body) {
+            match walk(statics, streams, &scene, begun.count, stmt.body) {
                 Err(offence) => Err(Stop::Offends(offence)),
                 Ok(count) => Ok(Ready {
                     place: begun.place,
@@ -210,18 +236,16 @@ fn before_rec(
     streams: &Streams,
     inside: bool,
     count: Count,
-    target: &Ref,
-    width: Option<u64>,
-    init: &Fixed,
-    body: &Expr,
+    stmt: &Rec,
 ) -> Result<Ready, Stop>
     ensures walk { Gives result (λ r. r)
-        (rec_ready target.now width init.now body.now (known_in statics.now) (streams_in streams.now) inside count) }
+        (rec_ready stmt.now.target.now stmt.now.width stmt.now.init.now stmt.now.body.now
+        (known_in statics.now) (streams_in streams.now) inside count) }
     ensures grows { IfOk result (λ r. count.turns < r.count.turns) }
 {
-    match begin_rec(statics, count, target, width, init) {
+    match begin_rec(statics, count, stmt) {
         Err(offence) => Err(Stop::Offends(offence)),
-        Ok(begun) => body_of_rec(alloc, statics, streams, inside, begun, &target.name, body),
+        Ok(begun) => body_of_rec(alloc, statics, streams, inside, begun, stmt),
     }
 }
 
@@ -231,21 +255,17 @@ fn rec_stmt(
     streams: &mut Streams,
     inside: bool,
     count: Count,
-    target: &Ref,
-    width: Option<u64>,
-    init: &Fixed,
-    body: &Expr,
+    stmt: &Rec,
 ) -> Result<Count, Stop>
     ensures walk { Gives result (progress_of streams.new) (and_then
-        (rec_ready target.now width init.now body.now (known_in statics.now) (streams_in streams.old) inside count)
-        (completed target.now.name (known_in statics.now) (streams_in streams.old))) }
+        (rec_ready stmt.now.target.now stmt.now.width stmt.now.init.now stmt.now.body.now
+        (known_in statics.now) (streams_in streams.old) inside count)
+        (completed stmt.now.target.now.name (known_in statics.now) (streams_in streams.old))) }
     ensures grows { IfOk result (λ c. count.turns < c.turns) }
 {
-    match before_rec(
-        alloc, statics, streams, inside, count, target, width, init, body,
-    ) {
+    match before_rec(alloc, statics, streams, inside, count, stmt) {
         Err(stop) => Err(stop),
-        Ok(ready) => complete(alloc, statics, streams, &target.name, ready),
+        Ok(ready) => complete(alloc, statics, streams, &stmt.target.name, ready),
     }
 }
 
@@ -258,7 +278,8 @@ fn before_for(
     low: &Fixed,
     high: &Fixed,
 ) -> Result<Span, Offence>
-    ensures value { result ≡ for_ready index.now low.now high.now (known_in statics.now) (streams_in streams.now) count }
+    ensures value { result
+        ≡ for_ready index.now low.now high.now (known_in statics.now) (streams_in streams.now) count }
     ensures grows { IfOk result (λ s. count.turns < s.count.turns) }
     ensures free { OnOk result (known_in statics.now index.now ≡ None) }
 {
@@ -293,28 +314,44 @@ pub fn walk_stmt(
             target,
             width,
             value,
-        } => let_stmt(
-            alloc, statics, streams, inside, count, target, *width, value,
-        ),
+        } => {
+            let stmt = Let {
+                target,
+                width: *width,
+                value,
+            };
+            let_stmt(alloc, statics, streams, inside, count, &stmt)
+        }
         Stmt::Rec {
             target,
             width,
             init,
             body,
-        } => rec_stmt(
-            alloc, statics, streams, inside, count, target, *width, init, body,
-        ),
+        } => {
+            let stmt = Rec {
+                target,
+                width: *width,
+                init,
+                body,
+            };
+            rec_stmt(alloc, statics, streams, inside, count, &stmt)
+        }
         Stmt::For {
             index,
             low,
             high,
             body,
-        } => {
-            match before_for(statics, streams, count, index, low, high) {
-                Err(offence) => Err(Stop::Offends(offence)),
-                Ok(span) => walk_turns(alloc, statics, streams, inside, span, index, body),
+        } => match before_for(statics, streams, count, index, low, high) {
+            Err(offence) => Err(Stop::Offends(offence)),
+            Ok(span) => {
+                let all = Loop {
+                    index,
+                    span,
+                    inside,
+                };
+                walk_turns(alloc, statics, streams, &all, body)
             }
-        }
+        },
     }
 }
 
@@ -323,23 +360,27 @@ fn walk_turns(
     alloc: Global,
     statics: &mut Statics,
     streams: &mut Streams,
-    inside: bool,
-    span: Span,
-    index: &Name,
+    all: &Loop,
     body: &[Stmt],
 ) -> Result<Count, Stop>
-    requires { known_in statics.old index.now ≡ None }
+    requires { known_in statics.old all.now.index.now ≡ None }
     ensures walk { Gives result (progress_of streams.new)
-        (turns (span.high - span.low) span.low (turn index.now (map change_of body.now) (known_in statics.old) inside)
-        (progress_of streams.old span.count)) }
+        (turns (all.now.span.high - all.now.span.low) all.now.span.low
+        (turn all.now.index.now (map change_of body.now) (known_in statics.old) all.now.inside)
+        (progress_of streams.old all.now.span.count)) }
     ensures same { OnOk result (known_in statics.new ≡ known_in statics.old) }
     ensures names { OnOk result (KeepsNames statics.old statics.new) }
     ensures horizon { horizon_in statics.new ≡ horizon_in statics.old }
-    ensures grows { IfOk result (λ c. span.count.turns ≤ c.turns) }
+    ensures grows { IfOk result (λ c. all.now.span.count.turns ≤ c.turns) }
 {
-    let mut count = span.count;
-    for at in span.low..span.high {
-        match walk_turn(alloc, statics, streams, inside, count, index, at, body) {
+    let mut count = all.span.count;
+    for at in all.span.low..all.span.high {
+        let one = Turn {
+            index: all.index,
+            at,
+            inside: all.inside,
+        };
+        match walk_turn(alloc, statics, streams, count, &one, body) {
             Err(stop) => return Err(stop),
             Ok(after) => count = after,
         }
@@ -352,15 +393,14 @@ fn walk_turn(
     alloc: Global,
     statics: &mut Statics,
     streams: &mut Streams,
-    inside: bool,
     count: Count,
-    index: &Name,
-    at: u64,
+    one: &Turn,
     body: &[Stmt],
 ) -> Result<Count, Stop>
-    requires { known_in statics.old index.now ≡ None }
+    requires { known_in statics.old one.now.index.now ≡ None }
     ensures walk { Gives result (progress_of streams.new)
-        (turn index.now (map change_of body.now) (known_in statics.old) inside at (progress_of streams.old count)) }
+        (turn one.now.index.now (map change_of body.now) (known_in statics.old) one.now.inside one.now.at
+        (progress_of streams.old count)) }
     ensures same { OnOk result (known_in statics.new ≡ known_in statics.old) }
     ensures names { OnOk result (KeepsNames statics.old statics.new) }
     ensures horizon { horizon_in statics.new ≡ horizon_in statics.old }
@@ -370,11 +410,11 @@ fn walk_turn(
         Err(offence) => return Err(Stop::Offends(offence)),
         Ok(count) => count,
     };
-    match statics.set_index(alloc, index, at) {
+    match statics.set_index(alloc, one.index, one.at) {
         Err(error) => Err(Stop::Memory(error)),
         Ok(()) => {
-            let count = walk_stmts(alloc, statics, streams, inside, count, body)?;
-            statics.unset_index(index);
+            let count = walk_stmts(alloc, statics, streams, one.inside, count, body)?;
+            statics.unset_index(one.index);
             Ok(count)
         }
     }

@@ -1,4 +1,5 @@
--- A shift's amount is constant where it is built from numbers, constants, indices and entries of tables by `+`, `-`, `*` and parentheses alone.
+-- A shift's amount is constant where it is built from numbers, constants, indices and entries of tables by `+`, `-`,
+-- `*` and parentheses alone.
 use Rattle.std.specs.Prelude.{ℕ, Option, Some, None, Result, Ok, slice_get}
 use Rattle.pr_lang.specs.declared.trees.FixedOp.{FixedOp}
 use Rattle.pr_lang.specs.declared.trees.FixedOp.TheVariants as fixed
@@ -28,10 +29,12 @@ fixed_op _ = None
 abbrev pub named_amount : Option Static → Option Fixed → Known → Option (Result ℕ Offence)
 named_amount (Some (Constant n)) None known = Some (Ok n)
 named_amount (Some (Index n)) None known = Some (Ok n)
-named_amount (Some (Table entries)) (Some index) known = Some (and_then (constant_of index known) (λ place. entry_of (slice_get entries place)))
+named_amount (Some (Table entries)) (Some index) known =
+    Some (and_then (constant_of index known) (λ place. entry_of (slice_get entries place)))
 named_amount _ _ known = None
 
-abbrev pub both_amounts : Option FixedOp → Option (Result ℕ Offence) → Option (Result ℕ Offence) → Option (Result ℕ Offence)
+abbrev pub both_amounts : Option FixedOp → Option (Result ℕ Offence) → Option (Result ℕ Offence) →
+    Option (Result ℕ Offence)
 both_amounts (Some op) (Some a) (Some b) = Some (and_then a (λ x. and_then b (λ y. applied op x y)))
 both_amounts _ _ _ = None
 
@@ -39,7 +42,8 @@ both_amounts _ _ _ = None
 abbrev pub amount_step : {R : Type 0} → (R → Amount) → Expr-F R → Amount
 amount_step amount (Expr-F.Number n) known = Some (Ok n)
 amount_step amount (Expr-F.Refer r) known = named_amount (known r.name) r.index known
-amount_step amount (Expr-F.Binary op a b) known = both_amounts (fixed_op op) (amount a.value known) (amount b.value known)
+amount_step amount (Expr-F.Binary op a b) known =
+    both_amounts (fixed_op op) (amount a.value known) (amount b.value known)
 amount_step amount (Expr-F.Paren e) known = amount e.value known
 amount_step amount _ known = None
 

@@ -37,8 +37,10 @@ applied Mod a b = provided (not (nat_eq b 0)) Divisors (Ok (a % b))
 
 abbrev pub fixed_step : Fixed-F (Known → Result ℕ Offence) → Known → Result ℕ Offence
 fixed_step (Fixed-F.Number n) known = Ok n
-fixed_step (Fixed-F.Refer name index) known = and_then (optional (option_map (λ i. i.value known) index)) (λ place. read (known name) place)
-fixed_step (Fixed-F.Binary op a b) known = and_then (a.value known) (λ x. and_then (b.value known) (λ y. applied op x y))
+fixed_step (Fixed-F.Refer name index) known =
+    and_then (optional (option_map (λ i. i.value known) index)) (λ place. read (known name) place)
+fixed_step (Fixed-F.Binary op a b) known =
+    and_then (a.value known) (λ x. and_then (b.value known) (λ y. applied op x y))
 fixed_step (Fixed-F.Paren e) known = e.value known
 
 abbrev pub constant_of : Fixed → Known → Result ℕ Offence

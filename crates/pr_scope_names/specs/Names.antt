@@ -34,7 +34,9 @@ unbind name f = λ q. update bytes_eq f name None q
 
 -- before the first item only `signed` is visible
 unfoldable pub built_in : Known
-built_in = bind (codes "signed") (Function (record { item = None; params = 1; turns = 0; depth = 0; past = false })) (λ _. None)
+built_in =
+    bind (codes "signed") (Function (record { item = None; params = 1; turns = 0; depth = 0; past = false }))
+    (λ _. None)
 
 abbrev pub same_place : Option ℕ → Option ℕ → Bool
 same_place None None = true
@@ -53,7 +55,9 @@ abbrev pub with_place : List ℕ → Option ℕ → Streaming → Streaming
 with_place name place streams = bind name (λ q. same_place place q || held (streams name) q) streams
 
 abbrev pub assign : List ℕ → Option ℕ → Known → Streaming → Result Streaming Offence
-assign name place known streams = provided (is_none (known name) && not (held (streams name) place)) Introduced (Ok (with_place name place streams))
+assign name place known streams =
+    provided (is_none (known name) && not (held (streams name) place)) Introduced
+    (Ok (with_place name place streams))
 
 -- what the code keeps
 abbrev pub at_name : {X : Type 0} → BTreeMap (Vec ℕ Global) X → List ℕ → Option X
@@ -80,6 +84,10 @@ Entries = List ℕ → Option Entry
 -- what was visible where the item of this number begins
 abbrev pub before : ℕ → Entries → Known
 before item entries = λ q. what_before (Some item) (entries q)
+
+-- the item of this number introduces a name
+abbrev pub bind_by : ℕ → List ℕ → Static → Entries → Entries
+bind_by item name what entries = bind name (record { item = Some item; what = what }) entries
 
 abbrev pub entries_in : Statics → Entries
 entries_in s name = at_name s.entries name
@@ -140,3 +148,7 @@ streams_in s name = option_map are_there (instances_in s.instances name)
 -- what all items that are entered introduce
 abbrev pub whole : Entries → Known
 whole entries = λ q. what_before None (entries q)
+
+-- all that is introduced was visible where the item of this number begins
+abbrev pub SeesAll : ℕ → Entries → Type 0
+SeesAll item entries = before item entries ≡ whole entries

@@ -44,7 +44,9 @@ all_of (o ∷ os) = and_then o (λ n. and_then (all_of os) (λ ns. Ok (n ∷ ns)
 
 -- one more turn, and those of a function's body where it is a call
 abbrev pub counted : ℕ → Count → Result Count Offence
-counted body c = cond (nat_le (c.turns + 1 + body) 65536) (Ok (record { turns = c.turns + 1 + body; deepest = c.deepest })) (Err Turns)
+counted body c =
+    cond (nat_le (c.turns + 1 + body) 65536) (Ok (record { turns = c.turns + 1 + body; deepest = c.deepest }))
+    (Err Turns)
 
 abbrev pub IsOffence : {A : Type 0} → Stop → Result A Offence → Type 0
 IsOffence (Offends o) outcome = outcome ≡ Err o

@@ -52,7 +52,8 @@ fn entry_amount(statics: &Statics, known: &Static, index: &Fixed) -> Option<Resu
 }
 
 fn entry_value(statics: &Statics, known: &Static, index: &Fixed) -> Result<u64, Offence>
-    ensures { result ≡ and_then (constant_of index.now (known_in statics.now)) (λ place. read (Some known.now) (Some place)) }
+    ensures { result
+        ≡ and_then (constant_of index.now (known_in statics.now)) (λ place. read (Some known.now) (Some place)) }
 {
     let place = constant(statics, index)?;
     read_static(known, Some(place))

@@ -1,5 +1,5 @@
-//! What names stand for while the scope rules are looked at: streams, constants, tables, indices and functions, the value
-//! of a constant expression, and the count of turns.
+//! What names stand for while the scope rules are looked at: streams, constants, tables, indices and functions, the
+//! value of a constant expression, and the count of turns.
 #![tactic(auto)]
 
 mod amounts;

@@ -1,7 +1,7 @@
 //! The names that are known without any sample: constants, tables, indices and functions.
 ghost use Rattle.std.specs.Prelude.{◌≡◌, IfOk, None, OnErr, OnOk, Some, bytes_eq, option_map, slice_get};
 ghost use Rattle.std.specs.Map.{update};
-ghost use Rattle.pr_scope_names.specs.Names.{IsOutside, before, bind, built_in, entries_in, horizon_in, horizon_of, indices_in, indices_of, is_seen, known_in, unbind, what_before, whole};
+ghost use Rattle.pr_scope_names.specs.Names.{IsOutside, before, bind, bind_by, built_in, entries_in, horizon_in, horizon_of, indices_in, indices_of, is_seen, known_in, unbind, what_before, whole};
 
 use pr_lang::Name;
 use std::alloc::{AllocError, Global};
@@ -160,7 +160,7 @@ impl Statics {
         requires outside { IsOutside self.old }
         requires free { known_in self.old name.now ≡ None }
         ensures known { OnOk result (known_in self.new ≡ bind name.now what (known_in self.old)) }
-        ensures entries { OnOk result (entries_in self.new ≡ bind name.now (record { item = Some item; what = what }) (entries_in self.old)) }
+        ensures entries { OnOk result (entries_in self.new ≡ bind_by item name.now what (entries_in self.old)) }
         ensures same { OnErr result (entries_in self.new ≡ entries_in self.old) }
         ensures indices { indices_in self.new ≡ indices_in self.old }
         ensures horizon { horizon_in self.new ≡ horizon_in self.old }
@@ -213,7 +213,8 @@ impl Statics {
         index: Option<Static>,
     ) -> Result<Option<Static>, AllocError>
         ensures was { IfOk result (λ was. was ≡ indices_in self.old name.now) }
-        ensures indices { OnOk result (indices_in self.new ≡ (λ q. update bytes_eq (indices_in self.old) name.now index q)) }
+        ensures indices { OnOk result (indices_in self.new
+            ≡ (λ q. update bytes_eq (indices_in self.old) name.now index q)) }
         ensures same { OnErr result (indices_in self.new ≡ indices_in self.old) }
         ensures entries { entries_in self.new ≡ entries_in self.old }
         ensures horizon { horizon_in self.new ≡ horizon_in self.old }

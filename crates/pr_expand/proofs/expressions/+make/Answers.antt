@@ -1,20 +1,20 @@
 use Rattle.std.proofs.Common.{◌≡◌, ◌∙◌, ◌<◌, ℕ, IfErr, IfOk, List, take, [], ◌∷◌, option_map, Some, None, length, arith, refl, sym, ap, subst}
 use Rattle.pr_scope_names.specs.declared.names.Static.TheVariants.{Index}
-use Rattle.pr_scope_names.specs.Names.{Known, known_in}
+use Rattle.pr_scope_names.specs.Names.{known_in}
 use Rattle.pr_flat.specs.declared.equations.Op.TheVariants as op
 use Rattle.pr_flat.specs.Shape.{EquationShape, shapes_of}
 use Rattle.pr_scope_names.proofs.Seen.{names_on}
 use Rattle.pr_lang_meaning.specs.Expressions.{constant_shift, operator}
 use Rattle.pr_expand_spec.specs.declared.givens.Standing.TheVariants.{Own}
-use Rattle.pr_expand_spec.specs.Making.{Made, with_equation}
+use Rattle.pr_expand_spec.specs.Making.{Made, lawful, with_equation}
 use Rattle.pr_expand_spec.specs.Expressions.{Visible, assigned, declared_at_operator, place, plan_of}
 use Rattle.pr_expand_spec.specs.Statements.{Progress, changes_of, number_after, with_index, with_standing}
-use Rattle.pr_scope_facts.proofs.Appending.{appends-length, appends-with, assigned-appends, body-appends}
+use Rattle.pr_scope_facts.proofs.Appending.{appends-length, assigned-appends, body-appends}
 use Rattle.pr_expand.specs.Code.{IsPast, all_of, longer, made_of, progress_of, shapes_in, streams_in}
 use Rattle.pr_expand.specs.Scopes.{functions_before, visible_in}
 use Rattle.pr_expand.proofs.Callables.{called_is, callee_known, entered}
 use Rattle.pr_expand.proofs.Layers.{call_is, cat_is, for_is, parts_step, shift_is, stmts_step, three_is, turns_step, two_is}
-use Rattle.pr_expand.proofs.Limits.{args_within, assigned_within, begun_within, chosen_within, condition_within, first_within, longer_progress, operator_within, other_within, part_within, parts_within, passed_on, same_long, second_within, stmt_within, turn_within}
+use Rattle.pr_expand.proofs.Limits.{args_within, assigned_within, begun_within, chosen_within, condition_within, first_within, operator_within, other_within, part_within, parts_within, passed_on, same_long, second_within, stmt_within, turn_within}
 use Rattle.pr_expand.proofs.Recurrences.{body_as, body_within, counted_as, counted_number, counted_within, cut_shapes, longer_counted, rec_as, rec_last, shapes_cut, stands_as, stands_within, twice}
 use Rattle.pr_expand.proofs.Scenes.{index_back, known_swapped, scene_appends, scene_index, scene_kept, visible_kept}
 use Rattle.pr_expand.proofs.Weights.{args_lighter, body_lighter, call_heavy, chosen_lighter, condition_lighter, first_lighter, let_lighter, not_lighter, one_of, other_lighter, paren_lighter, parts_lighter, rec_lighter, second_lighter, slice_lighter, stmt_of, weight_entered, weight_in, weight_kept, weight_up_to}
@@ -112,19 +112,19 @@ make_turn-make_stmts-requires t c =
     let s = c.args.statics.now in
     let put = c.in_ok-was.ensures in
     let k : weight_in c.args.items.now c.swap_index.new.self ≡ weight_in c.args.items.now s = ap (weight_up_to c.args.items.now) put.horizon in
-    (omega (arith, c.decreases, k), scene_index c.args.items.now s c.swap_index.new.self c.args.index.now c.args.at put.entries put.horizon (known_swapped s c.swap_index.new.self c.args.index.now c.args.at put.entries put.horizon put.indices) c.requires)
+    (omega (arith, c.decreases, k), scene_index c.args.items.now s c.swap_index.new.self c.args.turn.now.index.now c.args.turn.now.at put.entries put.horizon (known_swapped s c.swap_index.new.self c.args.turn.now.index.now c.args.turn.now.at put.entries put.horizon put.indices) c.requires)
 
 pub make_turn-returns-clause-names : goal.make_turn-returns-clause-names
 make_turn-returns-clause-names t c =
     let put = c.in_ok-was.ensures in
     let out = c.in_ok-_turn.ensures in
-    index_back c.args.statics.now c.swap_index.new.self c.make_stmts.new.statics c.swap_index-2.new.self c.args.index.now (Index c.args.at) c.in_ok-was.was' put.was put.indices put.entries put.horizon c.in_ok-ended.ensures.names out.indices out.entries out.horizon
+    index_back c.args.statics.now c.swap_index.new.self c.make_stmts.new.statics c.swap_index-2.new.self c.args.turn.now.index.now (Index c.args.turn.now.at) c.in_ok-was.was' put.was put.indices put.entries put.horizon c.in_ok-ended.ensures.names out.indices out.entries out.horizon
 
 pub make_turn-returns-clause-value : goal.make_turn-returns-clause-value
 make_turn-returns-clause-value t c =
     let s = c.args.statics.now in
     let put = c.in_ok-was.ensures in
-    let known = known_swapped s c.swap_index.new.self c.args.index.now c.args.at put.entries put.horizon put.indices in
+    let known = known_swapped s c.swap_index.new.self c.args.turn.now.index.now c.args.turn.now.at put.entries put.horizon put.indices in
     c.in_ok-ended.ensures.value ∙ (λ i. changes_of c.args.body.now (record { known = known i; functions = functions_before c.args.items.now (put.horizon i) }) (progress_of c.args.begun))
 
 pub make_all-loop-expr-preserved : goal.make_all-loop-expr-preserved
@@ -140,12 +140,12 @@ pub make_turns-loop-at-preserved : goal.make_turns-loop-at-preserved
 make_turns-loop-at-preserved t c =
     let items = c.args.items.now in
     let v = visible_in items c.args.statics.now in
-    let f : ℕ → Progress → Progress = λ at. changes_of c.args.body.now (with_index c.args.index.now at v) in
+    let f : ℕ → Progress → Progress = λ at. changes_of c.args.body.now (with_index c.args.span.now.index.now at v) in
     let now = progress_of c.loop-at.now in
-    let step : progress_of c.in_ok-now.now ≡ f c.loop-at.at now = c.in_ok-now.ensures.value ∙ ap (λ (u : Visible). changes_of c.args.body.now (with_index c.args.index.now c.loop-at.at u) now) (visible_kept items c.args.statics.now c.loop-at.statics c.loop-at.invariant.names) in
+    let step : progress_of c.in_ok-now.now ≡ f c.loop-at.at now = c.in_ok-now.ensures.value ∙ ap (λ (u : Visible). changes_of c.args.body.now (with_index c.args.span.now.index.now c.loop-at.at u) now) (visible_kept items c.args.statics.now c.loop-at.statics c.loop-at.invariant.names) in
     record {
       names = names_on c.loop-at.invariant.names c.in_ok-now.ensures.names;
-      rest = turns_step f c.args.to c.loop-at.at now (progress_of c.in_ok-now.now) _ c.loop-at-test.true step c.loop-at.invariant.rest;
+      rest = turns_step f c.args.span.now.to c.loop-at.at now (progress_of c.in_ok-now.now) _ c.loop-at-test.true step c.loop-at.invariant.rest;
     }
 
 pub run-returns-clause-value : goal.run-returns-clause-value
@@ -155,7 +155,7 @@ run-returns-clause-value t c =
     let w = visible_in items c.make_stmts.new.statics in
     let body : progress_of c.in_ok-env.field-0 ≡ changes_of c.args.body.now v (progress_of c.args.begun) = c.in_ok-env.ensures.value in
     let same : w ≡ v = visible_kept items c.args.statics.now c.make_stmts.new.statics c.in_ok-env.ensures.names in
-    subst (λ (z : Made). IfOk c.make_assigned.result (λ m. made_of m ≡ z)) (λ i. assigned c.args.width c.args.last.now (same i) (body i).streams (body i).equations) c.make_assigned.ensures.value
+    subst (λ (z : Made). IfOk c.make_assigned.result (λ m. made_of m ≡ z)) (λ i. assigned c.args.last.now.width c.args.last.now.expr.now (same i) (body i).streams (body i).equations) c.make_assigned.ensures.value
 
 pub call-call_item-requires : goal.call-call_item-requires
 call-call_item-requires t c =
@@ -174,39 +174,40 @@ make_rec-returns-clause-value t c =
     let s = c.args.statics.now in
     let v = visible_in items s in
     let begun = progress_of c.args.begun in
-    let name = c.args.target.now.name in
-    let width = c.args.width in
-    let e = c.args.body.now in
-    let p = place c.args.target.now (known_in s) in
+    let name = c.args.stmt.now.target.now.name in
+    let width = c.args.stmt.now.body.width in
+    let e = c.args.stmt.now.body.expr.now in
+    let p = place c.args.stmt.now.target.now (known_in s) in
     let at = c.place_at-at.result in
-    let declared = c.declared-width.result in
+    let declared = lawful width in
     let grown = body-appends v (scene_appends items s c.requires) name p width e 0 begun in
     let n = number_after name p width e v begun in
-    let counts = counted_as v name width e begun p at declared (streams_in c.set.new.self) (made_of c.in_ok-counted.counted) c.place_at-at.ensures c.declared-width.ensures c.in_ok-set.ensures.stands c.in_ok-counted.ensures.value in
+    let counts = counted_as v name width e begun p at declared (streams_in c.set.new.self) (made_of c.in_ok-counted.counted) c.place_at-at.ensures refl c.in_ok-set.ensures.stands c.in_ok-counted.ensures.value in
     let length_is = counted_number c.in_ok-counted.counted.ledger.equations.items c.len-number.result (omega arith) in
     let first_is = counted_number c.args.begun.ledger.equations.items c.len-first.result (omega arith) in
     let start = cut_shapes c.in_ok-ledger.ledger.equations.items c.in_ok-counted.counted.ledger.equations.items c.args.begun.ledger.equations.items c.len-first.result (omega arith) c.in_ok-ledger.ensures in
     let kept = visible_kept items s c.make_body.new.statics c.in_ok-counted.ensures.names in
-    let body = body_as v (visible_in items c.make_body.new.statics) name width e begun p at declared c.len-number.result (streams_in c.set.new.self) (streams_in c.set-2.new.self) (made_of c.in_ok-counted.counted) (made_of c.in_ok-made.made) (shapes_in c.in_ok-ledger.ledger) grown.more c.place_at-at.ensures c.declared-width.ensures c.in_ok-set.ensures.stands c.in_ok-counted.ensures.value length_is start c.in_ok-set-2.ensures.stands kept c.in_ok-made.ensures.value grown.is in
+    let body = body_as v (visible_in items c.make_body.new.statics) name width e begun p at declared c.len-number.result (streams_in c.set.new.self) (streams_in c.set-2.new.self) (made_of c.in_ok-counted.counted) (made_of c.in_ok-made.made) (shapes_in c.in_ok-ledger.ledger) grown.more c.place_at-at.ensures refl c.in_ok-set.ensures.stands c.in_ok-counted.ensures.value length_is start c.in_ok-set-2.ensures.stands kept c.in_ok-made.ensures.value grown.is in
     let again = body-appends v (scene_appends items s c.requires) name p width e n begun in
     let number_is : c.len-number.result ≡ n = length_is ∙ ap (λ (m : Made). length m.equations) counts in
     let one : streams_in c.set.new.self ≡ with_standing name p (Own 0) begun.streams = c.in_ok-set.ensures.stands ∙ (λ i. with_standing name (c.place_at-at.ensures i) (Own 0) begun.streams) in
     let two : streams_in c.set-2.new.self ≡ with_standing name p (Own n) begun.streams = c.in_ok-set-2.ensures.stands ∙ ((λ i. with_standing name (c.place_at-at.ensures i) (Own (number_is i)) (one i)) ∙ twice name p (Own 0) (Own n) begun.streams) in
     let other = visible_kept items s c.make_body-2.new.statics (names_on c.in_ok-counted.ensures.names c.in_ok-made.ensures.names) in
-    let stands = stands_as v (visible_in items c.make_body-2.new.statics) name width e begun p at declared c.len-number.result c.len-first.result (streams_in c.set-2.new.self) (streams_in c.set-3.new.self) (made_of c.in_ok-made.made) _ (made_of c.in_ok-made-2.made) again.more c.place_at-at.ensures c.declared-width.ensures number_is first_is body two c.in_ok-set-3.ensures.stands other refl c.in_ok-made-2.ensures.value again.is in
+    let stands = stands_as v (visible_in items c.make_body-2.new.statics) name width e begun p at declared c.len-number.result c.len-first.result (streams_in c.set-2.new.self) (streams_in c.set-3.new.self) (made_of c.in_ok-made.made) _ (made_of c.in_ok-made-2.made) again.more c.place_at-at.ensures refl number_is first_is body two c.in_ok-set-3.ensures.stands other refl c.in_ok-made-2.ensures.value again.is in
     let three : streams_in c.set-3.new.self ≡ with_standing name p (Own 0) begun.streams = c.in_ok-set-3.ensures.stands ∙ ((λ i. with_standing name (c.place_at-at.ensures i) (Own 0) (two i)) ∙ twice name p (Own n) (Own 0) begun.streams) in
-    rec_as v c.args.target.now width c.args.init.now e begun at c.value_of-init.result declared (streams_in c.set-3.new.self) (streams_in c.set-4.new.self) (made_of c.in_ok-made-2.made) (made_of c.in_ok-made-3.made)
+    let whole = rec_as v c.args.stmt.now.target.now width c.args.stmt.now.init.now e begun at c.value_of-init.result c.declared-width.result (streams_in c.set-3.new.self) _ (made_of c.in_ok-made-2.made) (made_of c.in_ok-made-3.made)
     c.place_at-at.ensures c.value_of-init.ensures c.declared-width.ensures
     (λ x. (λ i. with_standing name p x (three i)) ∙ twice name p (Own 0) x begun.streams) stands
     (rec_last _ _ _ _ _ c.len-first.result (length begun.equations) first_is c.in_ok-made-3.ensures.value)
-    c.in_ok-set-4.ensures.stands
+    refl in
+    subst (λ (z : Progress). IfOk c.stands.result (λ p. progress_of p ≡ z)) whole c.stands.ensures.value
 
 pub make_rec-returns-in_err-counted-clause-limit : goal.make_rec-returns-in_err-counted-clause-limit
 make_rec-returns-in_err-counted-clause-limit t c =
     let v = visible_in c.args.items.now c.args.statics.now in
     let begun = progress_of c.args.begun in
     passed_on c.from_residual-in_err-counted.result c.in_err-counted.field-0.0 _ _ c.from_residual-in_err-counted.ensures.1
-    (counted_within v c.args.target.now c.args.width c.args.init.now c.args.body.now begun _ (counted_as v c.args.target.now.name c.args.width c.args.body.now begun (place c.args.target.now (known_in c.args.statics.now)) c.place_at-at.result c.declared-width.result (streams_in c.set.new.self) _ c.place_at-at.ensures c.declared-width.ensures c.in_ok-set.ensures.stands refl))
+    (counted_within v c.args.stmt.now.target.now c.args.stmt.now.body.width c.args.stmt.now.init.now c.args.stmt.now.body.expr.now begun _ (counted_as v c.args.stmt.now.target.now.name c.args.stmt.now.body.width c.args.stmt.now.body.expr.now begun (place c.args.stmt.now.target.now (known_in c.args.statics.now)) c.place_at-at.result (lawful c.args.stmt.now.body.width) (streams_in c.set.new.self) _ c.place_at-at.ensures refl c.in_ok-set.ensures.stands refl))
     c.in_err-counted.ensures.limit
 
 pub make_rec-returns-in_err-made-clause-limit : goal.make_rec-returns-in_err-made-clause-limit
@@ -215,21 +216,21 @@ make_rec-returns-in_err-made-clause-limit t c =
     let s = c.args.statics.now in
     let v = visible_in items s in
     let begun = progress_of c.args.begun in
-    let name = c.args.target.now.name in
-    let width = c.args.width in
-    let e = c.args.body.now in
-    let p = place c.args.target.now (known_in s) in
+    let name = c.args.stmt.now.target.now.name in
+    let width = c.args.stmt.now.body.width in
+    let e = c.args.stmt.now.body.expr.now in
+    let p = place c.args.stmt.now.target.now (known_in s) in
     let at = c.place_at-at.result in
-    let declared = c.declared-width.result in
+    let declared = lawful width in
     let grown = body-appends v (scene_appends items s c.requires) name p width e 0 begun in
     let n = number_after name p width e v begun in
-    let counts = counted_as v name width e begun p at declared (streams_in c.set.new.self) (made_of c.in_ok-counted.counted) c.place_at-at.ensures c.declared-width.ensures c.in_ok-set.ensures.stands c.in_ok-counted.ensures.value in
+    let counts = counted_as v name width e begun p at declared (streams_in c.set.new.self) (made_of c.in_ok-counted.counted) c.place_at-at.ensures refl c.in_ok-set.ensures.stands c.in_ok-counted.ensures.value in
     let length_is = counted_number c.in_ok-counted.counted.ledger.equations.items c.len-number.result (omega arith) in
     let first_is = counted_number c.args.begun.ledger.equations.items c.len-first.result (omega arith) in
     let start = cut_shapes c.in_ok-ledger.ledger.equations.items c.in_ok-counted.counted.ledger.equations.items c.args.begun.ledger.equations.items c.len-first.result (omega arith) c.in_ok-ledger.ensures in
     let kept = visible_kept items s c.make_body.new.statics c.in_ok-counted.ensures.names in
     passed_on c.from_residual-in_err-made.result c.in_err-made.field-0.0 _ _ c.from_residual-in_err-made.ensures.1
-    (body_within v c.args.target.now width c.args.init.now e begun _ (body_as v (visible_in items c.make_body.new.statics) name width e begun p at declared c.len-number.result (streams_in c.set.new.self) (streams_in c.set-2.new.self) (made_of c.in_ok-counted.counted) _ (shapes_in c.in_ok-ledger.ledger) grown.more c.place_at-at.ensures c.declared-width.ensures c.in_ok-set.ensures.stands c.in_ok-counted.ensures.value length_is start c.in_ok-set-2.ensures.stands kept refl grown.is))
+    (body_within v c.args.stmt.now.target.now width c.args.stmt.now.init.now e begun _ (body_as v (visible_in items c.make_body.new.statics) name width e begun p at declared c.len-number.result (streams_in c.set.new.self) (streams_in c.set-2.new.self) (made_of c.in_ok-counted.counted) _ (shapes_in c.in_ok-ledger.ledger) grown.more c.place_at-at.ensures refl c.in_ok-set.ensures.stands c.in_ok-counted.ensures.value length_is start c.in_ok-set-2.ensures.stands kept refl grown.is))
     c.in_err-made.ensures.limit
 
 pub make_rec-returns-in_err-made-2-clause-limit : goal.make_rec-returns-in_err-made-2-clause-limit
@@ -238,27 +239,27 @@ make_rec-returns-in_err-made-2-clause-limit t c =
     let s = c.args.statics.now in
     let v = visible_in items s in
     let begun = progress_of c.args.begun in
-    let name = c.args.target.now.name in
-    let width = c.args.width in
-    let e = c.args.body.now in
-    let p = place c.args.target.now (known_in s) in
+    let name = c.args.stmt.now.target.now.name in
+    let width = c.args.stmt.now.body.width in
+    let e = c.args.stmt.now.body.expr.now in
+    let p = place c.args.stmt.now.target.now (known_in s) in
     let at = c.place_at-at.result in
-    let declared = c.declared-width.result in
+    let declared = lawful width in
     let grown = body-appends v (scene_appends items s c.requires) name p width e 0 begun in
     let n = number_after name p width e v begun in
-    let counts = counted_as v name width e begun p at declared (streams_in c.set.new.self) (made_of c.in_ok-counted.counted) c.place_at-at.ensures c.declared-width.ensures c.in_ok-set.ensures.stands c.in_ok-counted.ensures.value in
+    let counts = counted_as v name width e begun p at declared (streams_in c.set.new.self) (made_of c.in_ok-counted.counted) c.place_at-at.ensures refl c.in_ok-set.ensures.stands c.in_ok-counted.ensures.value in
     let length_is = counted_number c.in_ok-counted.counted.ledger.equations.items c.len-number.result (omega arith) in
     let first_is = counted_number c.args.begun.ledger.equations.items c.len-first.result (omega arith) in
     let start = cut_shapes c.in_ok-ledger.ledger.equations.items c.in_ok-counted.counted.ledger.equations.items c.args.begun.ledger.equations.items c.len-first.result (omega arith) c.in_ok-ledger.ensures in
     let kept = visible_kept items s c.make_body.new.statics c.in_ok-counted.ensures.names in
-    let body = body_as v (visible_in items c.make_body.new.statics) name width e begun p at declared c.len-number.result (streams_in c.set.new.self) (streams_in c.set-2.new.self) (made_of c.in_ok-counted.counted) (made_of c.in_ok-made.made) (shapes_in c.in_ok-ledger.ledger) grown.more c.place_at-at.ensures c.declared-width.ensures c.in_ok-set.ensures.stands c.in_ok-counted.ensures.value length_is start c.in_ok-set-2.ensures.stands kept c.in_ok-made.ensures.value grown.is in
+    let body = body_as v (visible_in items c.make_body.new.statics) name width e begun p at declared c.len-number.result (streams_in c.set.new.self) (streams_in c.set-2.new.self) (made_of c.in_ok-counted.counted) (made_of c.in_ok-made.made) (shapes_in c.in_ok-ledger.ledger) grown.more c.place_at-at.ensures refl c.in_ok-set.ensures.stands c.in_ok-counted.ensures.value length_is start c.in_ok-set-2.ensures.stands kept c.in_ok-made.ensures.value grown.is in
     let again = body-appends v (scene_appends items s c.requires) name p width e n begun in
     let number_is : c.len-number.result ≡ n = length_is ∙ ap (λ (m : Made). length m.equations) counts in
     let one : streams_in c.set.new.self ≡ with_standing name p (Own 0) begun.streams = c.in_ok-set.ensures.stands ∙ (λ i. with_standing name (c.place_at-at.ensures i) (Own 0) begun.streams) in
     let two : streams_in c.set-2.new.self ≡ with_standing name p (Own n) begun.streams = c.in_ok-set-2.ensures.stands ∙ ((λ i. with_standing name (c.place_at-at.ensures i) (Own (number_is i)) (one i)) ∙ twice name p (Own 0) (Own n) begun.streams) in
     let other = visible_kept items s c.make_body-2.new.statics (names_on c.in_ok-counted.ensures.names c.in_ok-made.ensures.names) in
     passed_on c.from_residual-in_err-made-2.result c.in_err-made-2.field-0.0 _ _ c.from_residual-in_err-made-2.ensures.1
-    (stands_within v c.args.target.now width c.args.init.now e begun _ (stands_as v (visible_in items c.make_body-2.new.statics) name width e begun p at declared c.len-number.result c.len-first.result (streams_in c.set-2.new.self) (streams_in c.set-3.new.self) (made_of c.in_ok-made.made) _ _ again.more c.place_at-at.ensures c.declared-width.ensures number_is first_is body two c.in_ok-set-3.ensures.stands other refl refl again.is))
+    (stands_within v c.args.stmt.now.target.now width c.args.stmt.now.init.now e begun _ (stands_as v (visible_in items c.make_body-2.new.statics) name width e begun p at declared c.len-number.result c.len-first.result (streams_in c.set-2.new.self) (streams_in c.set-3.new.self) (made_of c.in_ok-made.made) _ _ again.more c.place_at-at.ensures refl number_is first_is body two c.in_ok-set-3.ensures.stands other refl refl again.is))
     c.in_err-made-2.ensures.limit
 
 pub make_rec-returns-in_err-made-3-clause-limit : goal.make_rec-returns-in_err-made-3-clause-limit
@@ -267,29 +268,29 @@ make_rec-returns-in_err-made-3-clause-limit t c =
     let s = c.args.statics.now in
     let v = visible_in items s in
     let begun = progress_of c.args.begun in
-    let name = c.args.target.now.name in
-    let width = c.args.width in
-    let e = c.args.body.now in
-    let p = place c.args.target.now (known_in s) in
+    let name = c.args.stmt.now.target.now.name in
+    let width = c.args.stmt.now.body.width in
+    let e = c.args.stmt.now.body.expr.now in
+    let p = place c.args.stmt.now.target.now (known_in s) in
     let at = c.place_at-at.result in
-    let declared = c.declared-width.result in
+    let declared = lawful width in
     let grown = body-appends v (scene_appends items s c.requires) name p width e 0 begun in
     let n = number_after name p width e v begun in
-    let counts = counted_as v name width e begun p at declared (streams_in c.set.new.self) (made_of c.in_ok-counted.counted) c.place_at-at.ensures c.declared-width.ensures c.in_ok-set.ensures.stands c.in_ok-counted.ensures.value in
+    let counts = counted_as v name width e begun p at declared (streams_in c.set.new.self) (made_of c.in_ok-counted.counted) c.place_at-at.ensures refl c.in_ok-set.ensures.stands c.in_ok-counted.ensures.value in
     let length_is = counted_number c.in_ok-counted.counted.ledger.equations.items c.len-number.result (omega arith) in
     let first_is = counted_number c.args.begun.ledger.equations.items c.len-first.result (omega arith) in
     let start = cut_shapes c.in_ok-ledger.ledger.equations.items c.in_ok-counted.counted.ledger.equations.items c.args.begun.ledger.equations.items c.len-first.result (omega arith) c.in_ok-ledger.ensures in
     let kept = visible_kept items s c.make_body.new.statics c.in_ok-counted.ensures.names in
-    let body = body_as v (visible_in items c.make_body.new.statics) name width e begun p at declared c.len-number.result (streams_in c.set.new.self) (streams_in c.set-2.new.self) (made_of c.in_ok-counted.counted) (made_of c.in_ok-made.made) (shapes_in c.in_ok-ledger.ledger) grown.more c.place_at-at.ensures c.declared-width.ensures c.in_ok-set.ensures.stands c.in_ok-counted.ensures.value length_is start c.in_ok-set-2.ensures.stands kept c.in_ok-made.ensures.value grown.is in
+    let body = body_as v (visible_in items c.make_body.new.statics) name width e begun p at declared c.len-number.result (streams_in c.set.new.self) (streams_in c.set-2.new.self) (made_of c.in_ok-counted.counted) (made_of c.in_ok-made.made) (shapes_in c.in_ok-ledger.ledger) grown.more c.place_at-at.ensures refl c.in_ok-set.ensures.stands c.in_ok-counted.ensures.value length_is start c.in_ok-set-2.ensures.stands kept c.in_ok-made.ensures.value grown.is in
     let again = body-appends v (scene_appends items s c.requires) name p width e n begun in
     let number_is : c.len-number.result ≡ n = length_is ∙ ap (λ (m : Made). length m.equations) counts in
     let one : streams_in c.set.new.self ≡ with_standing name p (Own 0) begun.streams = c.in_ok-set.ensures.stands ∙ (λ i. with_standing name (c.place_at-at.ensures i) (Own 0) begun.streams) in
     let two : streams_in c.set-2.new.self ≡ with_standing name p (Own n) begun.streams = c.in_ok-set-2.ensures.stands ∙ ((λ i. with_standing name (c.place_at-at.ensures i) (Own (number_is i)) (one i)) ∙ twice name p (Own 0) (Own n) begun.streams) in
     let other = visible_kept items s c.make_body-2.new.statics (names_on c.in_ok-counted.ensures.names c.in_ok-made.ensures.names) in
-    let stands = stands_as v (visible_in items c.make_body-2.new.statics) name width e begun p at declared c.len-number.result c.len-first.result (streams_in c.set-2.new.self) (streams_in c.set-3.new.self) (made_of c.in_ok-made.made) _ (made_of c.in_ok-made-2.made) again.more c.place_at-at.ensures c.declared-width.ensures number_is first_is body two c.in_ok-set-3.ensures.stands other refl c.in_ok-made-2.ensures.value again.is in
+    let stands = stands_as v (visible_in items c.make_body-2.new.statics) name width e begun p at declared c.len-number.result c.len-first.result (streams_in c.set-2.new.self) (streams_in c.set-3.new.self) (made_of c.in_ok-made.made) _ (made_of c.in_ok-made-2.made) again.more c.place_at-at.ensures refl number_is first_is body two c.in_ok-set-3.ensures.stands other refl c.in_ok-made-2.ensures.value again.is in
     let three : streams_in c.set-3.new.self ≡ with_standing name p (Own 0) begun.streams = c.in_ok-set-3.ensures.stands ∙ ((λ i. with_standing name (c.place_at-at.ensures i) (Own 0) (two i)) ∙ twice name p (Own n) (Own 0) begun.streams) in
-    let last = with_equation (op.Rec c.value_of-init.result c.len-first.result) (c.in_ok-made-2.made.given ∷ []) declared (shapes_in c.in_ok-made-2.made.ledger) in
-    let whole = rec_as v c.args.target.now width c.args.init.now e begun at c.value_of-init.result declared (streams_in c.set-3.new.self) _ (made_of c.in_ok-made-2.made) last
+    let last = with_equation (op.Rec c.value_of-init.result c.len-first.result) (c.in_ok-made-2.made.given ∷ []) c.declared-width.result (shapes_in c.in_ok-made-2.made.ledger) in
+    let whole = rec_as v c.args.stmt.now.target.now width c.args.stmt.now.init.now e begun at c.value_of-init.result c.declared-width.result (streams_in c.set-3.new.self) _ (made_of c.in_ok-made-2.made) last
     c.place_at-at.ensures c.value_of-init.ensures c.declared-width.ensures
     (λ x. (λ i. with_standing name p x (three i)) ∙ twice name p (Own 0) x begun.streams) stands
     (rec_last _ _ _ _ _ c.len-first.result (length begun.equations) first_is refl)
@@ -383,7 +384,7 @@ run-returns-clause-limit t c =
     let w = visible_in items c.make_stmts.new.statics in
     let body : progress_of c.in_ok-env.field-0 ≡ changes_of c.args.body.now v (progress_of c.args.begun) = c.in_ok-env.ensures.value in
     let same : w ≡ v = visible_kept items c.args.statics.now c.make_stmts.new.statics c.in_ok-env.ensures.names in
-    subst (λ (z : Made). IfErr c.make_assigned.result (λ s. IsPast s z.equations)) (λ i. assigned c.args.width c.args.last.now (same i) (body i).streams (body i).equations) c.make_assigned.ensures.limit
+    subst (λ (z : Made). IfErr c.make_assigned.result (λ s. IsPast s z.equations)) (λ i. assigned c.args.last.now.width c.args.last.now.expr.now (same i) (body i).streams (body i).equations) c.make_assigned.ensures.limit
 
 pub make-returns-in_err-a-in-Binary-clause-limit : goal.make-returns-in_err-a-in-Binary-clause-limit
 make-returns-in_err-a-in-Binary-clause-limit t c =
@@ -489,13 +490,13 @@ make_all-returns-in_err-part-clause-limit t c =
 pub make_assigned-returns-in_err-made-clause-limit : goal.make_assigned-returns-in_err-made-clause-limit
 make_assigned-returns-in_err-made-clause-limit t c =
     passed_on c.from_residual.result c.in_err-made.field-0.0 _ _ c.from_residual.ensures.1
-    (assigned_within c.args.width c.args.expr.now (visible_in c.args.items.now c.args.statics.now) (streams_in c.args.env.now) (shapes_in c.args.ledger))
+    (assigned_within c.args.value.now.width c.args.value.now.expr.now (visible_in c.args.items.now c.args.statics.now) (streams_in c.args.env.now) (shapes_in c.args.ledger))
     c.in_err-made.ensures.limit
 
 pub make_body-returns-in_err-made-clause-limit : goal.make_body-returns-in_err-made-clause-limit
 make_body-returns-in_err-made-clause-limit t c =
     passed_on c.from_residual.result c.in_err-made.field-0.0 _ _ c.from_residual.ensures.1
-    (operator_within (plan_of c.args.body.now).is_operator c.args.width ((plan_of c.args.body.now).making (visible_in c.args.items.now c.args.statics.now) (streams_in c.args.env.now) (shapes_in c.args.ledger)))
+    (operator_within (plan_of c.args.body.now.expr.now).is_operator (lawful c.args.body.now.width) ((plan_of c.args.body.now.expr.now).making (visible_in c.args.items.now c.args.statics.now) (streams_in c.args.env.now) (shapes_in c.args.ledger)))
     c.in_err-made.ensures.limit
 
 pub make_stmts-returns-in_err-at-clause-limit : goal.make_stmts-returns-in_err-at-clause-limit
@@ -515,7 +516,7 @@ make_turns-returns-in_err-now-clause-limit t c =
     let v = visible_in items s in
     let fs = scene_appends items s c.requires in
     passed_on c.from_residual.result c.in_err-now.field-0.0 _ _ c.from_residual.ensures.1
-    (turn_within v (visible_in items c.loop-at.statics) fs c.args.index.now c.args.body.now c.args.to c.loop-at.at (progress_of c.loop-at.now) _ c.loop-at-test.true (visible_kept items s c.loop-at.statics c.loop-at.invariant.names) c.loop-at.invariant.rest)
+    (turn_within v (visible_in items c.loop-at.statics) fs c.args.span.now.index.now c.args.body.now c.args.span.now.to c.loop-at.at (progress_of c.loop-at.now) _ c.loop-at-test.true (visible_kept items s c.loop-at.statics c.loop-at.invariant.names) c.loop-at.invariant.rest)
     c.in_err-now.ensures.limit
 
 pub make_turn-returns-in_err-ended-clause-limit : goal.make_turn-returns-in_err-ended-clause-limit
@@ -523,7 +524,7 @@ make_turn-returns-in_err-ended-clause-limit t c =
     let items = c.args.items.now in
     let s = c.args.statics.now in
     let put = c.in_ok-was.ensures in
-    let known = known_swapped s c.swap_index.new.self c.args.index.now c.args.at put.entries put.horizon put.indices in
+    let known = known_swapped s c.swap_index.new.self c.args.turn.now.index.now c.args.turn.now.at put.entries put.horizon put.indices in
     passed_on c.from_residual-in_err-ended.result c.in_err-ended.field-0.0 _ _ c.from_residual-in_err-ended.ensures.1
     (same_long _ _ (λ i. changes_of c.args.body.now (record { known = known i; functions = functions_before items (put.horizon i) }) (progress_of c.args.begun)))
     c.in_err-ended.ensures.limit
@@ -534,7 +535,7 @@ run-returns-in_err-env-clause-limit t c =
     let s = c.args.statics.now in
     let v = visible_in items s in
     passed_on c.from_residual.result c.in_err-env.field-0.0 _ _ c.from_residual.ensures.1
-    (let ended = changes_of c.args.body.now v (progress_of c.args.begun) in appends-length ended.equations _ (assigned-appends v (scene_appends items s c.requires) c.args.width c.args.last.now ended.streams ended.equations))
+    (let ended = changes_of c.args.body.now v (progress_of c.args.begun) in appends-length ended.equations _ (assigned-appends v (scene_appends items s c.requires) c.args.last.now.width c.args.last.now.expr.now ended.streams ended.equations))
     c.in_err-env.ensures.limit
 
 pub make_stmt-returns-in-For-clause-limit : goal.make_stmt-returns-in-For-clause-limit
@@ -546,19 +547,19 @@ make_stmt-returns-in-For-clause-limit t c =
 pub settle-returns-clause-value : goal.settle-returns-clause-value
 settle-returns-clause-value t c =
     let v = visible_in c.args.items.now c.args.statics.now in
-    let made_on : List EquationShape → Made = λ es. declared_at_operator (plan_of c.args.body.now).is_operator c.args.width ((plan_of c.args.body.now).making v (streams_in c.args.env.now) es) in
+    let made_on : List EquationShape → Made = λ es. declared_at_operator (plan_of c.args.counted.now.body.expr.now).is_operator (lawful c.args.counted.now.body.width) ((plan_of c.args.counted.now.body.expr.now).making v (streams_in c.args.env.now) es) in
     let es = c.args.made.ledger.equations.items in
-    let cut_is = shapes_cut c.in_ok-ledger.ledger.equations.items es c.args.first c.in_ok-ledger.ensures in
-    let less : c.len.result < c.args.counted = omega (arith, c.if-counted-len.false) in
-    let is : made_on (shapes_in c.in_ok-ledger.ledger) ≡ longer c.args.counted (made_on (take c.args.first (shapes_in c.args.made.ledger))) (made_of c.args.made) = ap made_on cut_is ∙ sym (longer_counted c.args.counted c.len.result (made_on (take c.args.first (shapes_of es))) es c.args.made.given less (omega arith)) in
+    let cut_is = shapes_cut c.in_ok-ledger.ledger.equations.items es c.args.counted.now.first c.in_ok-ledger.ensures in
+    let less : c.len.result < c.args.counted.now.number = omega (arith, c.if-counted-len.false) in
+    let is : made_on (shapes_in c.in_ok-ledger.ledger) ≡ longer c.args.counted.now.number (made_on (take c.args.counted.now.first (shapes_in c.args.made.ledger))) (made_of c.args.made) = ap made_on cut_is ∙ sym (longer_counted c.args.counted.now.number c.len.result (made_on (take c.args.counted.now.first (shapes_of es))) es c.args.made.given less (omega arith)) in
     subst (λ (x : Made). IfOk c.make_body.result (λ m. made_of m ≡ x)) is c.make_body.ensures.value
 
 pub settle-returns-clause-limit : goal.settle-returns-clause-limit
 settle-returns-clause-limit t c =
     let v = visible_in c.args.items.now c.args.statics.now in
-    let made_on : List EquationShape → Made = λ es. declared_at_operator (plan_of c.args.body.now).is_operator c.args.width ((plan_of c.args.body.now).making v (streams_in c.args.env.now) es) in
+    let made_on : List EquationShape → Made = λ es. declared_at_operator (plan_of c.args.counted.now.body.expr.now).is_operator (lawful c.args.counted.now.body.width) ((plan_of c.args.counted.now.body.expr.now).making v (streams_in c.args.env.now) es) in
     let es = c.args.made.ledger.equations.items in
-    let cut_is = shapes_cut c.in_ok-ledger.ledger.equations.items es c.args.first c.in_ok-ledger.ensures in
-    let less : c.len.result < c.args.counted = omega (arith, c.if-counted-len.false) in
-    let is : made_on (shapes_in c.in_ok-ledger.ledger) ≡ longer c.args.counted (made_on (take c.args.first (shapes_in c.args.made.ledger))) (made_of c.args.made) = ap made_on cut_is ∙ sym (longer_counted c.args.counted c.len.result (made_on (take c.args.first (shapes_of es))) es c.args.made.given less (omega arith)) in
+    let cut_is = shapes_cut c.in_ok-ledger.ledger.equations.items es c.args.counted.now.first c.in_ok-ledger.ensures in
+    let less : c.len.result < c.args.counted.now.number = omega (arith, c.if-counted-len.false) in
+    let is : made_on (shapes_in c.in_ok-ledger.ledger) ≡ longer c.args.counted.now.number (made_on (take c.args.counted.now.first (shapes_in c.args.made.ledger))) (made_of c.args.made) = ap made_on cut_is ∙ sym (longer_counted c.args.counted.now.number c.len.result (made_on (take c.args.counted.now.first (shapes_of es))) es c.args.made.given less (omega arith)) in
     subst (λ (x : Made). IfErr c.make_body.result (λ s. IsPast s x.equations)) is c.make_body.ensures.limit

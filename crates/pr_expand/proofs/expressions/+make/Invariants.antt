@@ -24,8 +24,8 @@ invariant-make_stmts-loop-stmt l = record {
 abbrev pub invariant-make_turns-loop-at : goal.invariant-make_turns-loop-at
 invariant-make_turns-loop-at l = record {
   names : KeepsNames l.fn.statics l.statics;
-  rest : turns (l.to - l.at) l.at (λ at. changes_of l.body (with_index l.index at (visible_in l.items l.fn.statics))) (progress_of l.now)
-      ≡ turns (l.to - l.from) l.from (λ at. changes_of l.body (with_index l.index at (visible_in l.items l.fn.statics))) (progress_of l.fn.begun);
+  rest : turns (l.span.to - l.at) l.at (λ at. changes_of l.body (with_index l.span.index.now at (visible_in l.items l.fn.statics))) (progress_of l.now)
+      ≡ turns (l.span.to - l.span.from) l.span.from (λ at. changes_of l.body (with_index l.span.index.now at (visible_in l.items l.fn.statics))) (progress_of l.fn.begun);
 }
 
 abbrev pub decreases-make : goal.decreases-make
@@ -35,19 +35,19 @@ abbrev pub decreases-make_all : goal.decreases-make_all
 decreases-make_all l = 16 * (weight_in l.items.now l.statics.now + weights l.exprs.now) + 1
 
 abbrev pub decreases-make_assigned : goal.decreases-make_assigned
-decreases-make_assigned l = 16 * (weight_in l.items.now l.statics.now + weight l.expr.now) + 1
+decreases-make_assigned l = 16 * (weight_in l.items.now l.statics.now + weight l.value.now.expr.now) + 1
 
 abbrev pub decreases-make_body : goal.decreases-make_body
-decreases-make_body l = 16 * (weight_in l.items.now l.statics.now + weight l.body.now) + 1
+decreases-make_body l = 16 * (weight_in l.items.now l.statics.now + weight l.body.now.expr.now) + 1
 
 abbrev pub decreases-settle : goal.decreases-settle
-decreases-settle l = 16 * (weight_in l.items.now l.statics.now + weight l.body.now) + 2
+decreases-settle l = 16 * (weight_in l.items.now l.statics.now + weight l.counted.now.body.expr.now) + 2
 
 abbrev pub decreases-make_let : goal.decreases-make_let
-decreases-make_let l = 16 * (weight_in l.items.now l.statics.now + weight l.value.now) + 2
+decreases-make_let l = 16 * (weight_in l.items.now l.statics.now + weight l.value.now.expr.now) + 2
 
 abbrev pub decreases-make_rec : goal.decreases-make_rec
-decreases-make_rec l = 16 * (weight_in l.items.now l.statics.now + weight l.body.now) + 3
+decreases-make_rec l = 16 * (weight_in l.items.now l.statics.now + weight l.stmt.now.body.expr.now) + 3
 
 abbrev pub decreases-make_stmt : goal.decreases-make_stmt
 decreases-make_stmt l = 16 * (weight_in l.items.now l.statics.now + stmt_weight l.stmt.now) + 3
@@ -62,7 +62,7 @@ abbrev pub decreases-make_turns : goal.decreases-make_turns
 decreases-make_turns l = 16 * (weight_in l.items.now l.statics.now + stmts_weight l.body.now) + 6
 
 abbrev pub decreases-run : goal.decreases-run
-decreases-run l = 16 * (weight_in l.items.now l.statics.now + (stmts_weight l.body.now + weight l.last.now)) + 5
+decreases-run l = 16 * (weight_in l.items.now l.statics.now + (stmts_weight l.body.now + weight l.last.now.expr.now)) + 5
 
 abbrev pub decreases-call_item : goal.decreases-call_item
 decreases-call_item l = 16 * (weight_in l.items.now l.statics.now + item_weight (option_map (λ i. i.now) l.item)) + 6

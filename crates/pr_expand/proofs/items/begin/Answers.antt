@@ -1,6 +1,4 @@
-use Rattle.std.proofs.Common.{◌≡◌, [], ap, IfOk}
 use Rattle.pr_flat.specs.Shape.{shapes_of}
-use Rattle.pr_expand_spec.specs.Statements.{Progress}
 use Rattle.pr_expand.proofs.Between.{before_first, world_first}
 use Rattle.pr_expand.proofs.items.begin.Goals as goal
 

@@ -1,6 +1,5 @@
-use Rattle.std.proofs.Common.{◌≡◌, Some, refl, subst}
+use Rattle.std.proofs.Common.{Some, refl, subst}
 use Rattle.pr_lang.specs.declared.trees.Item.TheVariants as item
-use Rattle.pr_expand_spec.specs.Expressions.{assigned}
 use Rattle.pr_expand.specs.Code.{progress_of}
 use Rattle.pr_expand.specs.Scopes.{visible_at, after}
 use Rattle.pr_lang.specs.declared.trees.Item.{Item}
@@ -17,13 +16,14 @@ introduce-requires-in-Table-clause-known c = table_known c.args.items.now c.args
 pub introduce-requires-in-Function-clause-known : goal.introduce-requires-in-Function-clause-known
 introduce-requires-in-Function-clause-known c = function_known c.args.items.now c.args.number c.args.item.now c.in-Function.name c.in-Function.params c.in-Function.width c.in-Function.body c.in-Function.result c.deref-in-Function.result.now _ c.requires.is c.in-Function.is c.deref-in-Function.ensures.value c.callee.ensures
 
-pub returns-in_ok-progress-in-Input-clause-at : goal.returns-in_ok-progress-in-Input-clause-at
-returns-in_ok-progress-in-Input-clause-at c = before_same c.args.items.now c.args.world.statics c.args.world.statics c.args.number (record { entries = refl; indices = refl; horizon = refl }) (same_known c.args.items.now c.args.number c.args.item.now _ c.requires.is c.in-Input.is refl) c.requires.at
+pub returns-in-Input-clause-at : goal.returns-in-Input-clause-at
+returns-in-Input-clause-at c = if_ok_three c.add_input.result c.add_input.ensures.names c.add_input.ensures.names c.add_input.ensures.names (λ w k _ _. before_same c.args.items.now c.args.world.statics w.statics c.args.number k (same_known c.args.items.now c.args.number c.args.item.now _ c.requires.is c.in-Input.is refl) c.requires.at)
 
-pub returns-in_ok-progress-in-Input-clause-value : goal.returns-in_ok-progress-in-Input-clause-value
-returns-in_ok-progress-in-Input-clause-value c =
+pub returns-in-Input-clause-value : goal.returns-in-Input-clause-value
+returns-in-Input-clause-value c =
     let v = visible_at c.args.items.now c.args.number in
-    next_world c.args.items.now c.args.number c.args.item.now (item.Input c.in-Input.name c.in-Input.width) _ _ (world_at c.args.items.now c.args.number c.args.world) c.requires.is c.in-Input.is (λ i. record { visible = v; progress = c.in_ok-progress-in-Input.ensures.value i; outputs = c.args.world.outputs.items })
+    if_ok_three c.add_input.result c.add_input.ensures.progress c.add_input.ensures.outputs c.add_input.ensures.names
+    (λ w p o _. next_world c.args.items.now c.args.number c.args.item.now (item.Input c.in-Input.name c.in-Input.width) _ _ (world_at c.args.items.now c.args.number c.args.world) c.requires.is c.in-Input.is (λ i. record { visible = v; progress = p i; outputs = (o i).items }))
 
 pub returns-in-Output-clause-at : goal.returns-in-Output-clause-at
 returns-in-Output-clause-at c = if_ok_three c.output_item.result c.output_item.ensures.names c.output_item.ensures.names c.output_item.ensures.names (λ w k _ _. before_same c.args.items.now c.args.world.statics w.statics c.args.number k (same_known c.args.items.now c.args.number c.args.item.now _ c.requires.is c.in-Output.is refl) c.requires.at)

@@ -1,5 +1,4 @@
-use Rattle.std.proofs.Common.{◌≡◌, ◌∙◌, ◌++◌, [], ◌∷◌, None, List, sym, ap}
-use Rattle.pr_flat.specs.declared.equations.Operand.{Operand}
+use Rattle.std.proofs.Common.{◌≡◌, ◌∙◌, ◌++◌, [], ◌∷◌, None, ap}
 use Rattle.pr_expand_spec.specs.Making.{Made}
 use Rattle.pr_expand_spec.specs.Expressions.{Visible, assigned}
 use Rattle.pr_expand_spec.specs.Statements.{named}
@@ -16,7 +15,7 @@ returns-clause-progress c =
     let env = streams_in c.args.world.progress.env in
     let es = shapes_in c.args.world.progress.ledger in
     let seen = visible_inside c.args.items.now c.args.world.statics c.enter-frame.new.self c.args.number c.requires c.enter-frame.ensures.known c.enter-frame.ensures.inside in
-    let made : made_of c.in_ok-made.made ≡ assigned c.args.width c.args.value.now (visible_at c.args.items.now c.args.number) env es = c.in_ok-made.ensures.value ∙ ap (λ (v : Visible). assigned c.args.width c.args.value.now v env es) seen in
+    let made : made_of c.in_ok-made.made ≡ assigned c.args.value.now.width c.args.value.now.expr.now (visible_at c.args.items.now c.args.number) env es = c.in_ok-made.ensures.value ∙ ap (λ (v : Visible). assigned c.args.value.now.width c.args.value.now.expr.now v env es) seen in
     c.in_ok-progress.ensures.value ∙ ap (named c.args.name.now None env) made
 
 pub returns-clause-outputs : goal.returns-clause-outputs
@@ -24,5 +23,5 @@ returns-clause-outputs c =
     let env = streams_in c.args.world.progress.env in
     let es = shapes_in c.args.world.progress.ledger in
     let seen = visible_inside c.args.items.now c.args.world.statics c.enter-frame.new.self c.args.number c.requires c.enter-frame.ensures.known c.enter-frame.ensures.inside in
-    let made : made_of c.in_ok-made.made ≡ assigned c.args.width c.args.value.now (visible_at c.args.items.now c.args.number) env es = c.in_ok-made.ensures.value ∙ ap (λ (v : Visible). assigned c.args.width c.args.value.now v env es) seen in
+    let made : made_of c.in_ok-made.made ≡ assigned c.args.value.now.width c.args.value.now.expr.now (visible_at c.args.items.now c.args.number) env es = c.in_ok-made.ensures.value ∙ ap (λ (v : Visible). assigned c.args.value.now.width c.args.value.now.expr.now v env es) seen in
     c.in-Ok.ensures.items ∙ ap (λ (m : Made). c.args.world.outputs.items ++ m.given.operand ∷ []) made

@@ -1,8 +1,4 @@
-use Rattle.std.proofs.Common.{◌∙◌, ap}
-use Rattle.pr_expand_spec.specs.Expressions.{Visible}
-use Rattle.pr_expand_spec.specs.Statements.{change_of}
-use Rattle.pr_expand.specs.Code.{progress_of}
-use Rattle.pr_expand.proofs.Between.{scene_inside, visible_inside}
+use Rattle.pr_expand.proofs.Between.{scene_inside}
 use Rattle.pr_expand.proofs.items.step_item.Goals as goal
 
 pub make_stmt-requires : goal.make_stmt-requires

@@ -1,4 +1,4 @@
-use Rattle.std.proofs.Common.{◌≡◌, ◌∙◌, ◌-◌, arith, rules, sym, ap}
+use Rattle.std.proofs.Common.{◌∙◌, ◌-◌, arith, rules, sym, ap}
 use Rattle.pr_flat.specs.Shape.{shapes_of}
 use Rattle.pr_expand_spec.specs.Making.{Equations, delay_from}
 use Rattle.pr_expand.proofs.Arguments.{last_set}

@@ -49,26 +49,26 @@ walk_stmts-loop-stmt-preserved t c =
 
 pub walk_turn-returns-in_ok-count-in-Ok-set_index-clause-names : goal.walk_turn-returns-in_ok-count-in-Ok-set_index-clause-names
 walk_turn-returns-in_ok-count-in-Ok-set_index-clause-names t c =
-    index_over c.args.statics.now c.set_index.new.self c.walk_stmts.new.statics c.unset_index.new.self c.args.index.now (Index c.args.at) c.requires c.in-Ok-set_index.ensures.indices c.in-Ok-set_index.ensures.entries c.in-Ok-set_index.ensures.horizon c.in_ok-count-in-Ok-set_index.ensures.names c.unset_index.ensures.indices c.unset_index.ensures.entries c.unset_index.ensures.horizon
+    index_over c.args.statics.now c.set_index.new.self c.walk_stmts.new.statics c.unset_index.new.self c.args.one.now.index.now (Index c.args.one.now.at) c.requires c.in-Ok-set_index.ensures.indices c.in-Ok-set_index.ensures.entries c.in-Ok-set_index.ensures.horizon c.in_ok-count-in-Ok-set_index.ensures.names c.unset_index.ensures.indices c.unset_index.ensures.entries c.unset_index.ensures.horizon
 
 pub walk_turn-returns-in_ok-count-in-Ok-set_index-clause-same : goal.walk_turn-returns-in_ok-count-in-Ok-set_index-clause-same
 walk_turn-returns-in_ok-count-in-Ok-set_index-clause-same t c =
     known_kept c.args.statics.now c.unset_index.new.self
-    (index_over c.args.statics.now c.set_index.new.self c.walk_stmts.new.statics c.unset_index.new.self c.args.index.now (Index c.args.at) c.requires c.in-Ok-set_index.ensures.indices c.in-Ok-set_index.ensures.entries c.in-Ok-set_index.ensures.horizon c.in_ok-count-in-Ok-set_index.ensures.names c.unset_index.ensures.indices c.unset_index.ensures.entries c.unset_index.ensures.horizon)
+    (index_over c.args.statics.now c.set_index.new.self c.walk_stmts.new.statics c.unset_index.new.self c.args.one.now.index.now (Index c.args.one.now.at) c.requires c.in-Ok-set_index.ensures.indices c.in-Ok-set_index.ensures.entries c.in-Ok-set_index.ensures.horizon c.in_ok-count-in-Ok-set_index.ensures.names c.unset_index.ensures.indices c.unset_index.ensures.entries c.unset_index.ensures.horizon)
 
 pub walk_turns-walk_turn-requires : goal.walk_turns-walk_turn-requires
-walk_turns-walk_turn-requires t c = (search rules, ap (λ (k : Known). k c.args.index.now) c.loop-at.invariant.same ∙ c.requires)
+walk_turns-walk_turn-requires t c = (search rules, ap (λ (k : Known). k c.args.all.now.index.now) c.loop-at.invariant.same ∙ c.requires)
 
 pub walk_turns-returns-in-Err-clause-walk : goal.walk_turns-returns-in-Err-clause-walk
 walk_turns-returns-in-Err-clause-walk t c =
-    let f : ℕ → Progress → Result Progress Offence = λ n p. turn c.args.index.now (map change_of c.args.body.now) (known_in c.args.statics.now) c.args.inside n p in
+    let f : ℕ → Progress → Result Progress Offence = λ n p. turn c.args.all.now.index.now (map change_of c.args.body.now) (known_in c.args.statics.now) c.args.all.now.inside n p in
     let s : Progress = record { streams = streams_in c.loop-at.streams; count = c.loop-at.count } in
     let stop : IsOffence c.in-Err.stop (f c.loop-at.at s) = rw (← c.loop-at.invariant.same) c.in-Err.ensures.walk in
-    turns_stop f c.args.span.high c.loop-at.at s _ c.in-Err.stop c.loop-at-test.true stop c.loop-at.invariant.rest
+    turns_stop f c.args.all.now.span.high c.loop-at.at s _ c.in-Err.stop c.loop-at-test.true stop c.loop-at.invariant.rest
 
 pub walk_turns-loop-at-preserved : goal.walk_turns-loop-at-preserved
 walk_turns-loop-at-preserved t c =
-    let f : ℕ → Progress → Result Progress Offence = λ n p. turn c.args.index.now (map change_of c.args.body.now) (known_in c.args.statics.now) c.args.inside n p in
+    let f : ℕ → Progress → Result Progress Offence = λ n p. turn c.args.all.now.index.now (map change_of c.args.body.now) (known_in c.args.statics.now) c.args.all.now.inside n p in
     let s : Progress = record { streams = streams_in c.loop-at.streams; count = c.loop-at.count } in
     let n : Progress = record { streams = streams_in c.walk_turn.new.streams; count = c.in-Ok.after } in
     let step : f c.loop-at.at s ≡ Ok n = rw (← c.loop-at.invariant.same) c.in-Ok.ensures.walk in
@@ -76,6 +76,6 @@ walk_turns-loop-at-preserved t c =
       same = c.in-Ok.ensures.same ∙ c.loop-at.invariant.same;
       names = names_on c.loop-at.invariant.names c.in-Ok.ensures.names;
       horizon = c.walk_turn.ensures.horizon ∙ c.loop-at.invariant.horizon;
-      rest = turns_step f c.args.span.high c.loop-at.at s n _ c.loop-at-test.true step c.loop-at.invariant.rest;
+      rest = turns_step f c.args.all.now.span.high c.loop-at.at s n _ c.loop-at-test.true step c.loop-at.invariant.rest;
       grows = omega (arith, c.in-Ok.ensures.grows);
     }

@@ -8,9 +8,9 @@ invariant-walk_turns-loop-at l = record {
   same : known_in l.statics ≡ known_in l.fn.statics;
   names : KeepsNames l.fn.statics l.statics;
   horizon : horizon_in l.statics ≡ horizon_in l.fn.statics;
-  rest : turns (l.at-end - l.at) l.at (turn l.index (map change_of l.body) (known_in l.fn.statics) l.inside) (record { streams = streams_in l.streams; count = l.count })
-      ≡ turns (l.fn.span.high - l.fn.span.low) l.fn.span.low (turn l.index (map change_of l.body) (known_in l.fn.statics) l.inside) (record { streams = streams_in l.fn.streams; count = l.fn.span.count });
-  grows : l.fn.span.count.turns ≤ l.count.turns;
+  rest : turns (l.at-end - l.at) l.at (turn l.all.index.now (map change_of l.body) (known_in l.fn.statics) l.all.inside) (record { streams = streams_in l.streams; count = l.count })
+      ≡ turns (l.all.span.high - l.all.span.low) l.all.span.low (turn l.all.index.now (map change_of l.body) (known_in l.fn.statics) l.all.inside) (record { streams = streams_in l.fn.streams; count = l.all.span.count });
+  grows : l.all.span.count.turns ≤ l.count.turns;
 }
 
 abbrev pub invariant-walk_stmts-loop-stmt : goal.invariant-walk_stmts-loop-stmt
