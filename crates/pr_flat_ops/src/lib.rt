@@ -11,4 +11,4 @@ mod widths;
 pub use operands::{natural, operate};
 pub use results::{choose, operate_one, operate_two};
 pub use wholes::fit;
-pub use widths::{natural_choice, natural_one, natural_two, number_width};
+pub use widths::{natural_choice, natural_one, natural_two, number_width, signed_one, signed_two};

@@ -101,8 +101,8 @@ pub fn wider(a: Form, b: Form) -> u16
     }
 }
 
-// the kind of the result of an operator on one operand
-fn signed_one(op: Op, a: Form) -> bool
+/// Whether the result of an operator on one operand is signed; how wide the operand is does not matter.
+pub fn signed_one(op: Op, a: Form) -> bool
     ensures { result ≡ gives_signed op (a ∷ []) }
 {
     match op {
@@ -111,8 +111,8 @@ fn signed_one(op: Op, a: Form) -> bool
     }
 }
 
-// the kind of the result of an operator on two operands
-fn signed_two(op: Op, a: Form, b: Form) -> bool
+/// Whether the result of an operator on two operands is signed; how wide these are does not matter.
+pub fn signed_two(op: Op, a: Form, b: Form) -> bool
     ensures { result ≡ gives_signed op (a ∷ b ∷ []) }
 {
     match op {
