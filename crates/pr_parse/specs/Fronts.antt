@@ -17,10 +17,13 @@ abbrev pub let_part : Part
 let_part = key Let ⨟ rule TheTarget ⨟ rule TheWidth ⨟ mark Assign ⨟ rule TheExpr ⨟ mark Semi ⨟ make MakeLet
 
 abbrev pub rec_part : Part
-rec_part = key Rec ⨟ rule TheTarget ⨟ rule TheWidth ⨟ mark Assign ⨟ fixed ⨟ key By ⨟ rule TheExpr ⨟ mark Semi ⨟ make MakeRec
+rec_part =
+    key Rec ⨟ rule TheTarget ⨟ rule TheWidth ⨟ mark Assign ⨟ fixed ⨟ key By ⨟ rule TheExpr ⨟ mark Semi ⨟ make MakeRec
 
 abbrev pub for_part : Part
-for_part = key For ⨟ name ⨟ key Within ⨟ fixed ⨟ mark Dots ⨟ fixed ⨟ mark OpenCurly ⨟ rule (AnyOf Stmts) ⨟ mark CloseCurly ⨟ make MakeFor
+for_part =
+    key For ⨟ name ⨟ key Within ⨟ fixed ⨟ mark Dots ⨟ fixed ⨟
+    mark OpenCurly ⨟ rule (AnyOf Stmts) ⨟ mark CloseCurly ⨟ make MakeFor
 
 abbrev pub input_part : Part
 input_part = key Input ⨟ name ⨟ mark Colon ⨟ number ⨟ mark Semi ⨟ make MakeInput
@@ -29,7 +32,12 @@ abbrev pub output_part : Part
 output_part = key Output ⨟ name ⨟ rule TheWidth ⨟ mark Assign ⨟ rule TheExpr ⨟ mark Semi ⨟ make MakeOutput
 
 abbrev pub const_part : Part
-const_part = key Const ⨟ name ⨟ mark Assign ⨟ (fixed ∣ (mark OpenSquare ⨟ rule (ListOf Entries) ⨟ mark CloseSquare ⨟ make MakeTable)) ⨟ mark Semi ⨟ make MakeConst
+const_part =
+    key Const ⨟ name ⨟ mark Assign ⨟
+    (fixed ∣ (mark OpenSquare ⨟ rule (ListOf Entries) ⨟ mark CloseSquare ⨟ make MakeTable)) ⨟
+    mark Semi ⨟ make MakeConst
 
 abbrev pub function_part : Part
-function_part = key Fn ⨟ name ⨟ mark OpenRound ⨟ rule (MaybeListOf Params) ⨟ mark CloseRound ⨟ rule TheWidth ⨟ mark OpenCurly ⨟ rule (AnyOf Stmts) ⨟ key Return ⨟ rule TheExpr ⨟ mark Semi ⨟ mark CloseCurly ⨟ make MakeFunction
+function_part =
+    key Fn ⨟ name ⨟ mark OpenRound ⨟ rule (MaybeListOf Params) ⨟ mark CloseRound ⨟ rule TheWidth ⨟
+    mark OpenCurly ⨟ rule (AnyOf Stmts) ⨟ key Return ⨟ rule TheExpr ⨟ mark Semi ⨟ mark CloseCurly ⨟ make MakeFunction

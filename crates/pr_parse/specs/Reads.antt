@@ -1,5 +1,5 @@
 -- What a reader of the code is to the machine.
-use Rattle.std.specs.Prelude.{ℕ, ◌≡◌, ◌<◌, ◌≤◌, Bool, true, false, Option, Some, None, List, [], ◌∷◌, ◌++◌, length}
+use Rattle.std.specs.Prelude.{ℕ, ◌≡◌, ◌<◌, ◌≤◌, Bool, true, false, Option, Some, None, MatchOption, List, [], ◌∷◌, ◌++◌, length, map}
 use Rattle.pr_lang.specs.declared.tokens.Symbol.{Symbol}
 use Rattle.pr_lang.specs.declared.tokens.Token.{Token}
 use Rattle.pr_lang.specs.Word.{Word, words, symbol, symbol_tag, among, Pattern, one_of, takes}
@@ -12,7 +12,8 @@ use Rattle.pr_parse.specs.Run.{run, WrongAt}
 
 -- of the part, read from the tokens ks, the parts qs are still expected at the tokens rest, and the trees us were read
 pub record Sofar (p : Part) (text : List ℕ) (ks rest : List Token) (qs : List Part) (us : List Tree) : Type 0 where
-  pub runs : (ps : List Part) (ts : List Tree) → run (words text ks) (p ∷ ps) ts ≡ run (words text rest) (qs ++ ps) (us ++ ts)
+  pub runs : (ps : List Part) (ts : List Tree) →
+      run (words text ks) (p ∷ ps) ts ≡ run (words text rest) (qs ++ ps) (us ++ ts)
   pub within : length rest ≤ length ks
 
 -- the part was read whole, with one tree
@@ -43,6 +44,12 @@ pub record IsTaken (w : Word) (text : List ℕ) (ks rest : List Token) : Type 0 
 pub record IsNotTaken (p : Pattern) (text : List ℕ) (ks : List Token) (e : Fault) : Type 0 where
   pub place : e ≡ fault.Wrong (length ks)
   pub other : takes p (next (words text ks)) ≡ false
+
+-- the operator of these whose sign has this number, or that none has it
+abbrev pub IsFound : {Op : Type 0} → (Op → Symbol) → List Op → ℕ → Option Op → Type 0
+IsFound sign ops tag found =
+    MatchOption found (among tag (map sign ops) ≡ false)
+    (λ op. (tag ≡ symbol_tag (sign op)) × (among tag (map sign ops) ≡ true))
 
 -- an operator of these is taken, or none of them stands there
 abbrev pub IsOperator : List Symbol → List ℕ → List Token → Option (Symbol × List Token) → Type 0

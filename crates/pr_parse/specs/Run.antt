@@ -24,7 +24,8 @@ act MakeInput (semi ∷ w ∷ colon ∷ x ∷ keyword ∷ ts) = tree.input x w �
 act MakeOutput (semi ∷ e ∷ assign ∷ w ∷ x ∷ keyword ∷ ts) = tree.output x w e ∷ ts
 act MakeTable (close ∷ l ∷ start ∷ ts) = tree.table l ∷ ts
 act MakeConst (semi ∷ c ∷ assign ∷ x ∷ keyword ∷ ts) = tree.const x c ∷ ts
-act MakeFunction (end ∷ semi ∷ e ∷ return ∷ b ∷ curly ∷ w ∷ close ∷ p ∷ start ∷ x ∷ keyword ∷ ts) = tree.function x p w b e ∷ ts
+act MakeFunction (end ∷ semi ∷ e ∷ return ∷ b ∷ curly ∷ w ∷ close ∷ p ∷ start ∷ x ∷ keyword ∷ ts) =
+    tree.function x p w b e ∷ ts
 act MakeLet (semi ∷ e ∷ assign ∷ w ∷ r ∷ keyword ∷ ts) = tree.let_stmt r w e ∷ ts
 act MakeRec (semi ∷ e ∷ by ∷ c ∷ assign ∷ w ∷ r ∷ keyword ∷ ts) = tree.rec_stmt r w c e ∷ ts
 act MakeFor (end ∷ b ∷ curly ∷ d ∷ dots ∷ c ∷ within ∷ x ∷ keyword ∷ ts) = tree.for_stmt x c d b ∷ ts

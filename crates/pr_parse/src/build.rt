@@ -19,7 +19,8 @@ pub fn name(alloc: Global, bytes: &[u8]) -> Result<Name, Fault>
 }
 
 pub fn fixed_binary(alloc: Global, op: FixedOp, left: Fixed, right: Fixed) -> Result<Fixed, Fault>
-    ensures ok { IfOk result (λ e. fixed_shape e ≡ tree.binary (sign_tree (fixed_sign_of op)) (fixed_shape left) (fixed_shape right)) }
+    ensures ok { IfOk result (λ e. fixed_shape e
+        ≡ tree.binary (sign_tree (fixed_sign_of op)) (fixed_shape left) (fixed_shape right)) }
     ensures err { IfErr result (λ e. e ≡ Memory) }
 {
     let left = Box::new(alloc, left)?;
@@ -95,7 +96,8 @@ pub fn let_stmt(target: Ref, width: Option<u64>, value: Expr) -> Stmt
 }
 
 pub fn rec_stmt(target: Ref, width: Option<u64>, init: Fixed, body: Expr) -> Stmt
-    ensures { stmt_shape result ≡ tree.rec_stmt (ref_shape target) (width_tree width) (fixed_shape init) (expr_shape body) }
+    ensures { stmt_shape result
+        ≡ tree.rec_stmt (ref_shape target) (width_tree width) (fixed_shape init) (expr_shape body) }
 {
     Stmt::Rec {
         target,
@@ -106,7 +108,8 @@ pub fn rec_stmt(target: Ref, width: Option<u64>, init: Fixed, body: Expr) -> Stm
 }
 
 pub fn for_stmt(index: Name, low: Fixed, high: Fixed, body: Vec<Stmt>) -> Stmt
-    ensures { stmt_shape result ≡ tree.for_stmt (name_tree index) (fixed_shape low) (fixed_shape high) (listed (map stmt_shape body.items)) }
+    ensures { stmt_shape result
+        ≡ tree.for_stmt (name_tree index) (fixed_shape low) (fixed_shape high) (listed (map stmt_shape body.items)) }
 {
     Stmt::For {
         index,
@@ -125,7 +128,8 @@ pub fn boxed(alloc: Global, expr: Expr) -> Result<Box<Expr>, Fault>
 }
 
 pub fn binary(alloc: Global, op: BinOp, left: Box<Expr>, right: Expr) -> Result<Expr, Fault>
-    ensures ok { IfOk result (λ e. expr_shape e ≡ tree.binary (sign_tree (sign_of op)) (expr_shape left.value) (expr_shape right)) }
+    ensures ok { IfOk result (λ e. expr_shape e
+        ≡ tree.binary (sign_tree (sign_of op)) (expr_shape left.value) (expr_shape right)) }
     ensures err { IfErr result (λ e. e ≡ Memory) }
 {
     let right = Box::new(alloc, right)?;
@@ -133,7 +137,8 @@ pub fn binary(alloc: Global, op: BinOp, left: Box<Expr>, right: Expr) -> Result<
 }
 
 pub fn choose(alloc: Global, test: Box<Expr>, yes: Box<Expr>, no: Expr) -> Result<Expr, Fault>
-    ensures ok { IfOk result (λ e. expr_shape e ≡ tree.choose (expr_shape test.value) (expr_shape yes.value) (expr_shape no)) }
+    ensures ok { IfOk result (λ e. expr_shape e
+        ≡ tree.choose (expr_shape test.value) (expr_shape yes.value) (expr_shape no)) }
     ensures err { IfErr result (λ e. e ≡ Memory) }
 {
     let no = Box::new(alloc, no)?;
@@ -173,7 +178,8 @@ pub fn cat(parts: Vec<Expr>) -> Expr
 
 /// One statement more.
 pub fn more_stmts(mut stmts: Vec<Stmt>, stmt: Stmt) -> Result<Vec<Stmt>, Fault>
-    ensures ok { IfOk result (λ v. listed (map stmt_shape v.items) ≡ tree.more (listed (map stmt_shape stmts.items)) (stmt_shape stmt)) }
+    ensures ok { IfOk result (λ v. listed (map stmt_shape v.items)
+        ≡ tree.more (listed (map stmt_shape stmts.items)) (stmt_shape stmt)) }
     ensures err { IfErr result (λ e. e ≡ Memory) }
 {
     stmts.push(stmt)?;
@@ -182,7 +188,8 @@ pub fn more_stmts(mut stmts: Vec<Stmt>, stmt: Stmt) -> Result<Vec<Stmt>, Fault>
 
 /// One item more.
 pub fn more_items(mut items: Vec<Item>, item: Item) -> Result<Vec<Item>, Fault>
-    ensures ok { IfOk result (λ v. listed (map item_shape v.items) ≡ tree.more (listed (map item_shape items.items)) (item_shape item)) }
+    ensures ok { IfOk result (λ v. listed (map item_shape v.items)
+        ≡ tree.more (listed (map item_shape items.items)) (item_shape item)) }
     ensures err { IfErr result (λ e. e ≡ Memory) }
 {
     items.push(item)?;
@@ -203,7 +210,8 @@ pub fn one_expr(alloc: Global, expr: Expr) -> Result<Vec<Expr>, Fault>
 /// One more after a comma.
 pub fn more_exprs(mut list: Vec<Expr>, expr: Expr) -> Result<Vec<Expr>, Fault>
     requires { 0 < length list.items }
-    ensures ok { IfOk result (λ v. comma_listed (map expr_shape v.items) ≡ tree.also (comma_listed (map expr_shape list.items)) (expr_shape expr)) }
+    ensures ok { IfOk result (λ v. comma_listed (map expr_shape v.items)
+        ≡ tree.also (comma_listed (map expr_shape list.items)) (expr_shape expr)) }
     ensures some { IfOk result (λ v. 0 < length v.items) }
     ensures err { IfErr result (λ e. e ≡ Memory) }
 {
@@ -225,7 +233,8 @@ pub fn one_fixed(alloc: Global, fixed: Fixed) -> Result<Vec<Fixed>, Fault>
 /// One more after a comma.
 pub fn more_fixed(mut list: Vec<Fixed>, fixed: Fixed) -> Result<Vec<Fixed>, Fault>
     requires { 0 < length list.items }
-    ensures ok { IfOk result (λ v. comma_listed (map fixed_shape v.items) ≡ tree.also (comma_listed (map fixed_shape list.items)) (fixed_shape fixed)) }
+    ensures ok { IfOk result (λ v. comma_listed (map fixed_shape v.items)
+        ≡ tree.also (comma_listed (map fixed_shape list.items)) (fixed_shape fixed)) }
     ensures some { IfOk result (λ v. 0 < length v.items) }
     ensures err { IfErr result (λ e. e ≡ Memory) }
 {
@@ -247,7 +256,8 @@ pub fn one_param(alloc: Global, param: Param) -> Result<Vec<Param>, Fault>
 /// One more after a comma.
 pub fn more_params(mut list: Vec<Param>, param: Param) -> Result<Vec<Param>, Fault>
     requires { 0 < length list.items }
-    ensures ok { IfOk result (λ v. comma_listed (map param_shape v.items) ≡ tree.also (comma_listed (map param_shape list.items)) (param_shape param)) }
+    ensures ok { IfOk result (λ v. comma_listed (map param_shape v.items)
+        ≡ tree.also (comma_listed (map param_shape list.items)) (param_shape param)) }
     ensures some { IfOk result (λ v. 0 < length v.items) }
     ensures err { IfErr result (λ e. e ≡ Memory) }
 {

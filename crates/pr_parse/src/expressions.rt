@@ -67,7 +67,8 @@ fn operand<'a>(
     tokens: &'a [Token],
     at: Level,
 ) -> Result<(Expr, &'a [Token]), Fault>
-    ensures ok { IfOk result (λ x. IsRead (rule (operand_of (level_seen at))) text.now tokens.now x.1.now (expr_shape x.0)) }
+    ensures ok { IfOk result (λ x. IsRead (rule (operand_of (level_seen at))) text.now tokens.now x.1.now
+        (expr_shape x.0)) }
     ensures err { IfErr result (λ e. Fails (rule (operand_of (level_seen at))) text.now tokens.now e) }
 {
     match at {
@@ -224,7 +225,8 @@ fn arguments<'a>(
     text: &[u8],
     tokens: &'a [Token],
 ) -> Result<(Vec<Expr>, &'a [Token]), Fault>
-    ensures ok { IfOk result (λ x. IsRead (rule (MaybeListOf Exprs)) text.now tokens.now x.1.now (comma_listed (map expr_shape x.0.items))) }
+    ensures ok { IfOk result (λ x. IsRead (rule (MaybeListOf Exprs)) text.now tokens.now x.1.now
+        (comma_listed (map expr_shape x.0.items))) }
     ensures err { IfErr result (λ e. Fails (rule (MaybeListOf Exprs)) text.now tokens.now e) }
 {
     if !begins_expr(next_kind(tokens)) {
@@ -240,7 +242,8 @@ fn exprs<'a>(
     text: &[u8],
     tokens: &'a [Token],
 ) -> Result<(Vec<Expr>, &'a [Token]), Fault>
-    ensures ok { IfOk result (λ x. IsRead (rule (ListOf Exprs)) text.now tokens.now x.1.now (comma_listed (map expr_shape x.0.items))) }
+    ensures ok { IfOk result (λ x. IsRead (rule (ListOf Exprs)) text.now tokens.now x.1.now
+        (comma_listed (map expr_shape x.0.items))) }
     ensures err { IfErr result (λ e. Fails (rule (ListOf Exprs)) text.now tokens.now e) }
 {
     let (first, mut rest) = expr(alloc, text, tokens)?;

@@ -146,7 +146,8 @@ pub fn entries<'a>(
     text: &[u8],
     tokens: &'a [Token],
 ) -> Result<(Vec<Fixed>, &'a [Token]), Fault>
-    ensures ok { IfOk result (λ x. IsRead (rule (ListOf Entries)) text.now tokens.now x.1.now (comma_listed (map fixed_shape x.0.items))) }
+    ensures ok { IfOk result (λ x. IsRead (rule (ListOf Entries)) text.now tokens.now x.1.now
+        (comma_listed (map fixed_shape x.0.items))) }
     ensures err { IfErr result (λ e. Fails (rule (ListOf Entries)) text.now tokens.now e) }
 {
     let (first, mut rest) = fixed(alloc, text, tokens)?;

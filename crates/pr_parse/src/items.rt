@@ -34,7 +34,8 @@ fn items<'a>(
     text: &[u8],
     tokens: &'a [Token],
 ) -> Result<(Vec<Item>, &'a [Token]), Fault>
-    ensures ok { IfOk result (λ x. IsRead (rule (AnyOf Items)) text.now tokens.now x.1.now (listed (map item_shape x.0.items))) }
+    ensures ok { IfOk result (λ x. IsRead (rule (AnyOf Items)) text.now tokens.now x.1.now
+        (listed (map item_shape x.0.items))) }
     ensures err { IfErr result (λ e. Fails (rule (AnyOf Items)) text.now tokens.now e) }
 {
     let mut list = Vec::new(alloc);
@@ -149,7 +150,8 @@ fn params<'a>(
     text: &[u8],
     tokens: &'a [Token],
 ) -> Result<(Vec<Param>, &'a [Token]), Fault>
-    ensures ok { IfOk result (λ x. IsRead (rule (MaybeListOf Params)) text.now tokens.now x.1.now (comma_listed (map param_shape x.0.items))) }
+    ensures ok { IfOk result (λ x. IsRead (rule (MaybeListOf Params)) text.now tokens.now x.1.now
+        (comma_listed (map param_shape x.0.items))) }
     ensures err { IfErr result (λ e. Fails (rule (MaybeListOf Params)) text.now tokens.now e) }
 {
     if !begins_param(next_kind(tokens)) {
@@ -164,7 +166,8 @@ fn some_params<'a>(
     text: &[u8],
     tokens: &'a [Token],
 ) -> Result<(Vec<Param>, &'a [Token]), Fault>
-    ensures ok { IfOk result (λ x. IsRead (rule (ListOf Params)) text.now tokens.now x.1.now (comma_listed (map param_shape x.0.items))) }
+    ensures ok { IfOk result (λ x. IsRead (rule (ListOf Params)) text.now tokens.now x.1.now
+        (comma_listed (map param_shape x.0.items))) }
     ensures err { IfErr result (λ e. Fails (rule (ListOf Params)) text.now tokens.now e) }
 {
     let (first, mut rest) = param(alloc, text, tokens)?;

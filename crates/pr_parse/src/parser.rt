@@ -117,8 +117,8 @@ fn parse_front(alloc: Global, text: &[u8], tokens: &[Token], place: usize) -> Pa
     }
 }
 
-/// The program of a text of at most 1,048,576 bytes and its tokens, or the first token that breaks the grammar or is nested
-/// too deep.
+/// The program of a text of at most 1,048,576 bytes and its tokens, or the first token that breaks the grammar or is
+/// nested too deep.
 pub fn parse(alloc: Global, text: &[u8], tokens: &[Token]) -> Result<Program, ParseFault>
     requires text { length text.now ≤ 1048576 }
     requires tokens { tokens.now ≡ tokens_of text.now }
@@ -133,8 +133,8 @@ pub fn parse(alloc: Global, text: &[u8], tokens: &[Token]) -> Result<Program, Pa
     }
 }
 
-/// What binds the wrong token and the grammar: no token of a text is wrong exactly where the text is that of some program, and
-/// it is that of one program at most.
+/// What binds the wrong token and the grammar: no token of a text is wrong exactly where the text is that of some
+/// program, and it is that of one program at most.
 pub fn wrong_token_law(text: &[u8])
     ensures accepted { (q : Tree) → IsProgram text.now q → first_wrong (words_of text.now) ≡ None }
     ensures derived { first_wrong (words_of text.now) ≡ None → (q : Tree) × IsProgram text.now q }

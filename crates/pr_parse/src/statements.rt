@@ -26,7 +26,8 @@ pub fn value_after<'a>(
     lead: Kind,
 ) -> Result<(Expr, &'a [Token]), Fault>
     requires { 3 < kind_tag lead }
-    ensures ok { IfOk result (λ x. IsFront (led_value lead) text.now tokens.now x.1.now (sign_tree Semi ∷ expr_shape x.0 ∷ tree.word (word_of_kind lead) ∷ [])) }
+    ensures ok { IfOk result (λ x. IsFront (led_value lead) text.now tokens.now x.1.now
+        (sign_tree Semi ∷ expr_shape x.0 ∷ tree.word (word_of_kind lead) ∷ [])) }
     ensures err { IfErr result (λ e. FrontFails (led_value lead) text.now tokens.now e) }
     ensures shorter { IfOk result (λ x. length x.1.now < length tokens.now) }
 {
@@ -44,7 +45,8 @@ pub fn name_after<'a>(
     lead: Kind,
 ) -> Result<(Name, &'a [Token]), Fault>
     requires { 3 < kind_tag lead }
-    ensures ok { IfOk result (λ x. IsFront (led_name lead) text.now tokens.now x.1.now (name_tree x.0 ∷ tree.word (word_of_kind lead) ∷ [])) }
+    ensures ok { IfOk result (λ x. IsFront (led_name lead) text.now tokens.now x.1.now
+        (name_tree x.0 ∷ tree.word (word_of_kind lead) ∷ [])) }
     ensures err { IfErr result (λ e. FrontFails (led_name lead) text.now tokens.now e) }
     ensures shorter { IfOk result (λ x. length x.1.now < length tokens.now) }
 {
@@ -136,7 +138,8 @@ pub fn stmts<'a>(
     text: &[u8],
     tokens: &'a [Token],
 ) -> Result<(Vec<Stmt>, &'a [Token]), Fault>
-    ensures ok { IfOk result (λ x. IsRead (rule (AnyOf Stmts)) text.now tokens.now x.1.now (listed (map stmt_shape x.0.items))) }
+    ensures ok { IfOk result (λ x. IsRead (rule (AnyOf Stmts)) text.now tokens.now x.1.now
+        (listed (map stmt_shape x.0.items))) }
     ensures err { IfErr result (λ e. Fails (rule (AnyOf Stmts)) text.now tokens.now e) }
 {
     let mut list = Vec::new(alloc);

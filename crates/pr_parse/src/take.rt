@@ -1,12 +1,11 @@
 //! One token.
 
-ghost use Rattle.std.specs.Prelude.{◌≡◌, ◌<◌, ℕ, List, IfOk, IfErr, IfSome, MatchOption, map, option_map, false, true, slice_range, length};
-ghost use Rattle.pr_lang.specs.Word.{among, named, numbered, any_name, any_number};
+ghost use Rattle.std.specs.Prelude.{◌≡◌, ◌<◌, ℕ, List, IfOk, IfErr, IfSome, map, option_map, slice_range, length};
+ghost use Rattle.pr_lang.specs.Word.{named, numbered, any_name, any_number};
 ghost use Rattle.pr_lang.specs.Shape.{sign_of as sign, fixed_sign_of as fixed_sign};
 ghost use Rattle.pr_parse.specs.Kinds.{kind_tag, pattern_of, word_of_kind, starts_item, starts_stmt, starts_param, starts_expr, starts_fixed};
-ghost use Rattle.pr_parse.specs.Reads.{IsTaken, IsNotTaken, IsOperator, IsTest};
+ghost use Rattle.pr_parse.specs.Reads.{IsTaken, IsNotTaken, IsFound, IsOperator, IsTest};
 ghost use Rattle.pr_parse.specs.Kinds.{first_kind};
-ghost use Rattle.pr_lang.specs.Word.{symbol_tag as number_of_symbol};
 
 use crate::fault::Fault;
 use crate::tags::{symbol_tag, tag_of};
@@ -81,7 +80,7 @@ pub fn name<'a, 'b>(text: &'a [u8], tokens: &'b [Token]) -> Result<(&'a [u8], &'
 
 /// The operator that the token is, if it is one of these.
 fn operator_of(kind: Kind, ops: &[BinOp]) -> Option<BinOp>
-    ensures { MatchOption result (among (kind_tag kind) (map sign ops.now) ≡ false) (λ op. (kind_tag kind ≡ number_of_symbol (sign op)) × (among (kind_tag kind) (map sign ops.now) ≡ true)) }
+    ensures { IsFound sign ops.now (kind_tag kind) result }
 {
     let tag = tag_of(kind);
     for op in ops {
@@ -94,7 +93,8 @@ fn operator_of(kind: Kind, ops: &[BinOp]) -> Option<BinOp>
 
 /// Takes an operator, if one of these stands there.
 pub fn operator<'a>(tokens: &'a [Token], ops: &[BinOp]) -> Option<(BinOp, &'a [Token])>
-    ensures found { (text : List ℕ) → IsOperator (map sign ops.now) text tokens.now (option_map (λ x. (sign x.0, x.1.now)) result) }
+    ensures found { (text : List ℕ) →
+        IsOperator (map sign ops.now) text tokens.now (option_map (λ x. (sign x.0, x.1.now)) result) }
     ensures shorter { IfSome result (λ x. length x.1.now < length tokens.now) }
 {
     match tokens {
@@ -108,7 +108,7 @@ pub fn operator<'a>(tokens: &'a [Token], ops: &[BinOp]) -> Option<(BinOp, &'a [T
 
 /// The same among the operators of constant expressions.
 fn fixed_operator_of(kind: Kind, ops: &[FixedOp]) -> Option<FixedOp>
-    ensures { MatchOption result (among (kind_tag kind) (map fixed_sign ops.now) ≡ false) (λ op. (kind_tag kind ≡ number_of_symbol (fixed_sign op)) × (among (kind_tag kind) (map fixed_sign ops.now) ≡ true)) }
+    ensures { IsFound fixed_sign ops.now (kind_tag kind) result }
 {
     let tag = tag_of(kind);
     for op in ops {
@@ -120,7 +120,8 @@ fn fixed_operator_of(kind: Kind, ops: &[FixedOp]) -> Option<FixedOp>
 }
 
 pub fn fixed_operator<'a>(tokens: &'a [Token], ops: &[FixedOp]) -> Option<(FixedOp, &'a [Token])>
-    ensures found { (text : List ℕ) → IsOperator (map fixed_sign ops.now) text tokens.now (option_map (λ x. (fixed_sign x.0, x.1.now)) result) }
+    ensures found { (text : List ℕ) →
+        IsOperator (map fixed_sign ops.now) text tokens.now (option_map (λ x. (fixed_sign x.0, x.1.now)) result) }
     ensures shorter { IfSome result (λ x. length x.1.now < length tokens.now) }
 {
     match tokens {

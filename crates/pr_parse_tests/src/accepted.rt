@@ -1,6 +1,8 @@
 //! Programs, and how they are printed.
 
 use crate::reading::{Answer, answer_to, printed};
+use std::alloc::{AllocError, Global};
+use std::process::Abort;
 use std::test::Fail;
 
 /// Texts, and the same programs as they are printed.
@@ -73,29 +75,34 @@ const ACCEPTED: [(&str, &str); 21] = [
     ),
 ];
 
-#[test]
-fn texts_are_printed_in_one_form(rt: HostRuntime) -> Result<(), Fail> {
-    for (text, wanted) in ACCEPTED {
-        assert!(rt; text.len() < 100);
-        let once = printed(rt.alloc(), text.as_bytes())?;
-        assert_eq!(rt; once.as_slice(), wanted.as_bytes(), "{text}");
-    }
+/// Checks how a text is printed.
+fn check_printed(
+    rt: &impl Abort,
+    alloc: Global,
+    text: &str,
+    wanted: &str,
+) -> Result<(), AllocError> {
+    assert!(rt; text.len() < 100);
+    let once = printed(alloc, text.as_bytes())?;
+    assert_eq!(rt; once.as_slice(), wanted.as_bytes(), "{text}");
     Ok(())
 }
 
+/// What is printed is read back, and printed as it is.
 #[test]
-fn printed_texts_are_read_back(rt: HostRuntime) -> Result<(), Fail> {
-    for (_, wanted) in ACCEPTED {
-        assert!(rt; wanted.len() < 100);
-        let again = printed(rt.alloc(), wanted.as_bytes())?;
-        assert_eq!(rt; again.as_slice(), wanted.as_bytes());
+fn texts_are_printed_in_one_form(rt: HostRuntime) -> Result<(), Fail> {
+    let alloc = rt.alloc();
+    for (text, wanted) in ACCEPTED {
+        check_printed(&rt, alloc, text, wanted)?;
+        check_printed(&rt, alloc, wanted, wanted)?;
     }
     Ok(())
 }
 
 #[test]
 fn nothing_is_a_program(rt: HostRuntime) -> Result<(), Fail> {
-    assert_eq!(rt; answer_to(rt.alloc(), b"")?, Answer::Program);
-    assert!(rt; printed(rt.alloc(), b"")?.is_empty());
+    let alloc = rt.alloc();
+    assert_eq!(rt; answer_to(alloc, b"")?, Answer::Program);
+    assert!(rt; printed(alloc, b"")?.is_empty());
     Ok(())
 }

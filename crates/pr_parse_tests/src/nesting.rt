@@ -4,28 +4,78 @@ use crate::reading::{Answer, answer_to, printed};
 use std::alloc::{AllocError, Global};
 use std::test::Fail;
 
-/// How a text begins, the part that it repeats, how often, how it ends, and the answer.
-const REPEATED: [(&str, &str, usize, &str, Answer); 8] = [
-    ("output y = ", "(", 200, ";", Answer::Syntax(203)),
-    ("output y = ", "(", 256, "", Answer::Syntax(259)),
-    ("output y = ", "(", 257, "", Answer::TooDeep),
-    ("output y = ", "(", 300, ";", Answer::TooDeep),
-    ("output y = ", "~", 256, "a;", Answer::Program),
-    ("output y = ", "~", 257, "a;", Answer::TooDeep),
-    (
-        "input a:8; output y = a",
-        "{7..0}",
-        256,
-        ";",
-        Answer::Program,
-    ),
-    (
-        "input a:8; output y = a",
-        "{7..0}",
-        300,
-        ";",
-        Answer::TooDeep,
-    ),
+/// How a text begins, the part that it repeats, what comes then, the part that is repeated as often after that, and the
+/// end.
+#[derive(Clone, Copy)]
+struct Nested {
+    front: &'static str,
+    opening: &'static str,
+    inner: &'static str,
+    closing: &'static str,
+    end: &'static str,
+}
+
+const PARENTHESES: Nested = Nested {
+    front: "input a:8; output y = ",
+    opening: "(",
+    inner: "a",
+    closing: ")",
+    end: ";",
+};
+
+/// The same as it is printed.
+const PRINTED: Nested = Nested {
+    front: "input a : 8 ;\noutput y = ",
+    opening: "( ",
+    inner: "a ",
+    closing: ") ",
+    end: ";\n",
+};
+
+const OPEN: Nested = Nested {
+    front: "output y = ",
+    opening: "(",
+    inner: "",
+    closing: "",
+    end: "",
+};
+
+const OPEN_AND_ENDED: Nested = Nested {
+    front: "output y = ",
+    opening: "(",
+    inner: "",
+    closing: "",
+    end: ";",
+};
+
+const INVERSES: Nested = Nested {
+    front: "output y = ",
+    opening: "~",
+    inner: "",
+    closing: "",
+    end: "a;",
+};
+
+const SLICES: Nested = Nested {
+    front: "input a:8; output y = a",
+    opening: "{7..0}",
+    inner: "",
+    closing: "",
+    end: ";",
+};
+
+/// A text, how often its parts are repeated, and the answer.
+const REPEATED: [(Nested, usize, Answer); 10] = [
+    (OPEN_AND_ENDED, 200, Answer::Syntax(203)),
+    (OPEN, 256, Answer::Syntax(259)),
+    (OPEN, 257, Answer::TooDeep),
+    (OPEN_AND_ENDED, 300, Answer::TooDeep),
+    (INVERSES, 256, Answer::Program),
+    (INVERSES, 257, Answer::TooDeep),
+    (SLICES, 256, Answer::Program),
+    (SLICES, 300, Answer::TooDeep),
+    (PARENTHESES, 256, Answer::Program),
+    (PARENTHESES, 257, Answer::TooDeep),
 ];
 
 fn put(text: &mut Vec<u8>, part: &str, times: usize) -> Result<(), AllocError> {
@@ -35,65 +85,39 @@ fn put(text: &mut Vec<u8>, part: &str, times: usize) -> Result<(), AllocError> {
     Ok(())
 }
 
-fn repeated(
-    alloc: Global,
-    front: &str,
-    part: &str,
-    times: usize,
-    end: &str,
-) -> Result<Vec<u8>, AllocError> {
-    let mut text = Vec::from_slice(alloc, front.as_bytes())?;
-    put(&mut text, part, times)?;
-    put(&mut text, end, 1)?;
-    Ok(text)
-}
-
-/// One output, whose value is in so many parentheses.
-fn nested(alloc: Global, depth: usize) -> Result<Vec<u8>, AllocError> {
-    let mut text = Vec::from_slice(alloc, b"input a:8; output y = ")?;
-    put(&mut text, "(", depth)?;
-    put(&mut text, "a", 1)?;
-    put(&mut text, ")", depth)?;
-    put(&mut text, ";", 1)?;
-    Ok(text)
-}
-
-/// The same as it is printed.
-fn nested_printed(alloc: Global, depth: usize) -> Result<Vec<u8>, AllocError> {
-    let mut text = Vec::from_slice(alloc, b"input a : 8 ;\noutput y = ")?;
-    put(&mut text, "( ", depth)?;
-    put(&mut text, "a ", 1)?;
-    put(&mut text, ") ", depth)?;
-    put(&mut text, ";\n", 1)?;
+fn repeated(alloc: Global, nested: Nested, times: usize) -> Result<Vec<u8>, AllocError> {
+    let mut text = Vec::from_slice(alloc, nested.front.as_bytes())?;
+    put(&mut text, nested.opening, times)?;
+    put(&mut text, nested.inner, 1)?;
+    put(&mut text, nested.closing, times)?;
+    put(&mut text, nested.end, 1)?;
     Ok(text)
 }
 
 #[test]
 fn repeated_parts(rt: HostRuntime) -> Result<(), Fail> {
-    for (front, part, times, end, answer) in REPEATED {
-        let text = repeated(rt.alloc(), front, part, times, end)?;
+    let alloc = rt.alloc();
+    for (nested, times, answer) in REPEATED {
+        let text = repeated(alloc, nested, times)?;
         assert!(rt; text.len() < 10000);
-        assert_eq!(rt; answer_to(rt.alloc(), &text)?, answer, "{part} {times}");
-    }
-    Ok(())
-}
-
-#[test]
-fn parentheses(rt: HostRuntime) -> Result<(), Fail> {
-    for (depth, answer) in [(256, Answer::Program), (257, Answer::TooDeep)] {
-        let text = nested(rt.alloc(), depth)?;
-        assert!(rt; text.len() < 1000);
-        assert_eq!(rt; answer_to(rt.alloc(), &text)?, answer);
+        assert_eq!(rt;
+            answer_to(alloc, &text)?,
+            answer,
+            "{} {times}",
+            nested.opening
+        );
     }
     Ok(())
 }
 
 #[test]
 fn deep_parentheses_are_printed(rt: HostRuntime) -> Result<(), Fail> {
-    let text = nested(rt.alloc(), 256)?;
-    let wanted = nested_printed(rt.alloc(), 256)?;
-    assert!(rt; text.len() < 1000 && wanted.len() < 2000);
-    assert_eq!(rt; printed(rt.alloc(), &text)?.as_slice(), wanted.as_slice());
-    assert_eq!(rt; printed(rt.alloc(), &wanted)?.as_slice(), wanted.as_slice());
+    let alloc = rt.alloc();
+    let wanted = repeated(alloc, PRINTED, 256)?;
+    for nested in [PARENTHESES, PRINTED] {
+        let text = repeated(alloc, nested, 256)?;
+        assert!(rt; text.len() < 2000);
+        assert_eq!(rt; printed(alloc, &text)?.as_slice(), wanted.as_slice());
+    }
     Ok(())
 }

@@ -3,16 +3,15 @@
 use crate::reading::{Answer, answer_to};
 use std::test::Fail;
 
-const TOKENS: [(&str, u32); 6] = [
+const REFUSED: [(&str, u32); 87] = [
+    // Tokens.
     ("18446744073709551616", 0),
     ("}", 0),
     ("input a:8; }", 5),
     ("let x = 08x;", 3),
     ("let x = 0xg;", 3),
     ("let x = a $ b;", 4),
-];
-
-const ITEMS: [(&str, u32); 37] = [
+    // Items.
     ("input a:", 3),
     ("input a 8;", 2),
     ("input let:8;", 1),
@@ -50,9 +49,7 @@ const ITEMS: [(&str, u32); 37] = [
     ("for i in 0.. { }", 5),
     ("for i in 0..4 let a = b;", 6),
     ("for i in 0..4 {", 7),
-];
-
-const EXPRESSIONS: [(&str, u32); 44] = [
+    // Expressions.
     ("let x = a ? b;", 6),
     ("let x = a ? : c;", 5),
     ("let x = a ? b : ;", 7),
@@ -101,39 +98,11 @@ const EXPRESSIONS: [(&str, u32); 44] = [
 
 #[test]
 fn wrong_tokens(rt: HostRuntime) -> Result<(), Fail> {
-    for (text, token) in TOKENS {
+    let alloc = rt.alloc();
+    for (text, token) in REFUSED {
         assert!(rt; text.len() < 100);
-        assert_eq!(rt;
-            answer_to(rt.alloc(), text.as_bytes())?,
-            Answer::Syntax(token),
-            "{text}"
-        );
-    }
-    Ok(())
-}
-
-#[test]
-fn wrong_items(rt: HostRuntime) -> Result<(), Fail> {
-    for (text, token) in ITEMS {
-        assert!(rt; text.len() < 100);
-        assert_eq!(rt;
-            answer_to(rt.alloc(), text.as_bytes())?,
-            Answer::Syntax(token),
-            "{text}"
-        );
-    }
-    Ok(())
-}
-
-#[test]
-fn wrong_expressions(rt: HostRuntime) -> Result<(), Fail> {
-    for (text, token) in EXPRESSIONS {
-        assert!(rt; text.len() < 100);
-        assert_eq!(rt;
-            answer_to(rt.alloc(), text.as_bytes())?,
-            Answer::Syntax(token),
-            "{text}"
-        );
+        let answer = answer_to(alloc, text.as_bytes())?;
+        assert_eq!(rt; answer, Answer::Syntax(token), "{text}");
     }
     Ok(())
 }
