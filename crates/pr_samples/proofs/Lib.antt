@@ -1,5 +1,6 @@
 pub mod ScanLemmas
 pub mod WordLemmas
+pub mod DigitLemmas
 pub mod FedLemmas
 pub mod ReadingLemmas
 pub mod WrongLines

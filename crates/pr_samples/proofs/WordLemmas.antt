@@ -92,7 +92,7 @@ digit_no_return b d = grind (arith, nat_tests)
 blank_no_return : (b : ℕ) → is_blank b ≡ true → (b == 13) ≡ false
 blank_no_return b e = grind (arith, nat_tests)
 
-value_after-ge : (n : ℕ) (digits : List ℕ) → n ≤ value_after n digits
+pub value_after-ge : (n : ℕ) (digits : List ℕ) → n ≤ value_after n digits
 value_after-ge n [] = omega arith
 value_after-ge n (b ∷ digits) = omega (arith, value_after-ge (10 * n + (b - 48)) digits)
 

@@ -1,6 +1,7 @@
 //! Samples that are read line by line from a file of any size, lines of results, and stall texts.
 #![tactic(auto)]
 
+mod digits;
 mod feed;
 mod laws;
 mod lines;

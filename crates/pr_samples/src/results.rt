@@ -14,9 +14,6 @@ use pr_edge::{Sink, WriteFault, write_all};
 /// The bytes that a number takes at most, with the blank before it and the LF after it.
 const NUMBER: usize = 42;
 
-/// The outputs whose line fits into the small buffer.
-const FEW: usize = 6;
-
 /// Appends a number, after a blank where it is not the first.
 fn put_number<const ROOM: usize>(text: &mut ArrayString<ROOM>, begun: bool, n: Num)
     requires room { array_string_len text.old + 41 ≤ ROOM }
@@ -100,9 +97,10 @@ pub fn put_result<K: Sink>(sink: &mut K, widths: &[u8], bytes: &[u8]) -> Result<
     ensures cause { OnErr result (Rose (K.faults sink.old) (K.faults sink.new)) }
     ensures later { K.faults sink.old ≤ K.faults sink.new }
 {
-    if widths.len() <= FEW {
-        put_line::<K, 256>(sink, widths, bytes)
-    } else {
-        put_line::<K, 2688>(sink, widths, bytes)
+    // As little room as the line may take, since all of a buffer is filled with zeros first.
+    match widths.len() {
+        0..=3 => put_line::<K, 128>(sink, widths, bytes),
+        4..=6 => put_line::<K, 256>(sink, widths, bytes),
+        _ => put_line::<K, 2688>(sink, widths, bytes),
     }
 }

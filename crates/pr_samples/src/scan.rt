@@ -1,8 +1,9 @@
 // One line, read byte by byte, also in parts.
-ghost use Rattle.std.specs.Prelude.{◌≡◌, ◌≢◌, ℕ, ◌+◌, ◌*◌, ◌^◌, ◌<◌, ◌≤◌, List, ◌++◌, All, length, take, drop, slice_get, Some, IfSome, IfNone};
+ghost use Rattle.std.specs.Prelude.{◌≡◌, ◌≢◌, ℕ, ◌+◌, ◌*◌, ◌^◌, ◌<◌, ◌≤◌, List, ◌++◌, All, length, take, drop, get_or, slice_get, Some, IfSome, IfNone};
 ghost use Rattle.std.specs.Option.{SomeIff};
 ghost use Rattle.pr_samples.specs.Scan.{scan_of, step, first_line, begun, with_digit, finished, whole_end, cut_end, taken_of, taken_numbers, met_first};
 
+use crate::digits::{front_number, is_low};
 use pr_base::{GREATEST, Num};
 
 /// What stands at the end of the part of a line that was read.
@@ -137,6 +138,34 @@ fn after_byte(widths: &[u8], numbers: &mut [Num], cursor: Cursor, byte: u8) -> C
     }
 }
 
+/// Reads on from a byte that is no LF: the digits of a short number at once, and else that byte. Answers how many bytes
+/// were read, and the cursor after them.
+fn step_on(widths: &[u8], numbers: &mut [Num], cursor: Cursor, rest: &[u8]) -> (usize, Cursor)
+    requires widths { All (λ w. w ≤ 128) widths.now }
+    requires numbers { length numbers.old ≡ length widths.now }
+    requires room { cursor.done + begun cursor.phase ≤ length widths.now }
+    requires some { 0 < length rest.now }
+    requires other { get_or rest.now 0 0 ≢ 10 }
+    ensures some { 0 < result.0 }
+    ensures bound { result.0 ≤ length rest.now }
+    ensures scan { (passed : ℕ) (more : List ℕ) →
+        first_line widths.now (scan_of widths.now numbers.new result.1) passed (drop result.0 rest.now ++ more)
+        ≡ first_line widths.now (scan_of widths.now numbers.old cursor) passed (rest.now ++ more) }
+    ensures room { result.1.done + begun result.1.phase ≤ length widths.now }
+{
+    if matches!(cursor.phase, Phase::Gap) && cursor.done < widths.len() {
+        let (count, n) = front_number(rest);
+        if count > 0 && is_low(n, widths[cursor.done]) {
+            let next = Cursor {
+                done: cursor.done,
+                phase: Phase::Number(Num::from(n)),
+            };
+            return (count, next);
+        }
+    }
+    (1, after_byte(widths, numbers, cursor, rest[0]))
+}
+
 /// Reads the bytes before the first LF, and answers how many there are, and the cursor after them.
 pub fn read_line(
     widths: &[u8],
@@ -155,14 +184,16 @@ pub fn read_line(
     ensures room { result.1.done + begun result.1.phase ≤ length widths.now }
 {
     let mut cursor = cursor;
-    for i in 0..bytes.len() {
-        let byte = bytes[i];
-        if byte == b'\n' {
-            return (i, cursor);
+    let mut at = 0;
+    while at < bytes.len() {
+        if bytes[at] == b'\n' {
+            return (at, cursor);
         }
-        cursor = after_byte(widths, numbers, cursor, byte);
+        let (count, next) = step_on(widths, numbers, cursor, &bytes[at..]);
+        at += count;
+        cursor = next;
     }
-    (bytes.len(), cursor)
+    (at, cursor)
 }
 
 /// What becomes of a line that is over, of which so many numbers are done.
