@@ -2,6 +2,7 @@
 use Rattle.std.proofs.Common.{◌≡◌, ◌≤◌, ℕ, ◌++◌, Bool, true, false, min, Option, Some, None, List, [], ◌∷◌, length, subst, refl, sym, ap, ◌∙◌, arith}
 use Rattle.std.specs.Prelude.{MatchOption}
 use Rattle.std.proofs.lemmas.Bool.{false≢true}
+use Rattle.std.proofs.lemmas.List.FromFn.{fill_by_all}
 use Rattle.pr_base.specs.Numbers.{slices_of}
 use Rattle.pr_flat.specs.declared.equations.Op.{Op}
 use Rattle.pr_flat.specs.declared.forms.Form.{Form}
@@ -81,3 +82,7 @@ result_slices w op args us vs x y z e signed ee es ez ev ex ey =
 
 pub result_whole : (op : Op) (args : List Argument) (u : ℕ) (z x : List Slice) (e bits : ℕ) → e ≡ bits → z ≡ x → x ≡ (operator_units e op args u).slices → length (operator_units bits op args u).slices ≡ slices_of bits → length z ≡ slices_of e
 result_whole op args u z x e bits ee ez ex h = ap length (ez ∙ ex) ∙ subst (λ (k : ℕ). length (operator_units k op args u).slices ≡ slices_of k) (sym ee) h
+
+-- slices that are as many as they should be
+pub all_slices : (x : List Slice) (n : ℕ) → length x ≡ n → each n (slice_at x) ≡ x
+all_slices x n h = sym (fill_by_all (slice_at x) x n (Slice.Const 0) h (λ k lt. refl))

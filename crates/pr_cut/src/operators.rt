@@ -1,14 +1,17 @@
 //! Operators at their widths.
 
 ghost use Rattle.std.specs.Prelude.{ℕ, ◌≡◌, ◌≤◌, ◌<◌, ◌+◌, ◌^◌, min, [], ◌∷◌, true, length, IfOk};
+ghost use Rattle.pr_base.specs.Numbers.{slices_of};
 ghost use Rattle.pr_flat.specs.Facts.{arity, has_lawful_ends};
 ghost use Rattle.pr_flat.specs.Rows.{takes};
 ghost use Rattle.pr_flat.specs.declared.equations.Op.{Op};
-ghost use Rattle.pr_cut_units.specs.Parts.{units_after, slices_after};
+ghost use Rattle.pr_cut_units.specs.Parts.{filled, units_after, slices_after};
+ghost use Rattle.pr_cut_units.specs.Widening.{read_as, widened};
 ghost use Rattle.pr_cut_units.specs.Table.{argument_forms, units_at};
 ghost use Rattle.pr_cut_cells.specs.Arguments.{argument_of, pair_of, triple_of};
 ghost use Rattle.pr_cut.specs.Operators.{arguments_of, is_operator};
 
+use pr_base::slices;
 use pr_cut_cells::Argument;
 use pr_cut_ops::{finished, operator_choice, operator_one, operator_two};
 use pr_flat::{Form, Op};
@@ -31,6 +34,32 @@ fn computed(natural: Form, w: u8) -> u8
     ensures { result ≡ min w natural.width }
 {
     u16::from(w).min(natural.width) as u8
+}
+
+/// A result of `e` bits at width `w`: its own slices where they are as many.
+#[tactic(auto, using(crate::proofs::OperatorLemmas::all_slices))]
+fn at_width(
+    alloc: Global,
+    units: &mut Vec<Unit>,
+    w: u8,
+    e: u8,
+    signed: bool,
+    x: Vec<Slice>,
+) -> Result<Vec<Slice>, AllocError>
+    requires some { 1 ≤ e }
+    requires whole { length x.items ≡ slices_of e }
+    requires fits { length units.old.items + 1 < 2 ^ 32 }
+    ensures units { IfOk result (λ s. units.new.items ≡
+        units_after units.old.items (filled (slices_of w) (widened (read_as signed e x.items) w))) }
+    ensures slices { IfOk result (λ s. s.items ≡
+        slices_after units.old.items (filled (slices_of w) (widened (read_as signed e x.items) w))) }
+{
+    let wider = signed && e < w;
+    if !wider && slices(e) == slices(w) {
+        return Ok(x);
+    }
+    let all = finished(alloc, units, w, e, signed, &x)?;
+    Ok(all)
 }
 
 /// An operator on one operand, at `w` bits.
@@ -56,7 +85,7 @@ fn units_one(
     let natural = natural_one(op, form_of(a)).unwrap();
     let e = computed(natural, w);
     let x = operator_one(alloc, units, e, op, a)?;
-    let all = finished(alloc, units, w, e, natural.signed, &x)?;
+    let all = at_width(alloc, units, w, e, natural.signed, x)?;
     Ok(all)
 }
 
@@ -80,7 +109,7 @@ fn units_two(
     let natural = natural_two(op, form_of(a), form_of(b));
     let e = computed(natural, w);
     let x = operator_two(alloc, units, e, op, a, b)?;
-    let all = finished(alloc, units, w, e, natural.signed, &x)?;
+    let all = at_width(alloc, units, w, e, natural.signed, x)?;
     Ok(all)
 }
 
@@ -105,7 +134,7 @@ fn units_choice(
     let natural = natural_choice(form_of(c), form_of(a), form_of(b)).unwrap();
     let e = computed(natural, w);
     let x = operator_choice(alloc, units, e, c, a, b)?;
-    let all = finished(alloc, units, w, e, natural.signed, &x)?;
+    let all = at_width(alloc, units, w, e, natural.signed, x)?;
     Ok(all)
 }
 

@@ -1,5 +1,6 @@
 -- Operands as lists.
 use Rattle.std.specs.Prelude.{ℕ, List, [], ◌∷◌}
+use Rattle.std.specs.Cow.{cow_slice_items}
 use Rattle.pr_net.specs.declared.cells.Slice.{Slice}
 use Rattle.pr_cut_units.specs.Parts.{Making}
 use Rattle.pr_cut_units.specs.Widening.{both_widened}
@@ -7,7 +8,7 @@ use Rattle.pr_cut_units.specs.Widening as Widening
 use Rattle.pr_cut_cells.specs.declared.arguments.Argument.{Argument}
 
 abbrev pub argument_of : Argument → Widening.Argument
-argument_of a = record { slices = a.slices.items; form = record { signed = a.signed; width = a.width } }
+argument_of a = record { slices = cow_slice_items a.slices; form = record { signed = a.signed; width = a.width } }
 
 -- two operands, and three
 abbrev pub pair_of : Argument → Argument → List Widening.Argument

@@ -27,14 +27,17 @@ fn carried(table: u8) -> Cell
     }
 }
 
+/// The most cells of a segment: four, and one that shows the carry. One that begins with an entry has one more.
+const MOST: usize = 5;
+
 /// A segment that takes the carry which this wire shows, with its first cell.
 fn begun(alloc: Global, style: Style, wire: Wire, cell: Cell) -> Result<Vec<Cell>, AllocError>
     ensures cells { IfOk result (λ cells. cells.items ≡ entry_of style wire ++ taking style wire cell ∷ []) }
     ensures few { IfOk result (λ cells. vec_len cells ≤ 2) }
 {
-    let mut cells = Vec::new(alloc);
     match style {
         Style::ByBit => {
+            let mut cells = Vec::with_capacity(alloc, MOST)?;
             cells.push(Cell {
                 c: WireBit::Of(wire, 0),
                 cin: Carry::FromC,
@@ -43,6 +46,7 @@ fn begun(alloc: Global, style: Style, wire: Wire, cell: Cell) -> Result<Vec<Cell
             Ok(cells)
         }
         Style::ByEntry => {
+            let mut cells = Vec::with_capacity(alloc, MOST + 1)?;
             cells.push(Cell {
                 a: wire,
                 hi: Wire::Const(255),
@@ -115,8 +119,9 @@ fn append_chain(
     ensures part { OnErr result
         (IsPrefix units.new.items (with_chain style first units.old.items close.now cells.now)) }
 {
+    let count = cells.len() + close.len();
     let mut open = Open {
-        cells: Vec::new(alloc),
+        cells: Vec::with_capacity(alloc, count.min(MOST))?,
         room: 4,
     };
     let mut cin = first;
@@ -197,7 +202,7 @@ fn chain_slices(
     requires { unit + length cells.now + 1 < 2 ^ 32 }
     ensures { IfOk result (λ s. s.items ≡ places style unit 4 0 cells.now) }
 {
-    let mut slices = Vec::new(alloc);
+    let mut slices = Vec::with_capacity(alloc, cells.len())?;
     let mut place = Place {
         unit,
         room: 4,
@@ -259,7 +264,7 @@ pub fn closed_chain(
     ensures units { OnOk result (units.new.items ≡ units_after units.old.items (closed_chain first table cells.now)) }
     ensures slices { IfOk result (λ s. s.items ≡ slices_after units.old.items (closed_chain first table cells.now)) }
 {
-    let mut slices = Vec::new(alloc);
+    let mut slices = Vec::with_capacity(alloc, 1)?;
     slices.push(closing_slice(units.len() as u32, cells))?;
     append_chain(alloc, units, Style::ByBit, first, cells, &[carried(table)])?;
     Ok(slices)

@@ -13,7 +13,7 @@ pub fn slices_of_unit(alloc: Global, unit: u32, count: usize) -> Result<Vec<Slic
     requires { count ≤ 255 }
     ensures { IfOk result (λ s. s.items ≡ each count (λ i. Slice.Of unit i)) }
 {
-    let mut slices = Vec::new(alloc);
+    let mut slices = Vec::with_capacity(alloc, count)?;
     for i in 0..count {
         slices.push(Slice::Of(unit, i as u8))?;
     }

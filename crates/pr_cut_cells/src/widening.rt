@@ -51,8 +51,9 @@ fn widening_cells(alloc: Global, a: &[Slice], w: u8, t: u8) -> Result<Vec<Cell>,
     ensures all { IfOk result (λ all. all.items ≡
         each (slices_of t - w / 8) (λ i. widening_cell (read_as true w a.now) t (w / 8 + i))) }
 {
-    let mut all = Vec::new(alloc);
-    for i in 0..slices(t) - usize::from(w) / 8 {
+    let count = slices(t) - usize::from(w) / 8;
+    let mut all = Vec::with_capacity(alloc, count)?;
+    for i in 0..count {
         all.push(widening_cell(a, w, t, usize::from(w) / 8 + i))?;
     }
     Ok(all)
@@ -90,7 +91,7 @@ fn flipped_cells(alloc: Global, a: &[Slice], w: u8, x: &[Slice]) -> Result<Vec<C
     ensures all { IfOk result (λ all. all.items ≡
         each (slices_of w) (λ i. flipped_cell (read_as true w a.now) x.now i)) }
 {
-    let mut all = Vec::new(alloc);
+    let mut all = Vec::with_capacity(alloc, slices(w))?;
     for i in 0..slices(w) {
         all.push(Cell {
             a: byte(x, i),

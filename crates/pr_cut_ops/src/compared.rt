@@ -1,11 +1,13 @@
 //! Operators that widen their operands.
 
 ghost use Rattle.std.specs.Prelude.{ℕ, ◌≡◌, ◌≤◌, ◌<◌, ◌+◌, ◌^◌, List, length, OnOk, IfOk};
+ghost use Rattle.std.specs.Cow.{cow_slice_items};
 ghost use Rattle.pr_flat.specs.Forms.{signed_width};
 ghost use Rattle.pr_net.specs.declared.cells.Slice.{Slice};
 ghost use Rattle.pr_cut_units.specs.Parts.{Making, units_after, slices_after};
 ghost use Rattle.pr_cut_units.specs.Operators.{bitwise, chosen, added, subtracted, difference_sign, is_any_signed, signed_less, less, greater_equal, compared_width, equal_at, equal};
 ghost use Rattle.pr_cut_units.specs.Products.{product};
+ghost use Rattle.pr_cut_units.specs.Widening.{widened};
 ghost use Rattle.pr_cut_units.specs.Table.{factor_width, multiplied};
 ghost use Rattle.pr_cut_cells.specs.Arguments.{argument_of, both_at};
 
@@ -15,33 +17,54 @@ use pr_cut_cells::{Argument, widened};
 use pr_cutmul::{Factors, product};
 use pr_net::{Slice, Unit};
 use std::alloc::{AllocError, Global};
+use std::borrow::CowSlice;
 
 /// Two operands at one width.
 #[derive(Drop)]
-pub struct Pair {
-    pub a: Vec<Slice>,
-    pub b: Vec<Slice>,
+pub struct Pair<'a> {
+    pub a: CowSlice<'a, Slice, Global>,
+    pub b: CowSlice<'a, Slice, Global>,
 }
 
-/// Both operands at `t` bits, first the first.
-pub fn both_widened(
+/// An operand at `t` bits: the slices that it has, where it is not made wider.
+fn at_width<'a>(
     alloc: Global,
     units: &mut Vec<Unit>,
     t: u8,
-    a: &Argument,
-    b: &Argument,
-) -> Result<Pair, AllocError>
+    a: &'a Argument<'a>,
+) -> Result<CowSlice<'a, Slice, Global>, AllocError>
+    requires fits { length units.old.items < 2 ^ 32 }
+    ensures grows { OnOk result (length units.new.items ≤ length units.old.items + 1) }
+    ensures units { OnOk result (units.new.items ≡ units_after units.old.items (widened (argument_of a.now) t)) }
+    ensures slices { IfOk result (λ s. cow_slice_items s ≡
+        slices_after units.old.items (widened (argument_of a.now) t)) }
+{
+    if a.signed && a.width < t {
+        let made = widened(alloc, units, &a.slices, a.signed, a.width, t)?;
+        return Ok(CowSlice::Owned(made));
+    }
+    Ok(CowSlice::Borrowed(&a.slices))
+}
+
+/// Both operands at `t` bits, first the first.
+pub fn both_widened<'a>(
+    alloc: Global,
+    units: &mut Vec<Unit>,
+    t: u8,
+    a: &'a Argument<'a>,
+    b: &'a Argument<'a>,
+) -> Result<Pair<'a>, AllocError>
     requires fits { length units.old.items + 2 < 2 ^ 32 }
     ensures grows { OnOk result (length units.new.items ≤ length units.old.items + 2) }
     ensures units { IfOk result (λ p. (making : List Slice → List Slice → Making) →
-        units_after units.new.items (making p.a.items p.b.items) ≡
+        units_after units.new.items (making (cow_slice_items p.a) (cow_slice_items p.b)) ≡
         units_after units.old.items (both_at t a.now b.now making)) }
     ensures slices { IfOk result (λ p. (making : List Slice → List Slice → Making) →
-        slices_after units.new.items (making p.a.items p.b.items) ≡
+        slices_after units.new.items (making (cow_slice_items p.a) (cow_slice_items p.b)) ≡
         slices_after units.old.items (both_at t a.now b.now making)) }
 {
-    let x = widened(alloc, units, &a.slices, a.signed, a.width, t)?;
-    let y = widened(alloc, units, &b.slices, b.signed, b.width, t)?;
+    let x = at_width(alloc, units, t, a)?;
+    let y = at_width(alloc, units, t, b)?;
     Ok(Pair { a: x, b: y })
 }
 

@@ -21,7 +21,7 @@ fn input_cells(alloc: Global, w: u8, offset: u8) -> Result<Vec<Cell>, AllocError
     ensures count { IfOk result (λ all. vec_len all ≡ slices_of w) }
     ensures all { IfOk result (λ all. all.items ≡ each (slices_of w) (λ i. input_cell w offset i)) }
 {
-    let mut all = Vec::new(alloc);
+    let mut all = Vec::with_capacity(alloc, slices(w))?;
     for i in 0..slices(w) {
         all.push(Cell {
             a: Wire::Bus(offset + i as u8),
@@ -62,7 +62,7 @@ fn bitwise_cells(
     ensures count { IfOk result (λ all. vec_len all ≡ slices_of e) }
     ensures all { IfOk result (λ all. all.items ≡ each (slices_of e) (λ i. bitwise_cell e table x.now y.now i)) }
 {
-    let mut all = Vec::new(alloc);
+    let mut all = Vec::with_capacity(alloc, slices(e))?;
     for i in 0..slices(e) {
         all.push(Cell {
             a: byte(x, i),
@@ -99,7 +99,7 @@ fn inverted_cells(alloc: Global, e: u8, x: &[Slice]) -> Result<Vec<Cell>, AllocE
     ensures count { IfOk result (λ all. vec_len all ≡ slices_of e) }
     ensures all { IfOk result (λ all. all.items ≡ each (slices_of e) (λ i. inverted_cell e x.now i)) }
 {
-    let mut all = Vec::new(alloc);
+    let mut all = Vec::with_capacity(alloc, slices(e))?;
     for i in 0..slices(e) {
         all.push(Cell {
             a: byte(x, i),
@@ -139,7 +139,7 @@ fn chosen_cells(
     ensures count { IfOk result (λ all. vec_len all ≡ slices_of e) }
     ensures all { IfOk result (λ all. all.items ≡ each (slices_of e) (λ i. chosen_cell e c.now x.now y.now i)) }
 {
-    let mut all = Vec::new(alloc);
+    let mut all = Vec::with_capacity(alloc, slices(e))?;
     for i in 0..slices(e) {
         all.push(Cell {
             a: byte(x, i),
@@ -183,7 +183,7 @@ fn moved_left_slices(
     ensures count { IfOk result (λ all. vec_len all ≡ slices_of e) }
     ensures all { IfOk result (λ all. all.items ≡ each (slices_of e) (λ i. slice_below x.now i (k / 8))) }
 {
-    let mut all = Vec::new(alloc);
+    let mut all = Vec::with_capacity(alloc, slices(e))?;
     for i in 0..slices(e) {
         all.push(slice_below(x, i, usize::from(k) / 8))?;
     }
@@ -202,7 +202,7 @@ fn moved_left_cells(
     ensures count { IfOk result (λ all. vec_len all ≡ slices_of e) }
     ensures all { IfOk result (λ all. all.items ≡ each (slices_of e) (λ i. moved_left_cell e k x.now i)) }
 {
-    let mut all = Vec::new(alloc);
+    let mut all = Vec::with_capacity(alloc, slices(e))?;
     for i in 0..slices(e) {
         all.push(with_left(
             x,
@@ -252,7 +252,7 @@ fn extracted_slices(
     ensures count { IfOk result (λ all. vec_len all ≡ slices_of e) }
     ensures all { IfOk result (λ all. all.items ≡ each (slices_of e) (λ i. slice_at x.now (i + l / 8))) }
 {
-    let mut all = Vec::new(alloc);
+    let mut all = Vec::with_capacity(alloc, slices(e))?;
     for i in 0..slices(e) {
         all.push(slice_at(x, i + (l / 8) as usize))?;
     }
@@ -272,7 +272,7 @@ fn extracted_cells(
     ensures count { IfOk result (λ all. vec_len all ≡ slices_of e) }
     ensures all { IfOk result (λ all. all.items ≡ each (slices_of e) (λ i. extracted_cell e l x.now i)) }
 {
-    let mut all = Vec::new(alloc);
+    let mut all = Vec::with_capacity(alloc, slices(e))?;
     for i in 0..slices(e) {
         all.push(with_right(
             x,
@@ -322,7 +322,7 @@ fn joined_slices(
     ensures count { IfOk result (λ all. vec_len all ≡ slices_of e) }
     ensures all { IfOk result (λ all. all.items ≡ each (slices_of e) (λ i. joined_slice wb x.now y.now i)) }
 {
-    let mut all = Vec::new(alloc);
+    let mut all = Vec::with_capacity(alloc, slices(e))?;
     for i in 0..slices(e) {
         all.push(joined_slice(x, y, i, usize::from(wb) / 8))?;
     }
@@ -341,7 +341,7 @@ fn joined_cells(
     ensures count { IfOk result (λ all. vec_len all ≡ slices_of e) }
     ensures all { IfOk result (λ all. all.items ≡ each (slices_of e) (λ i. joined_cell e wb x.now y.now i)) }
 {
-    let mut all = Vec::new(alloc);
+    let mut all = Vec::with_capacity(alloc, slices(e))?;
     for i in 0..slices(e) {
         all.push(with_left(
             x,
@@ -406,7 +406,7 @@ pub fn filled_slices(alloc: Global, w: u8, x: &[Slice]) -> Result<Vec<Slice>, Al
     ensures count { IfOk result (λ all. vec_len all ≡ slices_of w) }
     ensures all { IfOk result (λ all. all.items ≡ each (slices_of w) (λ i. slice_at x.now i)) }
 {
-    let mut all = Vec::new(alloc);
+    let mut all = Vec::with_capacity(alloc, slices(w))?;
     for i in 0..slices(w) {
         all.push(slice_at(x, i))?;
     }

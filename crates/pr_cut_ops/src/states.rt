@@ -23,7 +23,7 @@ fn delayed_cells(
     ensures count { IfOk result (λ all. vec_len all ≡ slices_of w) }
     ensures all { IfOk result (λ all. all.items ≡ each (slices_of w) (λ i. delayed_cell c x.now unit i)) }
 {
-    let mut all = Vec::new(alloc);
+    let mut all = Vec::with_capacity(alloc, slices(w))?;
     for i in 0..slices(w) {
         all.push(Cell {
             a: byte(x, i),
@@ -60,7 +60,7 @@ fn hold_cells(alloc: Global, w: u8, init: u64, x: &[Slice]) -> Result<Vec<Cell>,
     ensures count { IfOk result (λ all. vec_len all ≡ slices_of w) }
     ensures all { IfOk result (λ all. all.items ≡ each (slices_of w) (λ i. hold_cell w init x.now i)) }
 {
-    let mut all = Vec::new(alloc);
+    let mut all = Vec::with_capacity(alloc, slices(w))?;
     for i in 0..slices(w) {
         all.push(Cell {
             a: byte(x, i),
@@ -80,7 +80,7 @@ fn later_cells(alloc: Global, w: u8, init: u64, before: u32) -> Result<Vec<Cell>
     ensures count { IfOk result (λ all. vec_len all ≡ slices_of w) }
     ensures all { IfOk result (λ all. all.items ≡ each (slices_of w) (λ i. later_cell init before i)) }
 {
-    let mut all = Vec::new(alloc);
+    let mut all = Vec::with_capacity(alloc, slices(w))?;
     for i in 0..slices(w) {
         all.push(Cell {
             a: Wire::State(before, i as u8),
@@ -99,7 +99,7 @@ pub fn past_slices(alloc: Global, w: u8, unit: u32) -> Result<Vec<Slice>, AllocE
     ensures count { IfOk result (λ all. vec_len all ≡ slices_of w) }
     ensures all { IfOk result (λ all. all.items ≡ each (slices_of w) (λ i. Slice.State unit i)) }
 {
-    let mut all = Vec::new(alloc);
+    let mut all = Vec::with_capacity(alloc, slices(w))?;
     for i in 0..slices(w) {
         all.push(Slice::State(unit, i as u8))?;
     }

@@ -24,7 +24,7 @@ fn sum_cells(
     ensures count { IfOk result (λ all. vec_len all ≡ slices_of e) }
     ensures all { IfOk result (λ all. all.items ≡ each (slices_of e) (λ i. masked_cell e table x.now y.now i)) }
 {
-    let mut all = Vec::new(alloc);
+    let mut all = Vec::with_capacity(alloc, slices(e))?;
     for i in 0..slices(e) {
         all.push(Cell {
             a: byte(x, i),
@@ -44,7 +44,7 @@ fn difference_cells(alloc: Global, w: u8, x: &[Slice], y: &[Slice]) -> Result<Ve
     ensures count { IfOk result (λ all. vec_len all ≡ slices_of w) }
     ensures all { IfOk result (λ all. all.items ≡ each (slices_of w) (λ i. sum_cell 51 x.now y.now i)) }
 {
-    let mut all = Vec::new(alloc);
+    let mut all = Vec::with_capacity(alloc, slices(w))?;
     for i in 0..slices(w) {
         all.push(Cell {
             a: byte(x, i),
@@ -63,7 +63,7 @@ fn equal_cells(alloc: Global, w: u8, x: &[Slice], y: &[Slice]) -> Result<Vec<Cel
     ensures count { IfOk result (λ all. vec_len all ≡ slices_of w) }
     ensures all { IfOk result (λ all. all.items ≡ each (slices_of w) (λ i. equal_cell x.now y.now i)) }
 {
-    let mut all = Vec::new(alloc);
+    let mut all = Vec::with_capacity(alloc, slices(w))?;
     for i in 0..slices(w) {
         all.push(Cell {
             a: byte(x, i),

@@ -290,6 +290,9 @@ pub fn finished(
     ensures slices { IfOk result (λ s. s.items ≡
         slices_after units.old.items (filled (slices_of w) (widened (read_as signed e x.now) w))) }
 {
+    if !(signed && e < w) {
+        return filled_slices(alloc, w, x);
+    }
     let wide = widened(alloc, units, x, signed, e, w)?;
     let all = filled_slices(alloc, w, &wide)?;
     Ok(all)

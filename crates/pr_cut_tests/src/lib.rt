@@ -1,8 +1,11 @@
-//! Texts of programs, their nets, and what these and their configurations show. There are tests alone in this crate.
+//! Texts of programs, their nets as they are and narrowed, and what these and their configurations show. There are
+//! tests alone in this crate.
 #![tactic(auto)]
 
 #[cfg(test)]
 mod elements;
+#[cfg(test)]
+mod narrowed;
 #[cfg(test)]
 mod operators;
 #[cfg(test)]

@@ -20,7 +20,8 @@ pub(crate) struct Row {
     /// The highest and the lowest bit of the slice.
     pub(crate) bits: [u8; 2],
     /// For each of three samples what the two operands are, the condition, and the amount of the shifts by a stream. An
-    /// operand is 0 for all bits 1, 1 for the highest bit alone, 2 for all bits but it, and else a number from the third on.
+    /// operand is 0 for all bits 1, 1 for the highest bit alone, 2 for all bits but it, and else a number from the
+    /// third on.
     pub(crate) samples: [[u8; 4]; 3],
     /// The outputs of the last sample, in hexadecimal digits.
     pub(crate) values: &'static str,

@@ -5,17 +5,15 @@ ghost use Rattle.pr_flat.specs.Shape.{shapes_of};
 ghost use Rattle.pr_flat.specs.Widths.{AreWidths};
 
 use pr_base::Cap;
+use pr_compile_front::{Front, FrontFault, read_program};
 use pr_conf::Configuration;
 use pr_cut::cut;
 use pr_cut_plan::CutFault;
-use pr_expand::{ExpandFault, expand};
 use pr_flat::Flat;
 use pr_net::Net;
-use pr_parse::{ParseFault, parse, tokens};
 use pr_place::{PlaceFault, place};
 use pr_route::route;
-use pr_scope::{ScopeFault, check};
-use pr_width::{WidthFault, Widths, solve};
+use pr_width::Widths;
 use std::alloc::{AllocError, Global};
 
 /// What stops a text on its way to a net.
@@ -54,36 +52,16 @@ impl From<PlaceFault> for Stop {
     }
 }
 
-/// The flat equations of a text.
-fn flat_of(alloc: Global, text: &[u8]) -> Result<Flat, Stop>
+/// The program of a text with its equations and their widths.
+#[tactic(auto, using(crate::proofs::Lawful::front_widths))]
+pub(crate) fn front_of(alloc: Global, text: &[u8]) -> Result<Front, Stop>
     requires { length text.now ≤ 1048576 }
+    ensures { IfOk result (λ f. AreWidths (shapes_of f.flat.equations.items) f.widths) }
 {
-    let tokens = tokens(alloc, text)?;
-    let program = match parse(alloc, text, &tokens) {
-        Ok(program) => program,
-        Err(ParseFault::Memory(error)) => return Err(Stop::Memory(error)),
-        Err(_) => return Err(Stop::Refused),
-    };
-    let scoped = match check(alloc, program) {
-        Ok(scoped) => scoped,
-        Err(ScopeFault::Memory(error)) => return Err(Stop::Memory(error)),
-        Err(_) => return Err(Stop::Refused),
-    };
-    match expand(alloc, &scoped) {
-        Ok(flat) => Ok(flat),
-        Err(ExpandFault::Memory(error)) => Err(Stop::Memory(error)),
-        Err(ExpandFault::Limit(_)) => Err(Stop::Refused),
-    }
-}
-
-/// The widths of equations.
-fn widths_of(alloc: Global, flat: &Flat) -> Result<Widths, Stop>
-    ensures { IfOk result (λ w. AreWidths (shapes_of flat.now.equations.items) w) }
-{
-    match solve(alloc, flat) {
-        Ok(widths) => Ok(widths),
-        Err(WidthFault::NoWidth { .. }) => Err(Stop::Refused),
-        Err(WidthFault::Memory(error)) => Err(Stop::Memory(error)),
+    match read_program(alloc, text) {
+        Ok(front) => Ok(front),
+        Err(FrontFault::Memory(error)) => Err(Stop::Memory(error)),
+        Err(_) => Err(Stop::Refused),
     }
 }
 
@@ -93,9 +71,8 @@ pub(crate) fn net_of(alloc: Global, text: &[u8], columns: usize) -> Result<Net, 
     requires some { 1 ≤ columns }
     requires few { columns ≤ 64 }
 {
-    let flat = flat_of(alloc, text)?;
-    let widths = widths_of(alloc, &flat)?;
-    let net = cut(alloc, &flat, &widths, columns)?;
+    let front = front_of(alloc, text)?;
+    let net = cut(alloc, &front.flat, &front.widths, columns)?;
     Ok(net)
 }
 
@@ -135,7 +112,6 @@ pub(crate) fn route_text<const N: usize, const P: usize>(
     requires registers { 2 ≤ P }
     requires most_registers { P ≤ 16 }
 {
-    let flat = flat_of(alloc, text)?;
-    let widths = widths_of(alloc, &flat)?;
-    route_flat(alloc, &flat, &widths)
+    let front = front_of(alloc, text)?;
+    route_flat(alloc, &front.flat, &front.widths)
 }

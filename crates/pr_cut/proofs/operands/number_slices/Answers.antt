@@ -8,6 +8,6 @@ use Rattle.pr_cut.proofs.operands.number_slices.Goals as goal
 
 pub returns : goal.returns
 returns c =
-    let end : c.loop-i.i ≡ c.slices-i-end.result = omega (arith, c.loop-i.auto.i-end, c.loop-i-test.false) in
-    let count : c.loop-i.i ≡ slices_of (number_width c.args.c) = end ∙ c.slices-i-end.ensures ∙ ap slices_of (c.get.ensures ∙ c.number_width.ensures.width) in
+    let end : c.loop-i.i ≡ c.slices-count.result = omega (arith, c.loop-i.auto.i-end, c.loop-i-test.false) in
+    let count : c.loop-i.i ≡ slices_of (number_width c.args.c) = end ∙ c.slices-count.ensures ∙ ap slices_of (c.get.ensures ∙ c.number_width.ensures.width) in
     c.loop-i.invariant ∙ ap (λ (k : ℕ). each k (λ i. Slice.Const (byte_at c.args.c i))) count ∙ number_each (slices_of (number_width c.args.c)) c.args.c

@@ -1,4 +1,4 @@
-use Rattle.std.proofs.Common.{◌≡◌, [], ◌∷◌, length, ap, ◌∙◌}
+use Rattle.std.proofs.Common.{◌≡◌, [], ◌∷◌, length, refl, ap, ◌∙◌}
 use Rattle.pr_flat.specs.declared.forms.Form.{Form}
 use Rattle.pr_flat.specs.Rows.{natural_form}
 use Rattle.pr_cut_units.specs.Table.{computed_bits}
@@ -6,14 +6,14 @@ use Rattle.pr_cut_cells.specs.Arguments.{argument_of}
 use Rattle.pr_cut.proofs.OperatorLemmas.{natural_is, bits_are, whole_one, result_whole, result_slices}
 use Rattle.pr_cut.proofs.operators.units_one.Goals as goal
 
-pub finished-requires-clause-whole : goal.finished-requires-clause-whole
-finished-requires-clause-whole c =
+pub at_width-requires-clause-whole : goal.at_width-requires-clause-whole
+at_width-requires-clause-whole c =
     let natural : c.unwrap-natural.result ≡ natural_form c.args.op ((argument_of c.args.a.now).form ∷ []) = natural_is c.natural_one.result c.args.op (c.form_of.result ∷ []) c.unwrap-natural.result c.unwrap-natural.ensures c.natural_one.ensures ∙ ap (λ (f : Form). natural_form c.args.op (f ∷ [])) c.form_of.ensures in
     let bits : c.computed-e.result ≡ computed_bits c.args.w c.args.op ((argument_of c.args.a.now).form ∷ []) = bits_are c.args.w c.computed-e.result c.args.op ((argument_of c.args.a.now).form ∷ []) c.unwrap-natural.result natural c.computed-e.ensures in
-    result_whole c.args.op (argument_of c.args.a.now ∷ []) (length c.args.units.now.items) c.deref.result.now c.in_ok-x.x.items c.computed-e.result (computed_bits c.args.w c.args.op ((argument_of c.args.a.now).form ∷ [])) bits c.deref.ensures.value c.in_ok-x.ensures.slices (whole_one c.args.w c.args.op (argument_of c.args.a.now) (length c.args.units.now.items) c.requires.some c.requires.operator c.requires.arity c.args.a.now.some)
+    result_whole c.args.op (argument_of c.args.a.now ∷ []) (length c.args.units.now.items) c.in_ok-x.x.items c.in_ok-x.x.items c.computed-e.result (computed_bits c.args.w c.args.op ((argument_of c.args.a.now).form ∷ [])) bits refl c.in_ok-x.ensures.slices (whole_one c.args.w c.args.op (argument_of c.args.a.now) (length c.args.units.now.items) c.requires.some c.requires.operator c.requires.arity c.args.a.now.some)
 
 pub returns-clause-slices : goal.returns-clause-slices
 returns-clause-slices c =
     let natural : c.unwrap-natural.result ≡ natural_form c.args.op ((argument_of c.args.a.now).form ∷ []) = natural_is c.natural_one.result c.args.op (c.form_of.result ∷ []) c.unwrap-natural.result c.unwrap-natural.ensures c.natural_one.ensures ∙ ap (λ (f : Form). natural_form c.args.op (f ∷ [])) c.form_of.ensures in
     let bits : c.computed-e.result ≡ computed_bits c.args.w c.args.op ((argument_of c.args.a.now).form ∷ []) = bits_are c.args.w c.computed-e.result c.args.op ((argument_of c.args.a.now).form ∷ []) c.unwrap-natural.result natural c.computed-e.ensures in
-    result_slices c.args.w c.args.op (argument_of c.args.a.now ∷ []) c.args.units.now.items _ c.in_ok-x.x.items c.in_ok-all.all.items c.deref.result.now c.computed-e.result _ bits (ap (λ (f : Form). f.signed) natural) c.deref.ensures.value c.in_ok-x.ensures.units c.in_ok-x.ensures.slices c.in_ok-all.ensures.slices
+    result_slices c.args.w c.args.op (argument_of c.args.a.now ∷ []) c.args.units.now.items _ c.in_ok-x.x.items c.in_ok-all.all.items c.in_ok-x.x.items c.computed-e.result _ bits (ap (λ (f : Form). f.signed) natural) refl c.in_ok-x.ensures.units c.in_ok-x.ensures.slices c.in_ok-all.ensures.slices

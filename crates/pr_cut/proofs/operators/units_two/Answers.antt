@@ -1,4 +1,4 @@
-use Rattle.std.proofs.Common.{◌≡◌, [], ◌∷◌, length, ap, ap₂, ◌∙◌}
+use Rattle.std.proofs.Common.{◌≡◌, [], ◌∷◌, length, refl, ap, ap₂, ◌∙◌}
 use Rattle.pr_flat.specs.declared.forms.Form.{Form}
 use Rattle.pr_flat.specs.Rows.{natural_form}
 use Rattle.pr_cut_units.specs.Table.{computed_bits}
@@ -6,14 +6,14 @@ use Rattle.pr_cut_cells.specs.Arguments.{argument_of}
 use Rattle.pr_cut.proofs.OperatorLemmas.{bits_are, whole_two, result_whole, result_slices}
 use Rattle.pr_cut.proofs.operators.units_two.Goals as goal
 
-pub finished-requires-clause-whole : goal.finished-requires-clause-whole
-finished-requires-clause-whole c =
+pub at_width-requires-clause-whole : goal.at_width-requires-clause-whole
+at_width-requires-clause-whole c =
     let natural : c.natural_two-natural.result ≡ natural_form c.args.op ((argument_of c.args.a.now).form ∷ (argument_of c.args.b.now).form ∷ []) = c.natural_two-natural.ensures.form ∙ ap₂ (λ (f g : Form). natural_form c.args.op (f ∷ g ∷ [])) c.form_of.ensures c.form_of-2.ensures in
     let bits : c.computed-e.result ≡ computed_bits c.args.w c.args.op ((argument_of c.args.a.now).form ∷ (argument_of c.args.b.now).form ∷ []) = bits_are c.args.w c.computed-e.result c.args.op ((argument_of c.args.a.now).form ∷ (argument_of c.args.b.now).form ∷ []) c.natural_two-natural.result natural c.computed-e.ensures in
-    result_whole c.args.op (argument_of c.args.a.now ∷ argument_of c.args.b.now ∷ []) (length c.args.units.now.items) c.deref.result.now c.in_ok-x.x.items c.computed-e.result (computed_bits c.args.w c.args.op ((argument_of c.args.a.now).form ∷ (argument_of c.args.b.now).form ∷ [])) bits c.deref.ensures.value c.in_ok-x.ensures.slices (whole_two c.args.w c.args.op (argument_of c.args.a.now) (argument_of c.args.b.now) (length c.args.units.now.items) c.requires.some c.requires.few c.requires.arity c.args.a.now.some c.args.b.now.some)
+    result_whole c.args.op (argument_of c.args.a.now ∷ argument_of c.args.b.now ∷ []) (length c.args.units.now.items) c.in_ok-x.x.items c.in_ok-x.x.items c.computed-e.result (computed_bits c.args.w c.args.op ((argument_of c.args.a.now).form ∷ (argument_of c.args.b.now).form ∷ [])) bits refl c.in_ok-x.ensures.slices (whole_two c.args.w c.args.op (argument_of c.args.a.now) (argument_of c.args.b.now) (length c.args.units.now.items) c.requires.some c.requires.few c.requires.arity c.args.a.now.some c.args.b.now.some)
 
 pub returns-clause-slices : goal.returns-clause-slices
 returns-clause-slices c =
     let natural : c.natural_two-natural.result ≡ natural_form c.args.op ((argument_of c.args.a.now).form ∷ (argument_of c.args.b.now).form ∷ []) = c.natural_two-natural.ensures.form ∙ ap₂ (λ (f g : Form). natural_form c.args.op (f ∷ g ∷ [])) c.form_of.ensures c.form_of-2.ensures in
     let bits : c.computed-e.result ≡ computed_bits c.args.w c.args.op ((argument_of c.args.a.now).form ∷ (argument_of c.args.b.now).form ∷ []) = bits_are c.args.w c.computed-e.result c.args.op ((argument_of c.args.a.now).form ∷ (argument_of c.args.b.now).form ∷ []) c.natural_two-natural.result natural c.computed-e.ensures in
-    result_slices c.args.w c.args.op (argument_of c.args.a.now ∷ argument_of c.args.b.now ∷ []) c.args.units.now.items _ c.in_ok-x.x.items c.in_ok-all.all.items c.deref.result.now c.computed-e.result _ bits (ap (λ (f : Form). f.signed) natural) c.deref.ensures.value c.in_ok-x.ensures.units c.in_ok-x.ensures.slices c.in_ok-all.ensures.slices
+    result_slices c.args.w c.args.op (argument_of c.args.a.now ∷ argument_of c.args.b.now ∷ []) c.args.units.now.items _ c.in_ok-x.x.items c.in_ok-all.all.items c.in_ok-x.x.items c.computed-e.result _ bits (ap (λ (f : Form). f.signed) natural) refl c.in_ok-x.ensures.units c.in_ok-x.ensures.slices c.in_ok-all.ensures.slices

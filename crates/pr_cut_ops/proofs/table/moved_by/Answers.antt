@@ -1,4 +1,5 @@
 use Rattle.std.proofs.Common.{◌≡◌, ◌∙◌, ap, ap₂, List, ◌++◌, length}
+use Rattle.std.specs.Cow.{cow_slice_items}
 use Rattle.pr_net.specs.declared.cells.Slice.{Slice}
 use Rattle.pr_cut_units.specs.Parts.{Making}
 use Rattle.pr_cut_units.specs.Operators.{extracted}
@@ -12,7 +13,7 @@ returns-clause-slices c =
     let vs = c.shifted_by.new.units.items in
     let w = c.args.a.now.width in
     let rows : List Slice → List Slice → Making = λ by x. shifted_by c.args.left w by c.args.by.now.width x in
-    let first : Making = rows c.args.by.now.slices.items c.args.a.now.slices.items in
+    let first : Making = rows (cow_slice_items c.args.by.now.slices) (cow_slice_items c.args.a.now.slices) in
     let made : vs ≡ us ++ (first (length us)).units = c.in_ok-all.ensures.units ∙ ap₂ (λ (by x : List Slice). us ++ (rows by x (length us)).units) c.deref.ensures.value c.deref-2.ensures.value in
     let now : c.in_ok-all.all.items ≡ (first (length us)).slices = c.in_ok-all.ensures.slices ∙ ap₂ (λ (by x : List Slice). (rows by x (length us)).slices) c.deref.ensures.value c.deref-2.ensures.value in
     c.in_ok-low.ensures.slices ∙ ap (λ (x : List Slice). (extracted c.args.e w 0 x (length vs)).slices) c.deref-3.ensures.value ∙ then_slices first (λ x. extracted c.args.e w 0 x) c.in_ok-all.all.items us vs made now

@@ -1,4 +1,5 @@
 use Rattle.std.proofs.Common.{◌≡◌, ◌∙◌, false, ap, List, ◌++◌, length}
+use Rattle.std.specs.Cow.{cow_slice_items}
 use Rattle.pr_net.specs.declared.cells.Slice.{Slice}
 use Rattle.pr_cut_units.specs.Parts.{Making}
 use Rattle.pr_cut_units.specs.Shifts.{shifted_by, flipped_back}
@@ -12,7 +13,7 @@ returns-clause-units c =
     let vs = c.shifted_by.new.units.items in
     let w = c.args.a.now.width in
     let rows : List Slice → Making = λ by. shifted_by false w by c.args.by.now.width c.args.x.now in
-    let first : Making = rows c.args.by.now.slices.items in
+    let first : Making = rows (cow_slice_items c.args.by.now.slices) in
     let second : List Slice → Making = flipped_back c.args.e (argument_of c.args.a.now) in
     let made : vs ≡ us ++ (first (length us)).units = c.in_ok-y.ensures.units ∙ ap (λ (by : List Slice). us ++ (rows by (length us)).units) c.deref.ensures.value in
     let now : c.in_ok-y.y.items ≡ (first (length us)).slices = c.in_ok-y.ensures.slices ∙ ap (λ (by : List Slice). (rows by (length us)).slices) c.deref.ensures.value in
@@ -24,7 +25,7 @@ returns-clause-slices c =
     let vs = c.shifted_by.new.units.items in
     let w = c.args.a.now.width in
     let rows : List Slice → Making = λ by. shifted_by false w by c.args.by.now.width c.args.x.now in
-    let first : Making = rows c.args.by.now.slices.items in
+    let first : Making = rows (cow_slice_items c.args.by.now.slices) in
     let second : List Slice → Making = flipped_back c.args.e (argument_of c.args.a.now) in
     let made : vs ≡ us ++ (first (length us)).units = c.in_ok-y.ensures.units ∙ ap (λ (by : List Slice). us ++ (rows by (length us)).units) c.deref.ensures.value in
     let now : c.in_ok-y.y.items ≡ (first (length us)).slices = c.in_ok-y.ensures.slices ∙ ap (λ (by : List Slice). (rows by (length us)).slices) c.deref.ensures.value in

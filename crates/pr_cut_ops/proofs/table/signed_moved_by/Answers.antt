@@ -1,4 +1,5 @@
 use Rattle.std.proofs.Common.{◌≡◌, ◌∙◌, ap, ap₂, List, ◌++◌, length}
+use Rattle.std.specs.Cow.{cow_slice_items}
 use Rattle.pr_net.specs.declared.cells.Slice.{Slice}
 use Rattle.pr_cut_units.specs.Parts.{Making}
 use Rattle.pr_cut_units.specs.Widening.{flipped, read_as}
@@ -13,7 +14,7 @@ returns-clause-units c =
     let vs = c.flipped.new.units.items in
     let w = c.args.a.now.width in
     let flip : List Slice → List Slice → Making = λ a x. flipped (read_as c.args.a.now.signed w a) x in
-    let first : Making = flip c.args.a.now.slices.items c.args.a.now.slices.items in
+    let first : Making = flip (cow_slice_items c.args.a.now.slices) (cow_slice_items c.args.a.now.slices) in
     let second : List Slice → Making = shifted_back c.args.e (argument_of c.args.a.now) (argument_of c.args.by.now) in
     let made : vs ≡ us ++ (first (length us)).units = c.in_ok-x.ensures.units ∙ ap₂ (λ (a x : List Slice). us ++ (flip a x (length us)).units) c.deref.ensures.value c.deref-2.ensures.value in
     let now : c.in_ok-x.x.items ≡ (first (length us)).slices = c.in_ok-x.ensures.slices ∙ ap₂ (λ (a x : List Slice). (flip a x (length us)).slices) c.deref.ensures.value c.deref-2.ensures.value in
@@ -25,7 +26,7 @@ returns-clause-slices c =
     let vs = c.flipped.new.units.items in
     let w = c.args.a.now.width in
     let flip : List Slice → List Slice → Making = λ a x. flipped (read_as c.args.a.now.signed w a) x in
-    let first : Making = flip c.args.a.now.slices.items c.args.a.now.slices.items in
+    let first : Making = flip (cow_slice_items c.args.a.now.slices) (cow_slice_items c.args.a.now.slices) in
     let second : List Slice → Making = shifted_back c.args.e (argument_of c.args.a.now) (argument_of c.args.by.now) in
     let made : vs ≡ us ++ (first (length us)).units = c.in_ok-x.ensures.units ∙ ap₂ (λ (a x : List Slice). us ++ (flip a x (length us)).units) c.deref.ensures.value c.deref-2.ensures.value in
     let now : c.in_ok-x.x.items ≡ (first (length us)).slices = c.in_ok-x.ensures.slices ∙ ap₂ (λ (a x : List Slice). (flip a x (length us)).slices) c.deref.ensures.value c.deref-2.ensures.value in
