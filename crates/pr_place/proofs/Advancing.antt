@@ -46,14 +46,14 @@ few_stages N P net t course groups tables f =
     omega (arith, all, few)
 
 -- ---- the next stripe opens
-tracks_on : (N P : ℕ) (net : NetShape) (t : Tables) (stage : ℕ) (placed : List Seat) (s : Progress) → Sound N P net stage placed → Tracks N P net t.cells.first.items t.cells.kept.items (ops_of t.plans.items) stage placed s
-    → Tracks N P net t.cells.first.items t.cells.kept.items (ops_of t.plans.items) (suc stage) placed (opened s)
+tracks_on : (N P : ℕ) (net : NetShape) (t : Tables) (stage : ℕ) (placed : List Seat) (s : Progress) → Sound N P net stage placed → Tracks N P net t.cells.first.items t.cells.kept.items (ops_of t.plans) stage placed s
+    → Tracks N P net t.cells.first.items t.cells.kept.items (ops_of t.plans) (suc stage) placed (opened s)
 tracks_on N P net t stage placed s sound h =
-    let on = opened_tracks N P net t.cells.first.items t.cells.kept.items (ops_of t.plans.items) stage placed s sound h in
-    subst (λ (n : ℕ). Tracks N P net t.cells.first.items t.cells.kept.items (ops_of t.plans.items) (suc stage) placed (record { table = s.table; taken = replicate n false; spots = s.spots })) (sym h.taken_long) on
+    let on = opened_tracks N P net t.cells.first.items t.cells.kept.items (ops_of t.plans) stage placed s sound h in
+    subst (λ (n : ℕ). Tracks N P net t.cells.first.items t.cells.kept.items (ops_of t.plans) (suc stage) placed (record { table = s.table; taken = replicate n false; spots = s.spots })) (sym h.taken_long) on
 
 waits_on : (N P : ℕ) (net : NetShape) (t : Tables) (course : Course) (groups now : List ℕ) → AreTables N P net t → Filled N P net t course groups → length now ≡ length course.waits.items → ((g : ℕ) → get_or now g 0 + readings t g groups ≡ get_or course.waits.items g 0)
-    → Waits net t.cells.owner.items (ops_of t.plans.items) (placed_after N P net (suc course.stage)) now
+    → Waits net t.cells.owner.items (ops_of t.plans) (placed_after N P net (suc course.stage)) now
 waits_on N P net t course groups now tables f long counted = record {
   long = long ∙ f.waiting.long;
   is = λ g l.
@@ -93,7 +93,7 @@ opens_next N P net t course next groups ready tables f some h =
       ready_long = h.lists.ready ∙ h.long ∙ f.waiting.long;
       blocks = h.lists.blocks;
       covered = h.lists.covered;
-      tracks = subst (λ (s : Progress). Tracks N P net t.cells.first.items t.cells.kept.items (ops_of t.plans.items) (suc stage) placed s) (sym h.progress) (tracks_on N P net t stage placed course.progress sound f.filled.tracks);
+      tracks = subst (λ (s : Progress). Tracks N P net t.cells.first.items t.cells.kept.items (ops_of t.plans) (suc stage) placed s) (sym h.progress) (tracks_on N P net t stage placed course.progress sound f.filled.tracks);
       candidates = again;
       waiting = waits_on N P net t course groups next.waits.items tables f h.long h.counted;
       standing = subst (Staged net placed) (sym h.stages) (staged_on net t.class.items stage start placed f.before course.candidates.ready.items groups course.stages.items (λ k c. (sound.cell k c).group) f.received f.standing);

@@ -1,25 +1,11 @@
 -- Groups that wait for less, one after the other.
-use Rattle.std.proofs.Common.{◌≡◌, ℕ, ◌+◌, ◌-◌, ◌/◌, ◌*◌, ◌<◌, ◌≤◌, ◌==◌, Bool, List, [], ◌∷◌, length, get_or, set, drop, Vec, Global, if◌then◌else◌, refl, sym, ap, ◌∙◌, inl, inr, arith, add-one, drop-cons, get_or-set_same, get_or-set_other}
-use Rattle.std.specs.Int.{bit_at}
+use Rattle.std.proofs.Common.{◌≡◌, ℕ, ◌+◌, ◌-◌, ◌<◌, ◌≤◌, ◌==◌, Bool, List, ◌∷◌, length, get_or, set, drop, if◌then◌else◌, refl, sym, ap, ◌∙◌, inl, inr, arith, add-one, drop-cons, get_or-set_same, get_or-set_other}
 use Rattle.std.proofs.lemmas.Bool.{cases_eq, eq-eqb, ne_eqb}
-use Rattle.std.proofs.lemmas.List.{get_or-map}
 use Rattle.std.proofs.lemmas.List.Sums.{sum_by-cons}
 use Rattle.pr_place.specs.declared.lookups.Tables.{Tables}
 use Rattle.pr_place.specs.Registers.{count_of}
 use Rattle.pr_place.specs.Tables.{readers_in}
-use Rattle.pr_place.specs.Candidates.{IsCovered}
 pub use Rattle.pr_place.specs.Opening.{readings, AreLists, Woken}
-
--- a block's set is looked at anew
-pub tightened : (ready summary : List ℕ) (group x : ℕ) → length ready < 128 * length summary → group < length ready → IsCovered ready summary
-    → ((g : ℕ) → group / 128 * 128 ≤ g → g < (group / 128 + 1) * 128 → g < length ready → get_or ready g 0 < 64 → bit_at x (get_or ready g 0) ≡ 1)
-    → IsCovered ready (set summary (group / 128) x)
-tightened ready summary group x blocks inside covered fresh g l small = elim (cases_eq (g / 128) (group / 128)) [
-  | inl e ↦
-      (let at : get_or (set summary (group / 128) x) (g / 128) 0 ≡ x = ap (λ (k : ℕ). get_or (set summary (group / 128) x) k 0) e ∙ get_or-set_same summary (group / 128) x 0 (omega (arith, blocks, inside)) in
-      ap (λ (k : ℕ). bit_at k (get_or ready g 0)) at ∙ fresh g (omega (arith, e)) (omega (arith, e)) l small)
-  | inr ne ↦ ap (λ (k : ℕ). bit_at k (get_or ready g 0)) (get_or-set_other summary (group / 128) (g / 128) x 0 ne) ∙ covered g l small
-]
 
 pub woken_on : (class a ra b rb d rd : List ℕ) → Woken class a ra b rb → Woken class b rb d rd → Woken class a ra d rd
 woken_on class a ra b rb d rd h k = record {
@@ -61,6 +47,3 @@ pub readings_drop : (t : Tables) (g : ℕ) (groups : List ℕ) (i : ℕ) → i <
 readings_drop t g groups i l =
     let cons : drop i groups ≡ get_or groups i 0 ∷ drop (i + 1) groups = rw (add-one, drop-cons groups i 0) refl in
     ap (readings t g) cons ∙ sum_by-cons (λ h. count_of g (readers_in t h)) (get_or groups i 0) (drop (i + 1) groups)
-
-pub readers_now : (t : Tables) (h : ℕ) (v : Vec ℕ Global) → h < length t.readers.items → v ≡ get_or t.readers.items h v → v.items ≡ readers_in t h
-readers_now t h v l is = ap (λ (q : Vec ℕ Global). q.items) is ∙ sym (get_or-map (λ (q : Vec ℕ Global). q.items) t.readers.items h v [] l)

@@ -52,7 +52,7 @@ pub opens_first : (N P : ℕ) (net : NetShape) (t : Tables) (start : Start) (cou
 opens_first N P net t start course tables h stage left progress ready summary waits stages =
     let none = none_after N P net in
     let f = h.filling in
-    let able = λ (g : ℕ) (l : g < length net.groups). ready_is N P net t.cells.first.items (ops_of t.plans.items) t.cells.owner.items (length t.cells.owner.items) 0 g [] tables.fixed.numbered tables.owned (λ k c. absurd (omega (arith, c.1))) (cell_at N net tables.fixed.net_is) (spot_at N net tables.fixed.net_is) l in
+    let able = λ (g : ℕ) (l : g < length net.groups). ready_is N P net t.cells.first.items (ops_of t.plans) t.cells.owner.items (length t.cells.owner.items) 0 g [] tables.fixed.numbered tables.owned (λ k c. absurd (omega (arith, c.1))) (cell_at N net tables.fixed.net_is) (spot_at N net tables.fixed.net_is) l in
     let opening : Opening N P net t start.progress start.ready.items start.summary.items start.waits.items (replicate (length net.groups) None) 0 [] = record {
       uses_long = f.uses_long;
       ready_long = f.ready_long;

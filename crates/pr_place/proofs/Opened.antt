@@ -44,11 +44,11 @@ spot_at N net n h v j c = subst (λ (k : ℕ). Contains (spots_of net k) (spot v
 
 -- ---- the stripe may be filled
 pub fills_now : (N P : ℕ) (net : NetShape) (t : Tables) (s : Progress) (ready summary waits : List ℕ) (stages : List (Option ℕ)) (stage : ℕ) → AreTables N P net t → Opening N P net t s ready summary waits stages stage (placed_after N P net stage)
-    → Filling N P net t.cells.first.items t.cells.kept.items t.plans.items t.class.items summary ready s stage (2 ^ 64 - 1) 0 (placed_after N P net stage)
+    → Filling N P net t.cells.first.items t.cells.kept.items t.plans t.class.items summary ready s stage (2 ^ 64 - 1) 0 (placed_after N P net stage)
 fills_now N P net t s ready summary waits stages stage tables h =
     let placed = placed_after N P net stage in
     let fixed = tables.fixed in
-    let able = λ (g : ℕ) (l : g < length net.groups). ready_is N P net t.cells.first.items (ops_of t.plans.items) t.cells.owner.items (length t.cells.owner.items) stage g placed fixed.numbered tables.owned (placed_below N P net stage fixed.net_is fixed.registers) (cell_at N net fixed.net_is) (spot_at N net fixed.net_is) l in
+    let able = λ (g : ℕ) (l : g < length net.groups). ready_is N P net t.cells.first.items (ops_of t.plans) t.cells.owner.items (length t.cells.owner.items) stage g placed fixed.numbered tables.owned (placed_below N P net stage fixed.net_is fixed.registers) (cell_at N net fixed.net_is) (spot_at N net fixed.net_is) l in
     record {
       uses_long = h.uses_long;
       ready_long = h.ready_long;

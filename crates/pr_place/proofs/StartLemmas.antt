@@ -1,16 +1,15 @@
 -- Nothing is placed: what the tables say then.
-use Rattle.std.proofs.Common.{◌≡◌, ℕ, ◌+◌, ◌-◌, ◌*◌, ◌^◌, ◌<◌, ◌≤◌, ◌==◌, Bool, true, false, nat_lt, List, [], ◌∷◌, length, get_or, map, replicate, if◌then◌else◌, refl, sym, ap, ◌∙◌, subst, arith, inl, inr}
+use Rattle.std.proofs.Common.{◌≡◌, ℕ, ◌+◌, ◌-◌, ◌*◌, ◌^◌, ◌<◌, ◌≤◌, ◌==◌, Bool, true, false, nat_lt, List, [], ◌∷◌, length, get_or, replicate, if◌then◌else◌, refl, sym, ap, ◌∙◌, subst, arith, inl, inr}
 use Rattle.std.proofs.Math.Nat.{mul-le-mul_right}
 use Rattle.std.specs.List.{Contains}
 use Rattle.std.specs.Int.{bit_at}
 use Rattle.std.proofs.lemmas.Bool.{cases_Bool, false≢true, and_from, eq-eqb, lt-ltb}
-use Rattle.std.proofs.lemmas.List.{get_or-map, length-map, length-replicate, get_or-replicate}
+use Rattle.std.proofs.lemmas.List.{length-replicate, get_or-replicate}
 use Rattle.pr_net.specs.Shape.{NetShape}
 use Rattle.pr_net.proofs.Lists.{in_none}
 use Rattle.pr_place.specs.declared.lookups.Tables.{Tables}
-use Rattle.pr_place.specs.declared.plans.Plan.{Plan}
 use Rattle.pr_place.specs.Beginning.{nothing_put}
-use Rattle.pr_place.specs.Candidates.{IsCovered}
+use Rattle.pr_place.specs.Candidates.{HasSets, IsCovered}
 use Rattle.pr_place.specs.Greedy.{spots_of}
 use Rattle.pr_place.specs.Registers.{row_of}
 use Rattle.pr_place.specs.Tables.{AreTables, reads_in}
@@ -30,12 +29,6 @@ pub all_waits : (owner : List ℕ) (xs : List ℕ) → waits_of owner [] xs ≡ 
 all_waits owner [] = refl
 all_waits owner (x ∷ xs) = let ih = all_waits owner xs in let e : waits_of owner [] (x ∷ xs) ≡ 1 + waits_of owner [] xs = refl in omega (arith, ih, e)
 
-pub waits_at : (owner : List ℕ) (plans : List Plan) (waits : List ℕ) (g : ℕ) → waits ≡ map (λ (os : List ℕ). length os) (ops_of plans) → g < length plans → get_or waits g 0 ≡ waits_of owner [] (get_or (ops_of plans) g [])
-waits_at owner plans waits g e l =
-    ap (λ (ws : List ℕ). get_or ws g 0) e
-    ∙ get_or-map (λ (os : List ℕ). length os) (ops_of plans) g [] 0 (subst (λ (n : ℕ). g < n) (sym (length-map plans (λ (p : Plan). p.reads.items))) l)
-    ∙ sym (all_waits owner (get_or (ops_of plans) g []))
-
 slot : (N P c r : ℕ) → c < N → r < P → c * P + r < N * P
 slot N P c r lc lr =
     let up : (c + 1) * P ≤ N * P = mul-le-mul_right P (omega (arith, lc)) in
@@ -43,7 +36,7 @@ slot N P c r lc lr =
     omega (arith, up, more, lr)
 
 -- all registers are free, and no column is taken
-pub nothing_tracks : (N P : ℕ) (net : NetShape) (t : Tables) → AreTables N P net t → 2 ≤ P → Tracks N P net t.cells.first.items t.cells.kept.items (ops_of t.plans.items) 0 [] (nothing_put N P t.cells.uses.items)
+pub nothing_tracks : (N P : ℕ) (net : NetShape) (t : Tables) → AreTables N P net t → 2 ≤ P → Tracks N P net t.cells.first.items t.cells.kept.items (ops_of t.plans) 0 [] (nothing_put N P t.cells.uses.items)
 nothing_tracks N P net t h two =
     let held = replicate (N * P) false in
     let long : length held ≡ N * P = length-replicate (N * P) false in
@@ -85,7 +78,7 @@ first_offers N P net t waits ready h waits_is is =
       ready_is = λ g lg from.
           ap (λ (n : ℕ). nat_lt n 64) (is g lg) ∙ ready_small (get_or waits g 0) (get_or t.class.items g 0) (h.fixed.class_small g)
           ∙ ap (λ (n : ℕ). n == 0) (waits_is g lg)
-          ∙ sym (ready_is N P net first (ops_of t.plans.items) owner (length owner) 0 g [] h.fixed.numbered h.owned (λ k c. absurd (in_none k c))
+          ∙ sym (ready_is N P net first (ops_of t.plans) owner (length owner) 0 g [] h.fixed.numbered h.owned (λ k c. absurd (in_none k c))
           (λ k x lk c. cell_at_spot N net net_is k x lk c)
           (λ k v j c. subst (λ (m : ℕ). Contains (spots_of net m) (spot v j)) c.is (spot_in N net net_is v j (record { unit = c.unit; place = c.place }))) lg);
       class_is = λ g lg from small. is g lg ∙ ready_class (get_or waits g 0) (get_or t.class.items g 0) (subst (λ (n : ℕ). n < 64) (is g lg) small);
@@ -95,8 +88,8 @@ first_offers N P net t waits ready h waits_is is =
 
 pub first_filling : (N P : ℕ) (net : NetShape) (t : Tables) (waits ready summary : List ℕ) → AreTables N P net t → 2 ≤ P → ((g : ℕ) → g < length net.groups → get_or waits g 0 ≡ waits_of t.cells.owner.items [] (reads_in t g))
     → length ready ≡ length net.groups → ((g : ℕ) → g < length net.groups → get_or ready g 0 ≡ (if get_or waits g 0 == 0 then get_or t.class.items g 0 else 255))
-    → length ready < 128 * length summary → IsCovered ready summary
-    → Filling N P net t.cells.first.items t.cells.kept.items t.plans.items t.class.items summary ready (nothing_put N P t.cells.uses.items) 0 (2 ^ 64 - 1) 0 []
+    → HasSets ready summary → IsCovered ready summary
+    → Filling N P net t.cells.first.items t.cells.kept.items t.plans t.class.items summary ready (nothing_put N P t.cells.uses.items) 0 (2 ^ 64 - 1) 0 []
 first_filling N P net t waits ready summary h two waits_is long is blocks covered = record {
   uses_long = sym (length-replicate (length t.cells.uses.items) (0, 0));
   ready_long = long;

@@ -15,7 +15,7 @@ use Rattle.pr_place.specs.Opening.{left_of, Waits, AreReady, Staged, Received, O
 -- while a stripe is filled, before the turn of a group, where all classes are tried
 abbrev pub Fills : ℕ → ℕ → NetShape → Tables → Candidates → Progress → ℕ → ℕ → List Seat → Type 0
 Fills N P net tables candidates s stage from placed =
-    Filling N P net tables.cells.first.items tables.cells.kept.items tables.plans.items tables.class.items candidates.summary.items candidates.ready.items s stage (2 ^ 64 - 1) from placed
+    Filling N P net tables.cells.first.items tables.cells.kept.items tables.plans tables.class.items candidates.summary.items candidates.ready.items s stage (2 ^ 64 - 1) from placed
 
 -- before the first turn, and after the last
 abbrev pub IsOpen : ℕ → ℕ → NetShape → Tables → Candidates → Progress → ℕ → Type 0
@@ -47,7 +47,7 @@ pub record Filled (N P : ℕ) (net : NetShape) (tables : Tables) (course : Cours
   pub before : List ℕ
   pub ready : AreReady net tables.class.items course.waits.items (placed_after N P net course.stage) before
   pub received : Received net tables.class.items course.stage (placed_after N P net course.stage) (placed_after N P net (suc course.stage)) before course.candidates.ready.items groups
-  pub waiting : Waits net tables.cells.owner.items (ops_of tables.plans.items) (placed_after N P net course.stage) course.waits.items
+  pub waiting : Waits net tables.cells.owner.items (ops_of tables.plans) (placed_after N P net course.stage) course.waits.items
   pub standing : Staged net (placed_after N P net course.stage) course.stages.items
   pub left : course.left ≡ left_of net (placed_after N P net course.stage)
   pub each : EachGrew N P net course.stage

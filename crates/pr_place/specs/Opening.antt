@@ -1,5 +1,5 @@
 -- What the tables hold as a stripe opens: which groups wait for others, which may be placed, and in which stage each one stands.
-use Rattle.std.specs.Prelude.{◌≡◌, ◌≢◌, ℕ, ◌+◌, ◌*◌, ◌<◌, ◌≤◌, ◌⊎◌, ◌==◌, ◌&&◌, true, false, not, nat_lt, List, [], ◌∷◌, length, map, Option, None, Some, slice_index, slice_index_or, slice_set, replicate}
+use Rattle.std.specs.Prelude.{◌≡◌, ◌≢◌, ℕ, ◌+◌, ◌<◌, ◌≤◌, ◌⊎◌, ◌==◌, ◌&&◌, true, false, not, nat_lt, List, [], ◌∷◌, length, map, Option, None, Some, slice_index, slice_index_or, slice_set, replicate}
 use Rattle.std.specs.List.{Contains, fold, sum_by}
 use Rattle.std.specs.Option.{is_some}
 use Rattle.pr_net.specs.Shape.{NetShape}
@@ -9,7 +9,7 @@ use Rattle.pr_place.specs.Tables.{readers_in}
 use Rattle.pr_place.specs.Waits.{waits_of}
 use Rattle.pr_place.specs.Greedy.{Seat, is_placed}
 use Rattle.pr_place.specs.Registers.{Progress, count_of}
-use Rattle.pr_place.specs.Candidates.{IsCovered}
+use Rattle.pr_place.specs.Candidates.{HasSets, IsCovered}
 use Rattle.pr_place.specs.Tracking.{Tracks, ops_of, uses_of}
 
 -- how often a group reads another: for each reading of a cell the group of that cell is counted
@@ -50,11 +50,11 @@ pub record Received (net : NetShape) (class : List ℕ) (stage : ℕ) (start pla
 pub record Opening (N P : ℕ) (net : NetShape) (tables : Tables) (s : Progress) (ready summary waits : List ℕ) (stages : List (Option ℕ)) (stage : ℕ) (placed : List Seat) : Type 0 where
   pub uses_long : length s.table.uses ≡ length s.spots
   pub ready_long : length ready ≡ length net.groups
-  pub blocks : length ready < 128 * length summary
+  pub blocks : HasSets ready summary
   pub covered : IsCovered ready summary
-  pub tracks : Tracks N P net tables.cells.first.items tables.cells.kept.items (ops_of tables.plans.items) stage placed s
+  pub tracks : Tracks N P net tables.cells.first.items tables.cells.kept.items (ops_of tables.plans) stage placed s
   pub candidates : AreReady net tables.class.items waits placed ready
-  pub waiting : Waits net tables.cells.owner.items (ops_of tables.plans.items) placed waits
+  pub waiting : Waits net tables.cells.owner.items (ops_of tables.plans) placed waits
   pub standing : Staged net placed stages
 
 -- ---- how the next stripe opens
@@ -71,7 +71,7 @@ pub record AreLists (class waits : List ℕ) (candidates : Candidates) : Type 0 
   pub ready : length candidates.ready.items ≡ length waits
   pub classes : length class ≡ length waits
   pub small : (g : ℕ) → slice_index class g < 64
-  pub blocks : length candidates.ready.items < 128 * length candidates.summary.items
+  pub blocks : HasSets candidates.ready.items candidates.summary.items
   pub covered : IsCovered candidates.ready.items candidates.summary.items
 
 -- groups wait for less than before: those that wait for nothing now and did before are candidates, the others as they were

@@ -3,14 +3,17 @@
 ghost use Rattle.std.specs.Prelude.{◌≡◌, ◌<◌, ◌+◌, ◌^◌, ℕ, false, [], IfOk, OnOk, All, length, replicate, slice_index};
 ghost use Rattle.pr_net.specs.Nets.{IsNet};
 ghost use Rattle.pr_net.specs.Whole.{shape_of};
-ghost use Rattle.pr_place.specs.Numbering.{IsNumbered, owned_by, reads_from, marked_outputs};
+ghost use Rattle.pr_place.specs.Lists.{Holds};
+ghost use Rattle.pr_place.specs.Numbering.{IsNumbered, needs_in, owned_by, marked_outputs};
 ghost use Rattle.pr_place.specs.Registers.{count_of};
-ghost use Rattle.pr_place.specs.Tables.{AreCells};
-ghost use Rattle.pr_place.specs.Tracking.{IsCellOf, uses_of};
+ghost use Rattle.pr_place.specs.Tables.{AreCells, ArePlans, cells_by};
+ghost use Rattle.pr_place.specs.Tracking.{IsCellOf};
 
-use crate::numbering::{Numbering, group_cells, number_cells};
+use crate::lists::Lists;
+use crate::numbering::{Numbering, cell_lists, number_cells};
 use crate::outputs::mark_outputs;
-use crate::readings::group_reads;
+use crate::plans::Plans;
+use crate::readings::read_lists;
 use pr_net::Net;
 use std::alloc::{AllocError, Global};
 
@@ -42,23 +45,24 @@ fn owners<const N: usize>(
     alloc: Global,
     net: &Net,
     numbering: &Numbering,
+    cells: &Lists,
 ) -> Result<Vec<u32>, AllocError>
     requires net { IsNet N (shape_of net.now) }
     requires numbered { IsNumbered net.now.units.items numbering.now.first.items numbering.now.cells }
+    requires cells { Holds (cells_by (shape_of net.now) numbering.now.first.items)
+        (length net.now.groups.items) cells.now.starts.items cells.now.items.items }
     ensures long { IfOk result (λ owner. length owner.items ≡ numbering.now.cells) }
     ensures owner { IfOk result (λ owner. (g u i : ℕ) → IsCellOf (shape_of net.now) g u i
         → slice_index owner.items (slice_index numbering.now.first.items u + i) ≡ g) }
 {
     let mut owner = vec![in alloc; 0; numbering.cells]?;
     for group in 0..net.groups.len() {
-        let members = &net.groups[group];
-        let cells = group_cells(alloc, &net.units, &numbering.first, &members.units)?;
-        own(&mut owner, &cells, group as u32);
+        own(&mut owner, cells.of(group), group as u32);
     }
     Ok(owner)
 }
 
-/// Counts what a group reads.
+/// Counts what is read.
 fn count(uses: &mut [u32], reads: &[u32]) -> Result<(), AllocError>
     requires { All (λ x. x < length uses.old) reads.now }
     ensures long { length uses.new ≡ length uses.old }
@@ -71,32 +75,14 @@ fn count(uses: &mut [u32], reads: &[u32]) -> Result<(), AllocError>
     Ok(())
 }
 
-/// How often each cell is read by other groups.
-fn uses<const N: usize>(
-    alloc: Global,
-    net: &Net,
-    first: &[u32],
-    owner: &[u32],
-) -> Result<Vec<u32>, AllocError>
-    requires net { IsNet N (shape_of net.now) }
-    requires numbered { IsNumbered net.now.units.items first.now (length owner.now) }
-    ensures long { IfOk result (λ uses. length uses.items ≡ length owner.now) }
-    ensures uses { IfOk result (λ uses. (x : ℕ) → slice_index uses.items x
-        ≡ uses_of (reads_from net.now.units.items first.now owner.now 0 net.now.groups.items) [] x) }
+/// How often each of so many cells is read.
+fn uses(alloc: Global, cells: usize, reads: &[u32]) -> Result<Vec<u32>, AllocError>
+    requires { All (λ x. x < cells) reads.now }
+    ensures long { IfOk result (λ uses. length uses.items ≡ cells) }
+    ensures uses { IfOk result (λ uses. (x : ℕ) → slice_index uses.items x ≡ count_of x reads.now) }
 {
-    let mut uses = vec![in alloc; 0; owner.len()]?;
-    for group in 0..net.groups.len() {
-        let members = &net.groups[group];
-        let reads = group_reads(
-            alloc,
-            &net.units,
-            first,
-            owner,
-            group as u32,
-            &members.units,
-        )?;
-        count(&mut uses, &reads)?;
-    }
+    let mut uses = vec![in alloc; 0; cells]?;
+    count(&mut uses, reads)?;
     Ok(uses)
 }
 
@@ -116,21 +102,50 @@ fn kept<const N: usize>(
     Ok(kept)
 }
 
-impl CellTables {
-    /// The tables of a net.
-    pub fn of<const N: usize>(alloc: Global, net: &Net) -> Result<CellTables, AllocError>
-        requires { IsNet N (shape_of net.now) }
-        ensures { IfOk result (λ made. AreCells (shape_of net.now) made) }
-    {
-        let numbering = number_cells(alloc, &net.units)?;
-        let owner = owners::<N>(alloc, net, &numbering)?;
-        let kept = kept::<N>(alloc, net, &numbering)?;
-        let uses = uses::<N>(alloc, net, &numbering.first, &owner)?;
-        Ok(CellTables {
-            first: numbering.first,
-            owner,
-            kept,
-            uses,
-        })
+/// Whether each of these cells needs a register.
+fn needs_of(
+    alloc: Global,
+    kept: &[bool],
+    uses: &[u32],
+    cells: &[u32],
+) -> Result<Vec<bool>, AllocError>
+    requires kept { All (λ x. x < length kept.now) cells.now }
+    requires uses { All (λ x. x < length uses.now) cells.now }
+    ensures { IfOk result (λ needs. needs.items ≡ needs_in kept.now uses.now cells.now) }
+{
+    let mut needs = Vec::with_capacity(alloc, cells.len())?;
+    for &cell in cells {
+        needs.push(kept[cell as usize] || uses[cell as usize] > 0)?;
     }
+    Ok(needs)
+}
+
+/// The tables of a net's cells, and the plans of its groups.
+pub fn cells_and_plans<const N: usize>(
+    alloc: Global,
+    net: &Net,
+) -> Result<(CellTables, Plans), AllocError>
+    requires { IsNet N (shape_of net.now) }
+    ensures cells { IfOk result (λ made. AreCells (shape_of net.now) made.0) }
+    ensures plans { IfOk result (λ made. ArePlans (shape_of net.now) made.0 made.1) }
+{
+    let numbering = number_cells(alloc, &net.units)?;
+    let cells = cell_lists::<N>(alloc, net, &numbering)?;
+    let owner = owners::<N>(alloc, net, &numbering, &cells)?;
+    let kept = kept::<N>(alloc, net, &numbering)?;
+    let reads = read_lists::<N>(alloc, net, &numbering.first, &owner)?;
+    let uses = uses(alloc, numbering.cells, &reads.items)?;
+    let needs = needs_of(alloc, &kept, &uses, &cells.items)?;
+    let tables = CellTables {
+        first: numbering.first,
+        owner,
+        kept,
+        uses,
+    };
+    let plans = Plans {
+        cells,
+        needs,
+        reads,
+    };
+    Ok((tables, plans))
 }

@@ -5,9 +5,11 @@ ghost use Rattle.pr_net.specs.Nets.{IsNet};
 ghost use Rattle.pr_net.specs.Whole.{shape_of};
 ghost use Rattle.pr_place.specs.Tables.{AreTables};
 
-use crate::celltables::CellTables;
-use crate::grouping::{classes, plans, readers};
-use crate::plans::Plan;
+use crate::celltables::{CellTables, cells_and_plans};
+use crate::grouping::classes;
+use crate::lists::Lists;
+use crate::plans::Plans;
+use crate::readers::readers;
 use pr_net::Net;
 use std::alloc::{AllocError, Global};
 
@@ -17,11 +19,11 @@ pub struct Tables {
     /// What is known of the cells.
     pub cells: CellTables,
     /// The cells of each group and what it reads.
-    pub plans: Vec<Plan>,
+    pub plans: Plans,
     /// The class of each group.
     pub class: Vec<u8>,
     /// The groups that read each group, each as often as it reads a cell of it.
-    pub readers: Vec<Vec<u32>>,
+    pub readers: Lists,
 }
 
 impl Tables {
@@ -36,10 +38,9 @@ impl Tables {
         requires few_registers { P ≤ 16 }
         ensures { IfOk result (λ made. AreTables N P (shape_of net.now) made) }
     {
-        let cells = CellTables::of::<N>(alloc, net)?;
-        let plans = plans::<N>(alloc, net, &cells)?;
+        let (cells, plans) = cells_and_plans::<N>(alloc, net)?;
         let class = classes(alloc, &plans)?;
-        let readers = readers(alloc, &cells.owner, &plans)?;
+        let readers = readers(alloc, &cells.owner, &plans.reads)?;
         Ok(Tables {
             cells,
             plans,

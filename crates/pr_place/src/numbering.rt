@@ -2,9 +2,15 @@
 
 ghost use Rattle.std.specs.Prelude.{◌≡◌, ◌≤◌, ◌<◌, ◌+◌, ◌^◌, ℕ, [], ◌++◌, IfOk, OnOk, length, slice_index, slice_index_or};
 ghost use Rattle.std.specs.List.{range_with_len};
+ghost use Rattle.std.specs.List.{All};
+ghost use Rattle.pr_net.specs.Nets.{IsNet};
+ghost use Rattle.pr_net.specs.Whole.{shape_of};
+ghost use Rattle.pr_place.specs.Lists.{Holds};
 ghost use Rattle.pr_place.specs.Numbering.{IsNumbered, CanNumber, group_numbers};
+ghost use Rattle.pr_place.specs.Tables.{cells_by};
 
-use pr_net::Unit;
+use crate::lists::Lists;
+use pr_net::{Net, Unit};
 use std::alloc::{AllocError, Global};
 
 /// No tables are made for more cells.
@@ -47,20 +53,42 @@ fn push_numbers(numbers: &mut Vec<u32>, from: u32, count: usize) -> Result<(), A
     Ok(())
 }
 
-/// The numbers of the cells of these units.
-pub fn group_cells(
-    alloc: Global,
+/// Appends the numbers of the cells of these units.
+fn list_cells(
+    numbers: &mut Vec<u32>,
     units: &[Unit],
     first: &[u32],
     group: &[u32],
-) -> Result<Vec<u32>, AllocError>
+) -> Result<(), AllocError>
     requires { CanNumber units.now first.now group.now }
-    ensures { IfOk result (λ numbers. numbers.items ≡ group_numbers units.now first.now group.now) }
+    ensures { OnOk result (numbers.new.items ≡ numbers.old.items ++ group_numbers units.now first.now group.now) }
 {
-    let mut numbers = Vec::new(alloc);
     for &unit in group {
         let members = &units[unit as usize];
-        push_numbers(&mut numbers, first[unit as usize], members.cells.len())?;
+        push_numbers(numbers, first[unit as usize], members.cells.len())?;
     }
-    Ok(numbers)
+    Ok(())
+}
+
+/// The numbers of the cells of each group.
+pub fn cell_lists<const N: usize>(
+    alloc: Global,
+    net: &Net,
+    numbering: &Numbering,
+) -> Result<Lists, AllocError>
+    requires net { IsNet N (shape_of net.now) }
+    requires numbered { IsNumbered net.now.units.items numbering.now.first.items numbering.now.cells }
+    ensures cells { IfOk result (λ made. Holds (cells_by (shape_of net.now) numbering.now.first.items)
+        (length net.now.groups.items) made.starts.items made.items.items) }
+    ensures below { IfOk result (λ made. All (λ x. x < numbering.now.cells) made.items.items) }
+{
+    let mut starts = Vec::with_capacity(alloc, net.groups.len() + 1)?;
+    let mut items = Vec::with_capacity(alloc, numbering.cells)?;
+    starts.push(0)?;
+    for group in 0..net.groups.len() {
+        let members = &net.groups[group];
+        list_cells(&mut items, &net.units, &numbering.first, &members.units)?;
+        starts.push(items.len())?;
+    }
+    Ok(Lists { starts, items })
 }

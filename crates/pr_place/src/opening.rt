@@ -1,6 +1,7 @@
 //! Opening the next stripe.
 
 ghost use Rattle.std.specs.Prelude.{◌≡◌, ◌≤◌, ◌<◌, ◌+◌, ◌-◌, ℕ, All, length, slice_index, slice_set};
+ghost use Rattle.pr_place.specs.Plans.{count_of_lists};
 ghost use Rattle.pr_place.specs.Registers.{count_of};
 ghost use Rattle.pr_place.specs.Tables.{readers_in};
 ghost use Rattle.pr_place.specs.Opening.{noted, readings, AreLists, Woken};
@@ -53,7 +54,7 @@ fn wake_readers(class: &[u8], waits: &mut Vec<usize>, candidates: &mut Candidate
 /// The readers of these groups wait for them no more.
 pub fn wake(tables: &Tables, waits: &mut Vec<usize>, candidates: &mut Candidates, groups: &[u32])
     requires lists { AreLists tables.now.class.items waits.old.items candidates.old }
-    requires long { length tables.now.readers.items ≡ length waits.old.items }
+    requires long { count_of_lists tables.now.readers ≡ length waits.old.items }
     requires there { (h : ℕ) → All (λ g. g < length waits.old.items) (readers_in tables.now h) }
     requires groups { All (λ h. h < length waits.old.items) groups.now }
     requires waits { (g : ℕ) → readings tables.now g groups.now ≤ slice_index waits.old.items g }
@@ -68,7 +69,7 @@ pub fn wake(tables: &Tables, waits: &mut Vec<usize>, candidates: &mut Candidates
             &tables.class,
             waits,
             candidates,
-            &tables.readers[group as usize],
+            tables.readers.of(group as usize),
         );
     }
 }

@@ -2,9 +2,14 @@
 
 ghost use Rattle.std.specs.Prelude.{◌≡◌, ◌<◌, ◌≤◌, ◌^◌, ℕ, [], ◌++◌, IfOk, OnOk, length, slice_index, slice_index_or};
 ghost use Rattle.pr_net.specs.declared.cells.Cell.{Cell};
-ghost use Rattle.pr_place.specs.Numbering.{IsWireBelow, IsCellBelow, CanRead, wire_numbers, cell_numbers, unit_reads_of, group_reads_of};
+ghost use Rattle.pr_net.specs.Nets.{IsNet};
+ghost use Rattle.pr_net.specs.Whole.{shape_of};
+ghost use Rattle.pr_place.specs.Lists.{Holds, joined};
+ghost use Rattle.pr_place.specs.Numbering.{IsNumbered, IsWireBelow, IsCellBelow, CanRead, wire_numbers, cell_numbers, unit_reads_of, group_reads_of, reads_from};
+ghost use Rattle.pr_place.specs.Tables.{reads_by};
 
-use pr_net::{Cell, Unit, Wire, WireBit};
+use crate::lists::Lists;
+use pr_net::{Cell, Net, Unit, Wire, WireBit};
 use std::alloc::{AllocError, Global};
 
 /// Appends the cell that a wire reads, if it is of another group.
@@ -67,22 +72,54 @@ fn push_unit(
     Ok(())
 }
 
-/// The cells of other groups that these units read, each as often as they do.
-pub fn group_reads(
-    alloc: Global,
+/// Appends the cells of other groups that these units read, each as often as they do.
+fn list_reads(
+    reads: &mut Vec<u32>,
     units: &[Unit],
     first: &[u32],
     owner: &[u32],
     group: u32,
     members: &[u32],
-) -> Result<Vec<u32>, AllocError>
+) -> Result<(), AllocError>
     requires { CanRead units.now first.now (length owner.now) members.now }
-    ensures { IfOk result (λ reads. reads.items ≡ group_reads_of units.now first.now owner.now group members.now) }
+    ensures { OnOk result (reads.new.items
+        ≡ reads.old.items ++ group_reads_of units.now first.now owner.now group members.now) }
 {
-    let mut reads = Vec::new(alloc);
     for &member in members {
         let unit = &units[member as usize];
-        push_unit(&mut reads, first, owner, group, &unit.cells)?;
+        push_unit(reads, first, owner, group, &unit.cells)?;
     }
-    Ok(reads)
+    Ok(())
+}
+
+/// What each group reads of other groups.
+pub fn read_lists<const N: usize>(
+    alloc: Global,
+    net: &Net,
+    first: &[u32],
+    owner: &[u32],
+) -> Result<Lists, AllocError>
+    requires net { IsNet N (shape_of net.now) }
+    requires numbered { IsNumbered net.now.units.items first.now (length owner.now) }
+    ensures reads { IfOk result (λ made. Holds (reads_by (shape_of net.now) first.now owner.now)
+        (length net.now.groups.items) made.starts.items made.items.items) }
+    ensures all { IfOk result (λ made. made.items.items
+        ≡ joined (reads_from net.now.units.items first.now owner.now 0 net.now.groups.items)) }
+{
+    let mut starts = Vec::with_capacity(alloc, net.groups.len() + 1)?;
+    let mut items = Vec::with_capacity(alloc, owner.len())?;
+    starts.push(0)?;
+    for group in 0..net.groups.len() {
+        let members = &net.groups[group];
+        list_reads(
+            &mut items,
+            &net.units,
+            first,
+            owner,
+            group as u32,
+            &members.units,
+        )?;
+        starts.push(items.len())?;
+    }
+    Ok(Lists { starts, items })
 }

@@ -1,14 +1,14 @@
 //! How placing begins.
 
-ghost use Rattle.std.specs.Prelude.{◌≡◌, ◌≤◌, ◌<◌, ◌*◌, ◌^◌, ℕ, IfOk, if◌then◌else◌, ◌==◌, length, map, replicate, slice_index};
+ghost use Rattle.std.specs.Prelude.{◌≡◌, ◌≤◌, ◌<◌, ◌*◌, ◌^◌, ℕ, IfOk, if◌then◌else◌, ◌==◌, [], length, slice_index, slice_index_or};
 ghost use Rattle.pr_net.specs.Whole.{shape_of};
-ghost use Rattle.pr_place.specs.Candidates.{IsCovered};
+ghost use Rattle.pr_place.specs.Candidates.{HasSets, IsCovered};
+ghost use Rattle.pr_place.specs.Plans.{lists_of, count_of_lists};
 ghost use Rattle.pr_place.specs.Tables.{AreTables, IsStart};
-ghost use Rattle.pr_place.specs.Tracking.{ops_of};
 
-use crate::candidates::{BLOCK, NONE, with};
+use crate::candidates::{NONE, PART, SETS, note_class};
+use crate::lists::Lists;
 use crate::lookups::Tables;
-use crate::plans::Plan;
 use crate::progress::Progress;
 use pr_net::Net;
 use std::alloc::{AllocError, Global};
@@ -22,17 +22,19 @@ pub struct Start {
     pub waits: Vec<usize>,
     /// The class of each candidate, and 255 for other groups.
     pub ready: Vec<u8>,
-    /// For each block of groups a set of classes that has those of its candidates.
+    /// For each part of the groups, and each block in it, a set of classes that has those of its candidates.
     pub summary: Vec<u64>,
 }
 
 /// How many readings each group waits for: all.
-fn waits(alloc: Global, plans: &[Plan]) -> Result<Vec<usize>, AllocError>
-    ensures { IfOk result (λ waits. waits.items ≡ map (λ ops. length ops) (ops_of plans.now)) }
+fn waits(alloc: Global, reads: &Lists) -> Result<Vec<usize>, AllocError>
+    ensures long { IfOk result (λ waits. length waits.items ≡ count_of_lists reads.now) }
+    ensures waits { IfOk result (λ waits. (g : ℕ) → g < count_of_lists reads.now
+        → slice_index waits.items g ≡ length (slice_index_or (lists_of reads.now) g [])) }
 {
-    let mut waits = Vec::with_capacity(alloc, plans.len())?;
-    for plan in plans {
-        waits.push(plan.reads.len())?;
+    let mut waits = Vec::with_capacity(alloc, reads.len())?;
+    for group in 0..reads.len() {
+        waits.push(reads.of(group).len())?;
     }
     Ok(waits)
 }
@@ -56,16 +58,16 @@ fn candidates(alloc: Global, waits: &[usize], class: &[u8]) -> Result<Vec<u8>, A
     Ok(ready)
 }
 
-/// For each block of groups the classes of its candidates.
+/// For each part of the groups and each block in it the classes of its candidates.
 fn summary(alloc: Global, ready: &[u8]) -> Result<Vec<u64>, AllocError>
     requires { length ready.now < 2 ^ 32 }
-    ensures blocks { IfOk result (λ summary. length ready.now < 128 * length summary.items) }
+    ensures blocks { IfOk result (λ summary. HasSets ready.now summary.items) }
     ensures covered { IfOk result (λ summary. IsCovered ready.now summary.items) }
 {
-    let mut summary = vec![in alloc; 0; ready.len() / BLOCK + 1]?;
+    let mut summary = vec![in alloc; 0; ready.len() / PART * SETS + SETS]?;
     for group in 0..ready.len() {
         if ready[group] < 64 {
-            summary[group / BLOCK] = with(summary[group / BLOCK], ready[group]);
+            note_class(&mut summary, group, ready[group]);
         }
     }
     Ok(summary)
@@ -84,7 +86,7 @@ impl Start {
     {
         let uses = Vec::from_slice(alloc, &tables.cells.uses)?;
         let progress = Progress::new::<N, P>(alloc, uses)?;
-        let waits = waits(alloc, &tables.plans)?;
+        let waits = waits(alloc, &tables.plans.reads)?;
         let ready = candidates(alloc, &waits, &tables.class)?;
         let summary = summary(alloc, &ready)?;
         Ok(Start {

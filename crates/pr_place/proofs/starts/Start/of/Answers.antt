@@ -1,14 +1,13 @@
-use Rattle.std.proofs.Common.{◌≡◌, ◌<◌, ◌==◌, ◌*◌, ◌-◌, ◌^◌, ℕ, List, [], length, get_or, map, if◌then◌else◌, arith, ap, ap₂, sym, ◌∙◌, subst}
-use Rattle.std.proofs.lemmas.List.{length-map, length-replicate}
+use Rattle.std.proofs.Common.{◌≡◌, ◌<◌, ◌==◌, ◌-◌, ◌^◌, ℕ, List, [], length, get_or, if◌then◌else◌, arith, ap, ap₂, sym, ◌∙◌, subst}
+use Rattle.std.proofs.lemmas.List.{length-replicate}
 use Rattle.pr_net.specs.Whole.{shape_of}
-use Rattle.pr_place.specs.declared.plans.Plan.{Plan}
 use Rattle.pr_place.specs.Beginning.{nothing_put}
-use Rattle.pr_place.specs.Candidates.{IsCovered}
+use Rattle.pr_place.specs.Candidates.{HasSets, IsCovered}
 use Rattle.pr_place.specs.Registers.{Progress}
 use Rattle.pr_place.specs.Tables.{reads_in}
-use Rattle.pr_place.specs.Tracking.{Filling, ops_of}
+use Rattle.pr_place.specs.Tracking.{Filling}
 use Rattle.pr_place.specs.Waits.{waits_of}
-use Rattle.pr_place.proofs.StartLemmas.{waits_at, first_filling}
+use Rattle.pr_place.proofs.StartLemmas.{all_waits, first_filling}
 use Rattle.pr_place.proofs.starts.Start.of.Goals as goal
 
 pub returns : goal.returns
@@ -18,19 +17,19 @@ returns g c =
     let net = shape_of c.args.net.now in
     let t = c.args.tables.now in
     let h = c.requires.tables in
-    let plans = t.plans.items in
+    let plans = t.plans in
     let long = h.fixed.planned.long in
     let uses : c.in_ok-uses.uses.items ≡ t.cells.uses.items = c.in_ok-uses.ensures.items ∙ c.deref.ensures.value in
     let start : c.in_ok-progress.progress ≡ nothing_put N P t.cells.uses.items = c.in_ok-progress.ensures ∙ ap (nothing_put N P) uses in
-    let waits : c.in_ok-waits.waits.items ≡ map (λ (os : List ℕ). length os) (ops_of plans) = c.in_ok-waits.ensures ∙ ap (λ (ps : List Plan). map (λ (os : List ℕ). length os) (ops_of ps)) c.deref-2.ensures.value in
-    let waits_long : length c.in_ok-waits.waits.items ≡ length net.groups = ap length waits ∙ length-map (ops_of plans) (λ (os : List ℕ). length os) ∙ length-map plans (λ (p : Plan). p.reads.items) ∙ long in
-    let waits_is : (k : ℕ) → k < length net.groups → get_or c.in_ok-waits.waits.items k 0 ≡ waits_of t.cells.owner.items [] (reads_in t k) = λ k l. waits_at t.cells.owner.items plans c.in_ok-waits.waits.items k waits (omega (arith, l, long)) in
-    let same : length c.deref-3.result.now ≡ length net.groups = ap length c.deref-3.ensures.value ∙ waits_long in
+    let reads_long : length plans.reads.starts.items ≡ length plans.cells.starts.items = plans.same in
+    let waits_long : length c.in_ok-waits.waits.items ≡ length net.groups = (let w = c.in_ok-waits.ensures.long in omega (arith, w, reads_long, long)) in
+    let waits_is : (k : ℕ) → k < length net.groups → get_or c.in_ok-waits.waits.items k 0 ≡ waits_of t.cells.owner.items [] (reads_in t k) = λ k l. c.in_ok-waits.ensures.waits k (omega (arith, l, reads_long, long)) ∙ sym (all_waits t.cells.owner.items (reads_in t k)) in
+    let same : length c.deref-2.result.now ≡ length net.groups = ap length c.deref-2.ensures.value ∙ waits_long in
     let ready_long : length c.in_ok-ready.ready.items ≡ length net.groups = c.in_ok-ready.ensures.long ∙ same in
     let ready_is : (k : ℕ) → k < length net.groups → get_or c.in_ok-ready.ready.items k 0 ≡ (if get_or c.in_ok-waits.waits.items k 0 == 0 then get_or t.class.items k 0 else 255) =
-    λ k l. c.in_ok-ready.ensures.ready k (omega (arith, l, same)) ∙ ap₂ (λ (ws cl : List ℕ). if get_or ws k 0 == 0 then get_or cl k 0 else 255) c.deref-3.ensures.value c.deref-4.ensures.value in
-    let blocks : length c.in_ok-ready.ready.items < 128 * length c.in_ok-summary.summary.items = subst (λ (rs : List ℕ). length rs < 128 * length c.in_ok-summary.summary.items) c.deref-5.ensures.value c.in_ok-summary.ensures.blocks in
-    let covered : IsCovered c.in_ok-ready.ready.items c.in_ok-summary.summary.items = subst (λ (rs : List ℕ). IsCovered rs c.in_ok-summary.summary.items) c.deref-5.ensures.value c.in_ok-summary.ensures.covered in
+    λ k l. c.in_ok-ready.ensures.ready k (omega (arith, l, same)) ∙ ap₂ (λ (ws cl : List ℕ). if get_or ws k 0 == 0 then get_or cl k 0 else 255) c.deref-2.ensures.value c.deref-3.ensures.value in
+    let blocks : HasSets c.in_ok-ready.ready.items c.in_ok-summary.summary.items = subst (λ (rs : List ℕ). HasSets rs c.in_ok-summary.summary.items) c.deref-4.ensures.value c.in_ok-summary.ensures.blocks in
+    let covered : IsCovered c.in_ok-ready.ready.items c.in_ok-summary.summary.items = subst (λ (rs : List ℕ). IsCovered rs c.in_ok-summary.summary.items) c.deref-4.ensures.value c.in_ok-summary.ensures.covered in
     record {
       spots = ap (λ (p : Progress). length p.spots) start ∙ length-replicate (length t.cells.uses.items) (0, 0) ∙ h.uses_long;
       waits_long = waits_long;
