@@ -1,16 +1,15 @@
 -- Words that are appended one part after another.
-use Rattle.std.proofs.Common.{◌≡◌, ℕ, ◌+◌, ◌-◌, ◌*◌, ◌^◌, ◌<◌, zero, suc, add-one, ◌≤◌, ◌&&◌, Bool, true, false, List, [], ◌∷◌, ◌++◌, length, map, drop, get_or, refl, sym, ap, ◌∙◌, append_assoc, arith, cond, lit<, fold, ◌==◌, nat_lt, nat_le}
+use Rattle.std.proofs.Common.{◌≡◌, ℕ, ◌+◌, ◌*◌, ◌%◌, ◌^◌, ◌<◌, suc, add-one, ◌≤◌, ◌&&◌, Bool, true, false, List, [], ◌∷◌, ◌++◌, length, map, drop, get_or, refl, sym, ap, ◌∙◌, append_assoc, arith, cond, lit<, fold, ◌==◌, nat_lt, nat_le}
 use Rattle.std.specs.List.{list_all}
 use Rattle.std.specs.Int.{w32, to_be_bytes}
 use Rattle.std.proofs.lemmas.List.{append-nil, at_drop_more, at_drop_all, length-map}
-use Rattle.std.proofs.Math.Nat.{pow-le-pow_right}
+use Rattle.std.proofs.Math.Nat.{pow-le-pow_right, mod-eq_of_lt}
 use Rattle.std.proofs.lemmas.List.Concat.{flat_map-append}
 use Rattle.std.proofs.lemmas.Bool.{ltb-true, lt-ltb, leb-true}
 use Rattle.pr_base.specs.Numbers.{slices_of}
 use Rattle.pr_conf.specs.declared.pes.Bit.{Bit}
 use Rattle.pr_conf.specs.declared.stages.Site.{Site}
-use Rattle.pr_conf.specs.Shape.{OutputShape}
-use Rattle.pr_conf.specs.Rules.{is_lawful_source, is_lawful_bit, is_lawful_carry, is_lawful_pe, are_lawful_pes, are_lawful_stages, site_of, is_lawful_width, are_lawful_inputs, bytes_in, are_lawful_outputs, is_lawful_output}
+use Rattle.pr_conf.specs.Rules.{is_lawful_source, is_lawful_bit, is_lawful_carry, is_lawful_pe, are_lawful_pes, are_lawful_stages, site_of, is_lawful_width, are_lawful_inputs, bytes_in}
 use mir.Val.{bool_byte}
 use Rattle.pr_conf.specs.declared.pes.Pe.{Pe}
 use Rattle.pr_code.specs.Spelling.{bytes_of_words, number_of_flags, is_set, set_words, pe_words, has_small_choice, c_choice}
@@ -60,35 +59,41 @@ word_more out whole xs i x lt e h = part_more (λ t. t) (x ∷ []) out whole xs 
 pub words_done : (out whole xs : List ℕ) (i : ℕ) → length xs ≤ i → out ++ bytes_of_words (drop i xs) ≡ whole → out ≡ whole
 words_done out whole xs i le h = parts_done (λ t. t) out whole xs i le refl h
 
--- what every element passes
-pub all_more : {X : Type 0} (p : X → Bool) (xs : List X) (i : ℕ) (d : X) → i < length xs → list_all p (drop i xs) ≡ true → (p (get_or xs i d) ≡ true) × (list_all p (drop (i + 1) xs) ≡ true)
-all_more p xs i d lt h = both (p (get_or xs i d)) (list_all p (drop (i + 1) xs)) (sym (drop_step (list_all p) xs i (get_or xs i d) d lt refl) ∙ h)
-
 -- an element that passes may be left out
 pub all_less : {X : Type 0} (p : X → Bool) (xs : List X) (i : ℕ) (d : X) (whole : Bool) → i < length xs → p (get_or xs i d) ≡ true → whole ≡ list_all p (drop i xs) → whole ≡ list_all p (drop (i + 1) xs)
 all_less p xs i d whole lt here h = h ∙ (drop_step (list_all p) xs i (get_or xs i d) d lt refl ∙ ap (λ b. b && list_all p (drop (i + 1) xs)) here)
 
-pub all_done : {X : Type 0} (p : X → Bool) (xs : List X) (i : ℕ) (whole : Bool) → length xs ≤ i → whole ≡ list_all p (drop i xs) → whole ≡ true
-all_done p xs i whole le h = h ∙ at_drop_all (list_all p) xs i le
+-- a flag in its place
+placed : (i : ℕ) (r : Bool) (b : ℕ) → i < 64 → b ≡ bool_byte r → b * 2 ^ i % 2 ^ 64 ≡ cond r (2 ^ i) 0
+placed i true b lt byte =
+    let one : b ≡ 1 = byte in
+    let few : i ≤ 63 = omega arith in
+    let most : 2 ^ i ≤ 2 ^ 63 = pow-le-pow_right (lit< tt) few in
+    let below : 2 ^ i < 2 ^ 64 = omega (arith, most) in
+    let same : 1 * 2 ^ i ≡ 2 ^ i = omega arith in
+    rw (one, same) (mod-eq_of_lt below)
+placed i false b lt byte =
+    let none : b ≡ 0 = byte in
+    rw none (omega arith)
 
--- one flag more below the others
-pub marks_more : (pes : List Pe) (i : ℕ) (d : Pe) (r : Bool) (b m : ℕ) → 0 < i → i ≤ length pes → r ≡ is_set (get_or pes (i - 1) d) → b ≡ bool_byte r → m ≡ number_of_flags (map is_set (drop i pes)) → 2 * m + b ≡ number_of_flags (map is_set (drop (i - 1) pes))
-marks_more pes zero d r b m some within set byte h = absurd (omega arith)
-marks_more pes (suc i) d r b m some within set byte h =
-    let less : suc i - 1 ≡ i = omega arith in
-    let set' : r ≡ is_set (get_or pes i d) = rw less at set in
-    let lt : i < length pes = omega arith in
-    let step : number_of_flags (map is_set (drop i pes)) ≡ cond (is_set (get_or pes i d)) 1 0 + 2 * number_of_flags (map is_set (drop (i + 1) pes)) = drop_step (λ t. number_of_flags (map is_set t)) pes i (get_or pes i d) d lt refl in
-    let one : i + 1 ≡ suc i = add-one i in
-    let value : b ≡ cond (is_set (get_or pes i d)) 1 0 = byte ∙ (bool_byte_is r ∙ ap (λ v. cond v 1 0) set') in
-    rw less (sym (step ∙ rw (one, ← h, ← value) (omega arith)))
+twice : (i : ℕ) → 2 ^ (i + 1) ≡ 2 ^ i * 2
+twice i = rw add-one (omega arith)
 
-pub marks_fit : (n i : ℕ) (r : Bool) (b m : ℕ) → 0 < i → i ≤ n → b ≡ bool_byte r → m < 2 ^ (n - i) → 2 * m + b < 2 ^ (n - (i - 1))
-marks_fit n i r b m some within byte h =
-    let up : n - (i - 1) ≡ (n - i) + 1 = omega arith in
-    let twice : 2 ^ ((n - i) + 1) ≡ 2 ^ (n - i) * 2 = rw add-one (omega arith) in
-    let small : b ≤ 1 = rw (byte, bool_byte_is r) (elim r as (λ v. cond v 1 0 ≤ 1) [ true ↦ omega arith | false ↦ omega arith ]) in
-    rw (up, twice) (omega arith)
+-- one flag more above the others
+above : (r : Bool) (m p n whole : ℕ) → m + p * (cond r 1 0 + 2 * n) ≡ whole → m + cond r p 0 + p * 2 * n ≡ whole
+above true m p n whole h = grind arith
+above false m p n whole h = grind arith
+
+pub marks_more : (pes : List Pe) (i : ℕ) (d : Pe) (r : Bool) (b m whole : ℕ) → i < length pes → length pes ≤ 64 → r ≡ is_set (get_or pes i d) → b ≡ bool_byte r → m + 2 ^ i * number_of_flags (map is_set (drop i pes)) ≡ whole → m + b * 2 ^ i % 2 ^ 64 + 2 ^ (i + 1) * number_of_flags (map is_set (drop (i + 1) pes)) ≡ whole
+marks_more pes i d r b m whole lt few set byte h =
+    let rest = number_of_flags (map is_set (drop (i + 1) pes)) in
+    let step : number_of_flags (map is_set (drop i pes)) ≡ cond r 1 0 + 2 * rest = drop_step (λ t. number_of_flags (map is_set t)) pes i (get_or pes i d) d lt refl ∙ ap (λ v. cond v 1 0 + 2 * rest) (sym set) in
+    rw (placed i r b (omega arith) byte, twice i) (above r m (2 ^ i) rest whole (rw step at h))
+
+pub marks_fit : (n i : ℕ) (r : Bool) (b m : ℕ) → i < n → n ≤ 64 → b ≡ bool_byte r → m < 2 ^ i → m + b * 2 ^ i % 2 ^ 64 < 2 ^ (i + 1)
+marks_fit n i r b m lt few byte h =
+    let small : cond r (2 ^ i) 0 ≤ 2 ^ i = elim r as (λ v. cond v (2 ^ i) 0 ≤ 2 ^ i) [ true ↦ omega arith | false ↦ omega arith ] in
+    rw (placed i r b (omega arith) byte, twice i) (omega (arith, small, h))
 
 pub unset_words : (out : List ℕ) (pe : Pe) → is_set pe ≡ false → out ≡ out ++ bytes_of_words (set_words pe)
 unset_words out pe unset = sym (ap (λ b. out ++ bytes_of_words (cond b (pe_words pe) [])) unset ∙ (ap (λ t. out ++ t) bytes-nil ∙ append-nil out))
@@ -173,11 +178,6 @@ inputs_few N widths h =
     let within : bytes_in widths ≤ N = leb-true (bytes_in widths) N parts.1 in
     let many = widths_few N widths 0 each in
     omega arith
-
-pub outputs_few : (N P : ℕ) (outputs : List OutputShape) → are_lawful_outputs N P outputs ≡ true → length outputs ≤ 64
-outputs_few N P outputs h =
-    let parts = both (nat_lt 0 (length outputs) && nat_le (length outputs) 64) (list_all (is_lawful_output N P) outputs) h in
-    leb-true (length outputs) 64 (both (nat_lt 0 (length outputs)) (nat_le (length outputs) 64) parts.0).1
 
 -- a test of what is left, and its first element
 pub all_first : {X Y : Type 0} (p : Y → Bool) (F : List X → List Y) (xs : List X) (i : ℕ) (x : X) (y : Y) → i < length xs → x ≡ get_or xs i x → F (x ∷ drop (i + 1) xs) ≡ y ∷ F (drop (i + 1) xs) → list_all p (F (drop i xs)) ≡ true → (p y ≡ true) × (list_all p (F (drop (i + 1) xs)) ≡ true)

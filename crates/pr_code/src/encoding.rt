@@ -7,34 +7,10 @@ ghost use Rattle.pr_conf.specs.Configuration.{pes_of, shape_of};
 ghost use Rattle.pr_code.specs.Spelling.{format_2, bytes_of_words, pe_words, set_words, map_words, output_words, stage_words, number_of_flags, is_set, has_small_choice, has_pe_bytes, has_tap_byte, have_tap_bytes, has_bytes, words_of};
 
 use crate::formats::FORMAT_2;
-use crate::parts::{is_set, pe_words, tap_word};
-use crate::words::{put_word, put_words};
+use crate::parts::{pe_words, tap_word};
+use crate::words::{put_four, put_word, put_words};
 use pr_conf::{Configuration, Output, Pe, Stage};
 use std::alloc::{AllocError, Global};
-
-/// Appends the words of a processing element.
-fn put_pe(out: &mut Vec<u8>, pe: &Pe) -> Result<(), AllocError>
-    requires { has_small_choice pe.now ≡ true }
-    ensures words { OnOk result (out.new.items ≡ out.old.items ++ bytes_of_words (pe_words pe.now)) }
-    ensures bytes { has_pe_bytes pe.now ≡ true }
-{
-    put_words(out, &pe_words(pe))
-}
-
-/// The number whose bit i is set exactly where the processing element i is.
-fn marks(pes: &[Pe]) -> u64
-    requires few { length pes.now ≤ 64 }
-    requires choices { list_all has_small_choice pes.now ≡ true }
-    ensures marks { result ≡ number_of_flags (map is_set pes.now) }
-{
-    let mut marks = 0;
-    let mut i = pes.len();
-    while 0 < i {
-        i -= 1;
-        marks = 2 * marks + u64::from(is_set(&pes[i]));
-    }
-    marks
-}
 
 /// Appends the map of a stage of N columns.
 fn put_map<const N: usize>(out: &mut Vec<u8>, marks: u64) -> Result<(), AllocError>
@@ -48,33 +24,42 @@ fn put_map<const N: usize>(out: &mut Vec<u8>, marks: u64) -> Result<(), AllocErr
     }
 }
 
-/// Appends the words of a processing element that is set.
-fn put_if_set(out: &mut Vec<u8>, pe: &Pe) -> Result<(), AllocError>
+/// Appends the words of a processing element where it is set, and says whether it is.
+#[tactic(auto, unfolding(crate::specs::Spelling::pe_words, crate::specs::Spelling::is_set))]
+fn put_if_set(out: &mut Vec<u8>, pe: &Pe) -> Result<bool, AllocError>
     requires { has_small_choice pe.now ≡ true }
     ensures words { OnOk result (out.new.items ≡ out.old.items ++ bytes_of_words (set_words pe.now)) }
+    ensures set { IfOk result (λ set. set ≡ is_set pe.now) }
     ensures bytes { has_pe_bytes pe.now ≡ true }
 {
-    if !is_set(pe) {
-        return Ok(());
+    let words = pe_words(pe);
+    if words == [0; 4] {
+        return Ok(false);
     }
-    put_pe(out, pe)
+    put_four(out, words)?;
+    Ok(true)
 }
 
-/// Appends the words of those processing elements of a stage that are set.
-fn put_set(out: &mut Vec<u8>, pes: &[Pe]) -> Result<(), AllocError>
-    requires { list_all has_small_choice pes.now ≡ true }
+/// Appends the words of those processing elements of a stage that are set: bit i of the number says whether i is.
+fn put_set(out: &mut Vec<u8>, pes: &[Pe]) -> Result<u64, AllocError>
+    requires few { length pes.now ≤ 64 }
+    requires choices { list_all has_small_choice pes.now ≡ true }
     ensures words { OnOk result (out.new.items ≡ out.old.items ++ bytes_of_words (flat_map set_words pes.now)) }
+    ensures marks { IfOk result (λ marks. marks ≡ number_of_flags (map is_set pes.now)) }
     ensures bytes { OnOk result (list_all has_pe_bytes pes.now ≡ true) }
 {
-    for pe in pes {
-        put_if_set(out, pe)?;
+    let mut marks = 0;
+    for i in 0..pes.len() {
+        let set = put_if_set(out, &pes[i])?;
+        marks += u64::from(set) << i;
     }
-    Ok(())
+    Ok(marks)
 }
 
 /// Appends the words of an output.
 fn put_output(out: &mut Vec<u8>, output: &Output) -> Result<(), AllocError>
-    ensures words { OnOk result (out.new.items ≡ out.old.items ++ bytes_of_words (output_words (output_shape output.now))) }
+    ensures words { OnOk result (out.new.items
+        ≡ out.old.items ++ bytes_of_words (output_words (output_shape output.now))) }
     ensures bytes { OnOk result (list_all has_tap_byte output.now.taps.items ≡ true) }
 {
     put_word(out, u32::from(output.width))?;
@@ -110,35 +95,48 @@ fn put_outputs(out: &mut Vec<u8>, outputs: &[Output]) -> Result<(), AllocError>
     Ok(())
 }
 
-/// Appends the words of a stage.
+/// Appends the words of a stage. Those of its elements are made in `spare`, since their map goes before them.
 #[tactic(auto, using(crate::proofs::WritingLemmas::few_marks))]
-fn put_stage<const N: usize>(out: &mut Vec<u8>, stage: &Stage<N>) -> Result<(), AllocError>
+fn put_stage<const N: usize>(
+    out: &mut Vec<u8>,
+    spare: &mut Vec<u8>,
+    stage: &Stage<N>,
+) -> Result<(), AllocError>
     requires few { N ≤ 64 }
     requires choices { list_all has_small_choice stage.now.pes.items ≡ true }
-    ensures words { OnOk result (out.new.items ≡ out.old.items ++ bytes_of_words (stage_words true N stage.now.pes.items)) }
+    ensures words { OnOk result (out.new.items
+        ≡ out.old.items ++ bytes_of_words (stage_words true N stage.now.pes.items)) }
     ensures bytes { OnOk result (list_all has_pe_bytes stage.now.pes.items ≡ true) }
 {
-    put_map::<N>(out, marks(&stage.pes))?;
-    put_set(out, &stage.pes)?;
+    spare.clear();
+    let marks = put_set(spare, &stage.pes)?;
+    put_map::<N>(out, marks)?;
+    out.extend_from_slice(spare)?;
     Ok(())
 }
 
 /// Appends the words of stages.
-fn put_stages<const N: usize>(out: &mut Vec<u8>, stages: &[Stage<N>]) -> Result<(), AllocError>
+fn put_stages<const N: usize>(
+    alloc: Global,
+    out: &mut Vec<u8>,
+    stages: &[Stage<N>],
+) -> Result<(), AllocError>
     requires few { N ≤ 64 }
     requires choices { list_all (list_all has_small_choice) (map pes_of stages.now) ≡ true }
     ensures words { OnOk result (out.new.items
         ≡ out.old.items ++ bytes_of_words (flat_map (stage_words true N) (map pes_of stages.now))) }
     ensures bytes { OnOk result (list_all (list_all has_pe_bytes) (map pes_of stages.now) ≡ true) }
 {
+    let mut spare = Vec::new(alloc);
     for stage in stages {
-        put_stage(out, stage)?;
+        put_stage(out, &mut spare, stage)?;
     }
     Ok(())
 }
 
 /// Appends the words of a configuration.
 pub fn put_configuration<const N: usize, const P: usize>(
+    alloc: Global,
     out: &mut Vec<u8>,
     conf: &Configuration<N, P>,
 ) -> Result<(), AllocError>
@@ -156,7 +154,7 @@ pub fn put_configuration<const N: usize, const P: usize>(
     )?;
     put_inputs(out, &conf.inputs)?;
     put_outputs(out, &conf.outputs)?;
-    put_stages(out, &conf.stages)?;
+    put_stages(alloc, out, &conf.stages)?;
     Ok(())
 }
 
@@ -169,6 +167,6 @@ pub fn encode<const N: usize, const P: usize>(
     ensures bytes { OnOk result (has_bytes (shape_of conf.now) ≡ true) }
 {
     let mut out = Vec::new(alloc);
-    put_configuration(&mut out, conf)?;
+    put_configuration(alloc, &mut out, conf)?;
     Ok(out)
 }

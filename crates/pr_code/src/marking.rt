@@ -30,6 +30,6 @@ pub fn write_mark<const N: usize, const P: usize>(
         &mut out,
         &[CHECKPOINT, (count >> 32) as u32, (count % (1 << 32)) as u32],
     )?;
-    put_configuration(&mut out, conf)?;
+    put_configuration(alloc, &mut out, conf)?;
     Ok(out)
 }

@@ -1,7 +1,7 @@
 //! The words of the parts of a configuration.
 
 ghost use Rattle.std.specs.Prelude.{◌≡◌, ◌<◌, ◌≤◌, ◌∷◌, [], true};
-ghost use Rattle.pr_code.specs.Spelling.{source_word, tap_word, c_source, c_choice, next_number, carry_number, mode_number, pe_words, is_set, has_small_choice, has_source_byte, has_c_byte, has_tap_byte, has_pe_bytes};
+ghost use Rattle.pr_code.specs.Spelling.{source_word, tap_word, c_source, c_choice, next_number, carry_number, mode_number, pe_words, has_small_choice, has_source_byte, has_c_byte, has_tap_byte, has_pe_bytes};
 
 use pr_conf::{Bit, Carry, Mode, Next, Pe, Source, Tap};
 
@@ -104,14 +104,4 @@ pub fn pe_words(pe: &Pe) -> [u32; 4]
             + mode * 0x10
             + u32::from(pe.shift),
     ]
-}
-
-/// Whether some word of a processing element is not 0.
-#[tactic(auto, unfolding(crate::specs::Spelling::pe_words, crate::specs::Spelling::is_set))]
-pub fn is_set(pe: &Pe) -> bool
-    requires { has_small_choice pe.now ≡ true }
-    ensures set { result ≡ is_set pe.now }
-    ensures bytes { has_pe_bytes pe.now ≡ true }
-{
-    pe_words(pe) != [0; 4]
 }

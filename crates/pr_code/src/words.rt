@@ -20,6 +20,17 @@ pub fn put_word(out: &mut Vec<u8>, word: u32) -> Result<(), AllocError>
     Ok(())
 }
 
+/// Appends four words at once.
+#[tactic(auto, unfolding(crate::specs::Spelling::bytes_of_words))]
+pub fn put_four(out: &mut Vec<u8>, words: [u32; 4]) -> Result<(), AllocError>
+    ensures { OnOk result (out.new.items ≡ out.old.items ++ bytes_of_words words) }
+{
+    let mut bytes = [0; 16];
+    BigEndian::write_u32_into(&words, &mut bytes);
+    out.extend_from_slice(&bytes)?;
+    Ok(())
+}
+
 /// Appends words.
 pub fn put_words(out: &mut Vec<u8>, words: &[u32]) -> Result<(), AllocError>
     ensures { OnOk result (out.new.items ≡ out.old.items ++ bytes_of_words words.now) }

@@ -5,4 +5,5 @@ mod counts;
 mod lines;
 mod summary;
 
+pub use counts::{cells, states, writes};
 pub use summary::show;

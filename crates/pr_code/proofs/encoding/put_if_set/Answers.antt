@@ -1,6 +1,10 @@
-use Rattle.std.proofs.Common.{sym, ◌∙◌}
+use Rattle.std.proofs.Common.{rules, ◌≡◌, false}
+use Rattle.pr_code.specs.Spelling.{is_set, pe_words}
 use Rattle.pr_code.proofs.WritingLemmas.{unset_words}
 use Rattle.pr_code.proofs.encoding.put_if_set.Goals as goal
 
-pub returns-then-not-is_set-clause-words : goal.returns-then-not-is_set-clause-words
-returns-then-not-is_set-clause-words c = unset_words c.args.out.now.items c.args.pe.now (sym c.is_set.ensures.set ∙ c.if-not-is_set.true)
+pub returns-then-eq-clause-words : goal.returns-then-eq-clause-words
+unfolding is_set pe_words
+returns-then-eq-clause-words c =
+    let unset : is_set c.args.pe.now ≡ false = search rules in
+    unset_words c.args.out.now.items c.args.pe.now unset

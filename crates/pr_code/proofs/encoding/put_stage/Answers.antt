@@ -1,9 +1,14 @@
+use Rattle.std.proofs.Common.{◌≡◌, ◌++◌, map}
 use Rattle.std.specs.List.{flat_map}
-use Rattle.pr_code.specs.Spelling.{map_words, set_words}
+use Rattle.pr_code.specs.Spelling.{bytes_of_words, map_words, set_words, number_of_flags, is_set}
 use Rattle.pr_code.proofs.WritingLemmas.{two_parts}
 use Rattle.pr_code.proofs.encoding.put_stage.Goals as goal
 
 pub returns-clause-words : goal.returns-clause-words
 returns-clause-words g c =
-    rw (← c.deref.ensures.value, ← c.marks.ensures.marks, c.deref.ensures.value, ← c.deref-2.ensures.value)
-    (two_parts c.args.out.now.items c.put_map.new.out.items c.put_set.new.out.items (map_words g.row.N c.marks.result) (flat_map set_words c.deref-2.result.now) c.in_ok-put_map.ensures c.in_ok-put_set.ensures.words)
+    let pes = c.args.stage.now.pes.items in
+    let set : c.put_set.new.out.items ≡ bytes_of_words (flat_map set_words pes) = rw (c.clear.ensures.items, c.deref.ensures.value) at c.in_ok-marks.ensures.words in
+    let marks : c.in_ok-marks.marks ≡ number_of_flags (map is_set pes) = rw c.deref.ensures.value at c.in_ok-marks.ensures.marks in
+    let first : c.put_map.new.out.items ≡ c.args.out.now.items ++ bytes_of_words (map_words g.row.N (number_of_flags (map is_set pes))) = rw marks at c.in_ok-put_map.ensures in
+    let second : c.extend_from_slice.new.self.items ≡ c.put_map.new.out.items ++ bytes_of_words (flat_map set_words pes) = rw (c.deref-2.ensures.value, set) at c.in_ok-extend_from_slice.ensures.items in
+    two_parts c.args.out.now.items c.put_map.new.out.items c.extend_from_slice.new.self.items (map_words g.row.N (number_of_flags (map is_set pes))) (flat_map set_words pes) first second
