@@ -58,6 +58,10 @@ pub(crate) fn columns(q: &Prepared, row: &[u8], state: u8x16) -> Known
         output: none,
         carries: none,
     };
+    if q.rounds == 1 {
+        // Most stages have one round: written out, it keeps no count and no rows for the next round.
+        return round(q, row, state, made);
+    }
     for _round in 0..q.rounds {
         made = round(q, row, state, made);
     }

@@ -1,5 +1,5 @@
-//! Stripes, and what machines of them are made of: configurations, plans, queues and kernels. There are tests alone in this
-//! crate.
+//! Stripes, and what machines of them are made of: configurations, plans, queues and kernels. There are tests alone in
+//! this crate.
 #![tactic(auto)]
 
 #[cfg(test)]

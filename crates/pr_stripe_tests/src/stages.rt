@@ -23,10 +23,8 @@ pub(crate) const PASSING: Pe = Pe {
 };
 
 /// The bus's bytes combined, added, added with the carry to an output and a state, and tested for 0.
-pub(crate) fn first_stage(alloc: Global) -> Result<Stage<4>, AllocError>
-    ensures { IfOk result (λ s. are_lawful_pes (site_of 4 4 2 0) s.pes.items ≡ true) }
-{
-    let combined = Pe {
+const FIRST: [Pe; 4] = [
+    Pe {
         a: Source::Bus(0),
         hi: Source::Bus(1),
         lo: Source::Bus(0),
@@ -35,8 +33,8 @@ pub(crate) fn first_stage(alloc: Global) -> Result<Stage<4>, AllocError>
         next: Next::A,
         write: 1,
         ..PASSING
-    };
-    let added = Pe {
+    },
+    Pe {
         a: Source::Bus(0),
         hi: Source::Bus(1),
         mode: Mode::Sum,
@@ -45,8 +43,8 @@ pub(crate) fn first_stage(alloc: Global) -> Result<Stage<4>, AllocError>
         next: Next::Output,
         write: 2,
         ..PASSING
-    };
-    let chained = Pe {
+    },
+    Pe {
         a: Source::Here(0),
         hi: Source::State(1),
         c: Bit::Of(Source::Here(1), 6),
@@ -55,8 +53,8 @@ pub(crate) fn first_stage(alloc: Global) -> Result<Stage<4>, AllocError>
         cin: Carry::Chain,
         write: 3,
         ..PASSING
-    };
-    let tested = Pe {
+    },
+    Pe {
         a: Source::Here(2),
         hi: Source::Const(0x0f),
         c: Bit::CarryIn,
@@ -66,16 +64,20 @@ pub(crate) fn first_stage(alloc: Global) -> Result<Stage<4>, AllocError>
         next: Next::Output,
         write: 1,
         ..PASSING
-    };
-    let pes = vec![in alloc; combined, added, chained, tested]?;
+    },
+];
+
+/// The stage of these elements.
+pub(crate) fn first_stage(alloc: Global) -> Result<Stage<4>, AllocError>
+    ensures { IfOk result (λ s. are_lawful_pes (site_of 4 4 2 0) s.pes.items ≡ true) }
+{
+    let pes = Vec::from_slice(alloc, &FIRST)?;
     Ok(Stage { pes })
 }
 
 /// A choice, a test for 0 with a bit of a state, a sum with an output and the carry, and the carry alone.
-pub(crate) fn later_stage(alloc: Global) -> Result<Stage<4>, AllocError>
-    ensures { IfOk result (λ s. are_lawful_pes (site_of 4 4 2 1) s.pes.items ≡ true) }
-{
-    let chosen = Pe {
+const LATER: [Pe; 4] = [
+    Pe {
         a: Source::Prev { col: 0, reg: 1 },
         hi: Source::Prev { col: 1, reg: 2 },
         lo: Source::Prev { col: 2, reg: 3 },
@@ -85,8 +87,8 @@ pub(crate) fn later_stage(alloc: Global) -> Result<Stage<4>, AllocError>
         next: Next::Output,
         write: 2,
         ..PASSING
-    };
-    let tested = Pe {
+    },
+    Pe {
         a: Source::Prev { col: 1, reg: 2 },
         hi: Source::Const(3),
         c: Bit::Of(Source::State(0), 0),
@@ -95,8 +97,8 @@ pub(crate) fn later_stage(alloc: Global) -> Result<Stage<4>, AllocError>
         cin: Carry::FromC,
         next: Next::A,
         ..PASSING
-    };
-    let added = Pe {
+    },
+    Pe {
         a: Source::Prev { col: 2, reg: 3 },
         hi: Source::Here(0),
         c: Bit::CarryIn,
@@ -105,8 +107,8 @@ pub(crate) fn later_stage(alloc: Global) -> Result<Stage<4>, AllocError>
         next: Next::A,
         write: 1,
         ..PASSING
-    };
-    let carried = Pe {
+    },
+    Pe {
         a: Source::Here(2),
         c: Bit::CarryIn,
         table: 0xf0,
@@ -114,8 +116,14 @@ pub(crate) fn later_stage(alloc: Global) -> Result<Stage<4>, AllocError>
         mask: 1,
         write: 3,
         ..PASSING
-    };
-    let pes = vec![in alloc; chosen, tested, added, carried]?;
+    },
+];
+
+/// The stage of these elements.
+pub(crate) fn later_stage(alloc: Global) -> Result<Stage<4>, AllocError>
+    ensures { IfOk result (λ s. are_lawful_pes (site_of 4 4 2 1) s.pes.items ≡ true) }
+{
+    let pes = Vec::from_slice(alloc, &LATER)?;
     Ok(Stage { pes })
 }
 

@@ -11,3 +11,9 @@ loop-round-preserved c = record {
 
 pub returns-clause-columns : goal.returns-clause-columns
 returns-clause-columns c = λ pes count k d p l. (c.loop-round.invariant.right pes count p).columns k d l (let o = (p.ordered k d l).before in omega arith)
+
+-- before the first round no column has to be right
+pub returns-then-q-eq1-clause-columns : goal.returns-then-q-eq1-clause-columns
+returns-then-q-eq1-clause-columns c = λ pes count k d p l.
+    let o = (p.ordered k d l).before in
+    (c.round.ensures.right pes count 0 p (record { columns = λ j e m below. absurd (omega arith); carried = λ j e m sums chain below. absurd (omega arith) })).columns k d l (omega arith)
