@@ -8,7 +8,8 @@ use Rattle.pr_run.specs.Setting.{Setting, View}
 use Rattle.pr_run.specs.Turns.{Going, IsOn, IsDone, IsCut}
 
 -- after a turn that came to this, a run that was the first of these for each list of samples, and is the second, is so
-abbrev pub IsTurned : {N P : ℕ} → Setting → (List (List ℕ) → Run (List ℕ)) → (List (List ℕ) → Run (List ℕ)) → Going N P → Feed → View → Tape → Turned → Type 0
+abbrev pub IsTurned : {N P : ℕ} → Setting → (List (List ℕ) → Run (List ℕ)) → (List (List ℕ) → Run (List ℕ))
+    → Going N P → Feed → View → Tape → Turned → Type 0
 IsTurned s first next m f now t (Turned.On last) = IsOn s next m f now t last
 IsTurned s first next m f now t (Turned.Over last) = IsDone s first next m f now t last
 IsTurned s first next m f now t Turned.Failed = IsCut s next m f now t

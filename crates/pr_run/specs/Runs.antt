@@ -24,7 +24,8 @@ abbrev pub script_run : Setting → List (List ℕ) → Run (List ℕ)
 script_run s xs = whole_run (stages_of s) s.stripes xs s.stall
 
 -- the run is over, and its samples have ended so after so many cycles that were asked for
-pub record IsFinished {N P : ℕ} (s : Setting) (m : Going N P) (f : Feed) (now : View) (t : Tape) (end : Finished) : Type 0 where
+pub record IsFinished {N P : ℕ} (s : Setting) (m : Going N P) (f : Feed) (now : View) (t : Tape)
+    (end : Finished) : Type 0 where
   pub rows : List (List ℕ)
   pub history : History
   pub done : HasDone s m t history
@@ -58,27 +59,31 @@ pub record IsWhole (N P : ℕ) (s : Setting) (rows : List (List ℕ)) (h : Histo
   pub events : h ≡ events_of s (pieces s rows)
   pub text : Appends s.tape t (lines_of N P s (pieces s rows) good)
 
--- a write failed. The machine was asked events with which the run begins, and the first bytes of their lines are written,
--- so that each whole line of a result has its take; only where all samples were good and all events are over, the line at
--- the end is begun. All this holds whatever samples may follow those that were read
+-- a write failed. The machine was asked events with which the run begins, and the first bytes of their lines are
+-- written, so that each whole line of a result has its take; only where all samples were good and all events are over,
+-- the line at the end is begun. All this holds whatever samples may follow those that were read
 pub record IsStopped (N P : ℕ) (s : Setting) (rows : List (List ℕ)) (last : Got) (h : History) (t : Tape) : Type 0 where
   pub closing : Bool
-  pub text : AppendsFront s.tape t (text_of s.log (history_lines N P s.conf s.stripes h ++ closing_lines s.conf s.stripes h closing))
+  pub text : AppendsFront s.tape t
+      (text_of s.log (history_lines N P s.conf s.stripes h ++ closing_lines s.conf s.stripes h closing))
   pub over : closing ≡ true → (last ≡ Got.End) × (h ≡ events_of s (pieces s rows))
   pub events : (more : List (List ℕ)) → MayFollow last more → IsPrefix h (events_of s (pieces s rows ++ more))
-  pub front : (more : List (List ℕ)) (good : Bool) → MayFollow last more → (closing ≡ true → good ≡ true) → AppendsFront s.tape t (lines_of N P s (pieces s rows ++ more) good)
+  pub front : (more : List (List ℕ)) (good : Bool) → MayFollow last more → (closing ≡ true → good ≡ true)
+      → AppendsFront s.tape t (lines_of N P s (pieces s rows ++ more) good)
 
 -- what an answer says, where the feed gave these samples and answered so last
 abbrev pub IsAnswer : ℕ → ℕ → Setting → List (List ℕ) → Got → History → Tape → RunEnd → Type 0
-IsAnswer N P s rows last h t (RunEnd.Done cycles stalls results) = (last ≡ Got.End) × IsWhole N P s rows h t true × HasNumbers s h cycles stalls results
+IsAnswer N P s rows last h t (RunEnd.Done cycles stalls results) = (last ≡ Got.End) × IsWhole N P s rows h t true
+    × HasNumbers s h cycles stalls results
 IsAnswer N P s rows last h t (RunEnd.BadSample line) = (last ≡ Got.BadSample line) × IsWhole N P s rows h t false
 IsAnswer N P s rows last h t RunEnd.ReadFault = (last ≡ Got.ReadFault) × IsWhole N P s rows h t false
 IsAnswer N P s rows last h t RunEnd.WriteFault = IsStopped N P s rows last h t
 IsAnswer N P s rows last h t (RunEnd.Limit cap) = (last ≡ Got.Limit cap) × IsWhole N P s rows h t false
 
--- a run, from what it was given to its answer: the samples that the feed gave, its last answer, and the history for which
--- the machine stands
-pub record Ran {N P : ℕ} (s : Setting) (m : Going N P) (f : Feed) (now : View) (t : Tape) (result : RunEnd) : Type 0 where
+-- a run, from what it was given to its answer: the samples that the feed gave, its last answer, and the history for
+-- which the machine stands
+pub record Ran {N P : ℕ} (s : Setting) (m : Going N P) (f : Feed) (now : View) (t : Tape)
+    (result : RunEnd) : Type 0 where
   pub rows : List (List ℕ)
   pub last : Got
   pub history : History
@@ -88,12 +93,13 @@ pub record Ran {N P : ℕ} (s : Setting) (m : Going N P) (f : Feed) (now : View)
   pub answer : IsAnswer N P s rows last history t result
 
 -- ---- what it says of the file
--- all samples were given at three of the answers, and at a read fault those of the lines that stand with their LF in what
--- was read
+-- all samples were given at three of the answers, and at a read fault those of the lines that stand with their LF in
+-- what was read
 abbrev pub EndsRun : RunEnd → Feed → List ℕ → Type 0
 EndsRun (RunEnd.Done cycles stalls results) f file = IsOver f file End
 EndsRun (RunEnd.BadSample line) f file = IsOver f file (BadSample line)
-EndsRun RunEnd.ReadFault f file = given_of f ≡ length (fed_within (widths_of f) (limit_of f) (most_of f) file (place_of f)).samples
+EndsRun RunEnd.ReadFault f file =
+    given_of f ≡ length (fed_within (widths_of f) (limit_of f) (most_of f) file (place_of f)).samples
 EndsRun RunEnd.WriteFault f file = ⊤
 EndsRun (RunEnd.Limit cap) f file = IsOver f file (Limit cap)
 
@@ -107,7 +113,8 @@ IsFault (RunEnd.Limit cap) = ⊥
 
 -- the numbers of a run without a stall text on so many samples
 abbrev pub IsCounted : ℕ → ℕ → ℕ → RunEnd → Type 0
-IsCounted v p samples (RunEnd.Done cycles stalls results) = (cycles ≡ cycles_of v p samples) × (stalls ≡ 0) × (results ≡ samples)
+IsCounted v p samples (RunEnd.Done cycles stalls results) = (cycles ≡ cycles_of v p samples) × (stalls ≡ 0)
+    × (results ≡ samples)
 IsCounted v p samples (RunEnd.BadSample line) = ⊤
 IsCounted v p samples RunEnd.ReadFault = ⊤
 IsCounted v p samples RunEnd.WriteFault = ⊤

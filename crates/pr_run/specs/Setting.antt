@@ -1,5 +1,6 @@
 -- What a run is given.
 use Rattle.std.specs.Prelude.{◌≡◌, ◌<◌, ◌≤◌, ◌^◌, ℕ, Bool, List, map, length, Option}
+use Rattle.pr_base.specs.Limits.{most_stall_bytes}
 use Rattle.pr_base.specs.Rows.{row_bytes}
 use Rattle.pr_edge.specs.Files.{Told}
 use Rattle.pr_edge.specs.Tape.{Tape}
@@ -32,8 +33,8 @@ pub record View : Type 0 where
 abbrev pub view : Told → (List ℕ → Option ℕ) → ℕ → View
 view told reach faults = record { told = told; reach = reach; faults = faults }
 
--- a configuration and its stripes, the turns of a stall text, a feed, what its shelf shows and what the sink tells, all as
--- they are before the run, and whether the log is asked for
+-- a configuration and its stripes, the turns of a stall text, a feed, what its shelf shows and what the sink tells, all
+-- as they are before the run, and whether the log is asked for
 pub record Setting : Type 0 where
   pub conf : Shape
   pub stripes : ℕ
@@ -76,5 +77,5 @@ pub record IsSet (s : Setting) : Type 0 where
   pub stages : stages_of s ≤ 32768
   pub two : 2 ≤ s.stripes
   pub most : s.stripes ≤ 256
-  pub turns : length s.stall ≤ 1048576
+  pub turns : length s.stall ≤ most_stall_bytes
   pub samples : most_of s.feed ≤ 2 ^ 40

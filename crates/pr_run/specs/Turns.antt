@@ -95,7 +95,8 @@ abbrev pub run_at : History → List (List ℕ) → Got → Run (List ℕ)
 run_at h more last = record { history = h; rest = more; ended = not (is_sample last); over = false }
 
 -- machine, feed and sink are where the run is, which for each list of samples is this one; whatever samples may follow
-pub record IsOn {N P : ℕ} (s : Setting) (runs : List (List ℕ) → Run (List ℕ)) (m : Going N P) (f : Feed) (now : View) (t : Tape) (last : Got) : Type 0 where
+pub record IsOn {N P : ℕ} (s : Setting) (runs : List (List ℕ) → Run (List ℕ)) (m : Going N P) (f : Feed) (now : View)
+    (t : Tape) (last : Got) : Type 0 where
   pub rows : List (List ℕ)
   pub history : History
   pub done : HasDone s m t history
@@ -104,7 +105,8 @@ pub record IsOn {N P : ℕ} (s : Setting) (runs : List (List ℕ) → Run (List 
   pub run : (more : List (List ℕ)) → MayFollow last more → runs (pieces s rows ++ more) ≡ run_at history more last
 
 -- the run is over, and was not while it was the first of these
-pub record IsDone {N P : ℕ} (s : Setting) (first runs : List (List ℕ) → Run (List ℕ)) (m : Going N P) (f : Feed) (now : View) (t : Tape) (last : Got) : Type 0 where
+pub record IsDone {N P : ℕ} (s : Setting) (first runs : List (List ℕ) → Run (List ℕ)) (m : Going N P) (f : Feed)
+    (now : View) (t : Tape) (last : Got) : Type 0 where
   pub rows : List (List ℕ)
   pub history : History
   pub done : HasDone s m t history
@@ -114,7 +116,8 @@ pub record IsDone {N P : ℕ} (s : Setting) (first runs : List (List ℕ) → Ru
   pub run : runs (pieces s rows) ≡ record { history = history; rest = []; ended = true; over = true }
 
 -- a write failed on the way to where the run is
-pub record IsCut {N P : ℕ} (s : Setting) (runs : List (List ℕ) → Run (List ℕ)) (m : Going N P) (f : Feed) (now : View) (t : Tape) : Type 0 where
+pub record IsCut {N P : ℕ} (s : Setting) (runs : List (List ℕ) → Run (List ℕ)) (m : Going N P) (f : Feed)
+    (now : View) (t : Tape) : Type 0 where
   pub rows : List (List ℕ)
   pub last : Got
   pub history : History

@@ -24,7 +24,8 @@ fn saved_row<const N: usize, const P: usize>(
         → s < length c.stages
         → ((i : ℕ) → Resides (length c.stages) p (account_of c p h).time s i → ⊥)
         → result.now
-        ≡ state_after (steps_of N P c) s (done s (account_of c p h).time (account_of c p h).entries) (account_of c p h).offered }
+        ≡ state_after (steps_of N P c) s (done s (account_of c p h).time (account_of c p h).entries)
+        (account_of c p h).offered }
 {
     match saved {
         None => &[],
@@ -43,9 +44,11 @@ pub fn cycle_step<const N: usize, const P: usize, K: Sink>(
 ) -> Result<(), WriteFault>
     requires { time_of machine.old < 2 ^ 63 }
     ensures done { (s : Setting) (h : History) → IsSet s → (s.log ≡ log)
-        → HasDone s machine.old (K.told out.old) h → OnOk result (HasDone s machine.new (K.told out.new) (h ++ Cycle ∷ [])) }
+        → HasDone s machine.old (K.told out.old) h
+        → OnOk result (HasDone s machine.new (K.told out.new) (h ++ Cycle ∷ [])) }
     ensures begun { (s : Setting) (h : History) → IsSet s → (s.log ≡ log)
-        → HasDone s machine.old (K.told out.old) h → OnErr result (HasBegun s machine.new (K.told out.new) (h ++ Cycle ∷ [])) }
+        → HasDone s machine.old (K.told out.old) h
+        → OnErr result (HasBegun s machine.new (K.told out.new) (h ++ Cycle ∷ [])) }
     ensures conf { machine.new.parts.conf ≡ machine.old.parts.conf }
     ensures stripes { stripes_of machine.new ≡ stripes_of machine.old }
     ensures time { time_of machine.new ≤ time_of machine.old + 1 }

@@ -53,7 +53,8 @@ fn write_end<K: Sink>(
     results: u64,
 ) -> Result<(), WriteFault>
     ensures all { OnOk result (Appends (K.told out.old) (K.told out.new) (logged_end log cycles stalls results)) }
-    ensures front { OnErr result (AppendsFront (K.told out.old) (K.told out.new) (logged_end log cycles stalls results)) }
+    ensures front { OnErr result
+        (AppendsFront (K.told out.old) (K.told out.new) (logged_end log cycles stalls results)) }
     ensures cause { OnErr result (Rose (K.faults out.old) (K.faults out.new)) }
     ensures later { K.faults out.old ≤ K.faults out.new }
 {

@@ -12,6 +12,7 @@ ghost use Rattle.pr_run_script.specs.Script.{Held, Run, fed};
 ghost use Rattle.pr_run.specs.Setting.{Setting, IsSet, view, stages_of};
 ghost use Rattle.pr_run.specs.Turns.{IsOn};
 
+use crate::rooms::Room;
 use pr_base::{Num, byte_of, slices};
 use pr_edge::Shelf;
 use pr_machine::{Machine, Running};
@@ -90,7 +91,8 @@ fn read_one<const N: usize, const P: usize, S: Shelf>(
     requires room { length (waiting_samples machine.old) < 16 }
     ensures on { (s : Setting) (runs : List (List ℕ) → Run (List ℕ)) (turn : Held) (t : Tape)
         → IsSet s → turn.input ≡ false
-        → IsOn s runs machine.old feed.old (view (S.told shelf.old) (S.reach shelf.old) (S.faults shelf.old)) t Got.Sample
+        → IsOn s runs machine.old feed.old
+        (view (S.told shelf.old) (S.reach shelf.old) (S.faults shelf.old)) t Got.Sample
         → IsOn s (λ xs. fed (stages_of s) s.stripes turn (runs xs)) machine.new feed.new
         (view (S.told shelf.new) (S.reach shelf.new) (S.faults shelf.new)) t result }
     ensures inputs { widths_of feed.new ≡ widths_of feed.old }
@@ -104,20 +106,43 @@ fn read_one<const N: usize, const P: usize, S: Shelf>(
     got
 }
 
-/// Reads a sample and offers it, unless the input side is held, the samples have ended or the queue is full. It gives the
-/// feed's last answer, which was `last`; a sample says that more may follow.
-pub fn feed_step<const N: usize, const P: usize, S: Shelf>(
+/// Reads a sample into the first of 64 numbers and offers it, and gives the feed's answer.
+fn read_sample<const N: usize, const P: usize, S: Shelf>(
     machine: &mut Machine<N, P, Running>,
     feed: &mut Feed,
     shelf: &mut S,
     numbers: &mut [Num],
     bytes: &mut [u8],
-    held: bool,
-    last: Got,
 ) -> Got
     requires inputs { widths_of feed.old ≡ (conf_of machine.old).inputs }
     requires numbers { length numbers.old ≡ 64 }
     requires bytes { length bytes.old ≡ 64 }
+    requires room { length (waiting_samples machine.old) < 16 }
+    ensures on { (s : Setting) (runs : List (List ℕ) → Run (List ℕ)) (turn : Held) (t : Tape)
+        → IsSet s → turn.input ≡ false
+        → IsOn s runs machine.old feed.old
+        (view (S.told shelf.old) (S.reach shelf.old) (S.faults shelf.old)) t Got.Sample
+        → IsOn s (λ xs. fed (stages_of s) s.stripes turn (runs xs)) machine.new feed.new
+        (view (S.told shelf.new) (S.reach shelf.new) (S.faults shelf.new)) t result }
+    ensures inputs { widths_of feed.new ≡ widths_of feed.old }
+    ensures kept { IsKept machine.old machine.new }
+{
+    let count = machine.conf().inputs.len();
+    read_one(machine, feed, shelf, &mut numbers[..count], bytes)
+}
+
+/// Reads a sample and offers it, unless the input side is held, the samples have ended or the queue is full.
+///
+/// It gives the feed's last answer, which was `last`; a sample says that more may follow.
+pub fn feed_step<const N: usize, const P: usize, S: Shelf>(
+    machine: &mut Machine<N, P, Running>,
+    feed: &mut Feed,
+    shelf: &mut S,
+    room: &mut Room,
+    held: bool,
+    last: Got,
+) -> Got
+    requires { widths_of feed.old ≡ (conf_of machine.old).inputs }
     ensures on { (s : Setting) (runs : List (List ℕ) → Run (List ℕ)) (turn : Held) (t : Tape)
         → IsSet s → turn.input ≡ held
         → IsOn s runs machine.old feed.old (view (S.told shelf.old) (S.reach shelf.old) (S.faults shelf.old)) t last
@@ -129,6 +154,5 @@ pub fn feed_step<const N: usize, const P: usize, S: Shelf>(
     if !may_read(held, last, machine.waiting_in()) {
         return last;
     }
-    let count = machine.conf().inputs.len();
-    read_one(machine, feed, shelf, &mut numbers[..count], bytes)
+    read_sample(machine, feed, shelf, &mut room.numbers, &mut room.sample)
 }

@@ -16,6 +16,3 @@ pub use ending::RunEnd;
 pub use feeding::{goes_on, offer_sample};
 pub use rooms::Room;
 pub use runs::run;
-
-#[cfg(test)]
-mod tests;

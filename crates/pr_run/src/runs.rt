@@ -3,6 +3,7 @@ ghost use Rattle.std.specs.Prelude.{ℕ, ◌≡◌, ◌≢◌, ◌≤◌, [], fa
 ghost use Rattle.pr_edge.specs.Count.{Rose};
 ghost use Rattle.pr_edge.specs.Files.{IsMissing, HasReadCause};
 ghost use Rattle.pr_samples.specs.Stall.{turns_left};
+ghost use Rattle.pr_samples.specs.declared.feed.Got.{Got};
 ghost use Rattle.pr_samples.specs.Got.{is_sample};
 ghost use Rattle.pr_samples.specs.Feed.{name_of, widths_of, given_of, place_of, SameFile, Tells};
 ghost use Rattle.pr_conf.specs.Through.{output_widths};
@@ -13,61 +14,61 @@ ghost use Rattle.pr_run.specs.Runs.{IsEnded, Ran, EndsRun, IsFault, IsCounted};
 use crate::draining::put_widths;
 use crate::ending::{Finished, RunEnd, finish};
 use crate::rooms::Room;
-use crate::turning::{Turned, turn};
+use crate::turning::{Turned, Walk};
 use pr_edge::{Shelf, Sink, WriteFault};
 use pr_machine::{Machine, Running};
 use pr_samples::{Feed, Got, Stall};
 
-/// Makes the turns of a run until it is over.
-fn take_turns<const N: usize, const P: usize, S: Shelf, K: Sink>(
-    machine: &mut Machine<N, P, Running>,
-    feed: &mut Feed,
-    shelf: &mut S,
-    stall: &mut Stall,
-    out: &mut K,
-    log: bool,
-    room: &mut Room,
-    widths: &[u8],
-) -> Result<Finished, WriteFault>
-    requires loaded { Stands machine.old (conf_of machine.old) (stripes_of machine.old) [] }
-    requires fresh { IsFresh feed.old }
-    requires inputs { widths_of feed.old ≡ (conf_of machine.old).inputs }
-    requires outputs { widths.now ≡ output_widths (conf_of machine.old) }
-    requires turns { length (turns_left stall.old) ≤ 1048576 }
-    ensures ended { (s : Setting)
-        → s ≡ setting_of machine.old stall.old feed.old
-        (view (S.told shelf.old) (S.reach shelf.old) (S.faults shelf.old)) (K.told out.old) log
-        → IsEnded s machine.new feed.new
-        (view (S.told shelf.new) (S.reach shelf.new) (S.faults shelf.new)) (K.told out.new) result }
-    ensures last { IfOk result (λ e. is_sample e.last ≡ false) }
-    ensures asked { IfOk result (λ e. time_of machine.new ≤ e.asked) }
-    ensures conf { machine.new.parts.conf ≡ machine.old.parts.conf }
-    ensures stripes { stripes_of machine.new ≡ stripes_of machine.old }
-    ensures cause { OnErr result (Rose (K.faults out.old) (K.faults out.new)) }
-    ensures later { K.faults out.old ≤ K.faults out.new }
-{
-    let mut last = Got::Sample;
-    let mut asked = 0;
-    loop {
-        let held = stall.next();
-        match turn(machine, feed, shelf, out, log, room, widths, held, last) {
-            Turned::On { last: now } => last = now,
-            Turned::Over { last } => return Ok(Finished { last, asked }),
-            Turned::Failed => return Err(WriteFault),
+impl<'a> Walk<'a> {
+    /// Makes the turns of a run until it is over.
+    fn take_turns<const N: usize, const P: usize, S: Shelf, K: Sink>(
+        &mut self,
+        machine: &mut Machine<N, P, Running>,
+        feed: &mut Feed,
+        shelf: &mut S,
+        stall: &mut Stall,
+        out: &mut K,
+    ) -> Result<Finished, WriteFault>
+        requires loaded { Stands machine.old (conf_of machine.old) (stripes_of machine.old) [] }
+        requires fresh { IsFresh feed.old }
+        requires inputs { widths_of feed.old ≡ (conf_of machine.old).inputs }
+        requires outputs { self.old.widths.now ≡ output_widths (conf_of machine.old) }
+        requires turns { length (turns_left stall.old) ≤ 1048576 }
+        requires first { self.old.last ≡ Got.Sample }
+        ensures ended { (s : Setting)
+            → s ≡ setting_of machine.old stall.old feed.old
+            (view (S.told shelf.old) (S.reach shelf.old) (S.faults shelf.old)) (K.told out.old) self.old.log
+            → IsEnded s machine.new feed.new
+            (view (S.told shelf.new) (S.reach shelf.new) (S.faults shelf.new)) (K.told out.new) result }
+        ensures last { IfOk result (λ e. is_sample e.last ≡ false) }
+        ensures asked { IfOk result (λ e. time_of machine.new ≤ e.asked) }
+        ensures conf { machine.new.parts.conf ≡ machine.old.parts.conf }
+        ensures stripes { stripes_of machine.new ≡ stripes_of machine.old }
+        ensures cause { OnErr result (Rose (K.faults out.old) (K.faults out.new)) }
+        ensures later { K.faults out.old ≤ K.faults out.new }
+    {
+        let mut asked = 0;
+        loop {
+            let held = stall.next();
+            match self.turn(machine, feed, shelf, out, held) {
+                Turned::On { last: now } => self.last = now,
+                Turned::Over { last } => return Ok(Finished { last, asked }),
+                Turned::Failed => return Err(WriteFault),
+            }
+            asked += 1;
         }
-        asked += 1;
     }
 }
 
 /// Runs the samples of a feed through a machine that was just loaded, and writes the line of each result.
 ///
-/// In each turn a sample is read and offered where the input side is free and its queue has room, all waiting results are
-/// taken and written where the output side is free, and the machine is asked for one cycle. The run is over when the
-/// samples have ended and no result is under way. With `log` the line of each cycle is written too, and at last one with
-/// the numbers. No memory is taken.
+/// In each turn a sample is read and offered where the input side is free and its queue has room, all waiting results
+/// are taken and written where the output side is free, and the machine is asked for one cycle. The run is over when
+/// the samples have ended and no result is under way. With `log` the line of each cycle is written too, and at last one
+/// with the numbers. No memory is taken.
 ///
-/// After a write fault the first bytes of the text are written, and the machine may hold results. The stall text and the
-/// room are changed by every run.
+/// After a write fault the first bytes of the text are written, and the machine may hold results. The stall text and
+/// the room are changed by every run.
 pub fn run<const N: usize, const P: usize, S: Shelf, K: Sink>(
     machine: &mut Machine<N, P, Running>,
     feed: &mut Feed,
@@ -86,7 +87,8 @@ pub fn run<const N: usize, const P: usize, S: Shelf, K: Sink>(
     ensures ran { Ran
         (setting_of machine.old stall.old feed.old
         (view (S.told shelf.old) (S.reach shelf.old) (S.faults shelf.old)) (K.told out.old) log)
-        machine.new feed.new (view (S.told shelf.new) (S.reach shelf.new) (S.faults shelf.new)) (K.told out.new) result }
+        machine.new feed.new
+        (view (S.told shelf.new) (S.reach shelf.new) (S.faults shelf.new)) (K.told out.new) result }
 
     // How the file ends, where it is told.
     ensures ends { (file : List ℕ) → Tells (S.told shelf.old) (name_of feed.old) file → EndsRun result feed.new file }
@@ -112,15 +114,12 @@ pub fn run<const N: usize, const P: usize, S: Shelf, K: Sink>(
 {
     let mut widths = [0; 64];
     let count = put_widths(&mut widths, machine.conf());
-    let end = take_turns(
-        machine,
-        feed,
-        shelf,
-        stall,
-        out,
+    let mut walk = Walk {
         log,
+        widths: &widths[..count],
         room,
-        &widths[..count],
-    );
+        last: Got::Sample,
+    };
+    let end = walk.take_turns(machine, feed, shelf, stall, out);
     finish(machine, out, log, end)
 }

@@ -74,48 +74,53 @@ fn close_turn<const N: usize, const P: usize, K: Sink>(
     }
 }
 
-/// One turn: a sample is read and offered, all waiting results are taken and written, and where the run is not over then,
-/// the machine is asked for one cycle.
-///
-/// `last` is the feed's last answer, and `widths` are those of the outputs.
-pub fn turn<const N: usize, const P: usize, S: Shelf, K: Sink>(
-    machine: &mut Machine<N, P, Running>,
-    feed: &mut Feed,
-    shelf: &mut S,
-    out: &mut K,
-    log: bool,
-    room: &mut Room,
-    widths: &[u8],
-    held: Held,
-    last: Got,
-) -> Turned
-    requires inputs { widths_of feed.old ≡ (conf_of machine.old).inputs }
-    requires outputs { widths.now ≡ output_widths (conf_of machine.old) }
-    requires time { time_of machine.old < 2 ^ 63 }
-    ensures after { (s : Setting) (first next : List (List ℕ) → Run (List ℕ)) → IsSet s → s.log ≡ log
-        → ((xs : List (List ℕ)) → next xs ≡ turned (stages_of s) s.stripes (held_of held) (first xs))
-        → IsOn s first machine.old feed.old
-        (view (S.told shelf.old) (S.reach shelf.old) (S.faults shelf.old)) (K.told out.old) last
-        → IsTurned s first next machine.new feed.new
-        (view (S.told shelf.new) (S.reach shelf.new) (S.faults shelf.new)) (K.told out.new) result }
-    ensures inputs { widths_of feed.new ≡ widths_of feed.old }
-    ensures conf { machine.new.parts.conf ≡ machine.old.parts.conf }
-    ensures stripes { stripes_of machine.new ≡ stripes_of machine.old }
-    ensures time { time_of machine.new ≤ time_of machine.old + cycles_by result }
-    ensures cause { has_failed result ≡ true → Rose (K.faults out.old) (K.faults out.new) }
-    ensures later { K.faults out.old ≤ K.faults out.new }
-{
-    let last = feed_step(
-        machine,
-        feed,
-        shelf,
-        &mut room.numbers,
-        &mut room.sample,
-        held.input,
-        last,
-    );
-    match drain_step(machine, out, widths, &mut room.result, held.output) {
-        Ok(()) => close_turn(machine, feed, out, log, last),
-        Err(_) => Turned::Failed,
+/// What a run keeps from turn to turn.
+#[derive(Drop)]
+pub struct Walk<'a> {
+    /// Whether the log is asked for.
+    pub log: bool,
+    /// The widths of the outputs.
+    pub widths: &'a [u8],
+    /// The memory.
+    pub room: &'a mut Room,
+    /// The feed's last answer.
+    pub last: Got,
+}
+
+impl<'a> Walk<'a> {
+    /// One turn: a sample is read and offered, all waiting results are taken and written, and where the run is not over
+    /// then, the machine is asked for one cycle.
+    pub fn turn<const N: usize, const P: usize, S: Shelf, K: Sink>(
+        &mut self,
+        machine: &mut Machine<N, P, Running>,
+        feed: &mut Feed,
+        shelf: &mut S,
+        out: &mut K,
+        held: Held,
+    ) -> Turned
+        requires inputs { widths_of feed.old ≡ (conf_of machine.old).inputs }
+        requires outputs { self.old.widths.now ≡ output_widths (conf_of machine.old) }
+        requires time { time_of machine.old < 2 ^ 63 }
+        ensures after { (s : Setting) (first next : List (List ℕ) → Run (List ℕ)) → IsSet s → s.log ≡ self.old.log
+            → ((xs : List (List ℕ)) → next xs ≡ turned (stages_of s) s.stripes (held_of held) (first xs))
+            → IsOn s first machine.old feed.old
+            (view (S.told shelf.old) (S.reach shelf.old) (S.faults shelf.old)) (K.told out.old) self.old.last
+            → IsTurned s first next machine.new feed.new
+            (view (S.told shelf.new) (S.reach shelf.new) (S.faults shelf.new)) (K.told out.new) result }
+        ensures log { self.new.log ≡ self.old.log }
+        ensures widths { self.new.widths.now ≡ self.old.widths.now }
+        ensures inputs { widths_of feed.new ≡ widths_of feed.old }
+        ensures conf { machine.new.parts.conf ≡ machine.old.parts.conf }
+        ensures stripes { stripes_of machine.new ≡ stripes_of machine.old }
+        ensures time { time_of machine.new ≤ time_of machine.old + cycles_by result }
+        ensures cause { has_failed result ≡ true → Rose (K.faults out.old) (K.faults out.new) }
+        ensures later { K.faults out.old ≤ K.faults out.new }
+    {
+        let room = &mut *self.room;
+        let last = feed_step(machine, feed, shelf, room, held.input, self.last);
+        match drain_step(machine, out, self.widths, &mut room.result, held.output) {
+            Ok(()) => close_turn(machine, feed, out, self.log, last),
+            Err(_) => Turned::Failed,
+        }
     }
 }

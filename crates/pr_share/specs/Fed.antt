@@ -11,8 +11,8 @@ pub record IsFedBy (first f : Feed) (file : List ℕ) (rows : List (List ℕ)) (
   pub front : rows ≡ take (given_of f) (fed first file).samples
   pub ends : EndsBy last f file
 
--- since it was the first of these, the feed gave these samples from a shelf that tells this, and its last answer was this;
--- a sample says that more may follow
+-- since it was the first of these, the feed gave these samples from a shelf that tells this, and its last answer was
+-- this; a sample says that more may follow
 pub record HasFed (first : Feed) (told : Told) (f : Feed) (rows : List (List ℕ)) (last : Got) : Type 0 where
   pub file : SameFile first f
   pub count : given_of f ≡ length rows

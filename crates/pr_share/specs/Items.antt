@@ -81,7 +81,9 @@ is_lost (Some files) name = not (is_some (files name))
 
 -- the lines of the results of further samples, after these
 abbrev pub turn_rows : {N P : ℕ} → ShareItem N P → List (List ℕ) → List (List ℕ) → List (List ℕ)
-turn_rows {N} {P} first rows more = result_numbers N P (conf_after N P (conf_in first.parked) (pieces (conf_in first.parked) rows)) (pieces (conf_in first.parked) more)
+turn_rows {N} {P} first rows more =
+    let conf = conf_in first.parked in
+    result_numbers N P (conf_after N P conf (pieces conf rows)) (pieces conf more)
 
 abbrev pub turn_text : {N P : ℕ} → ℕ → ShareItem N P → List (List ℕ) → List (List ℕ) → List ℕ
 turn_text number first rows more = marked number (turn_rows first rows more)
@@ -96,7 +98,8 @@ abbrev pub world : Told → ℕ → Tape → World
 world told faults tape = record { told = told; faults = faults; tape = tape }
 
 -- it was given these further ones in one turn, and the lines of their results were written; a read fault has its cause
-pub record IsTurn {N P : ℕ} (first now : ShareItem N P) (rows : List (List ℕ)) (number : ℕ) (old new : World) : Type 0 where
+pub record IsTurn {N P : ℕ} (first now : ShareItem N P) (rows : List (List ℕ)) (number : ℕ)
+    (old new : World) : Type 0 where
   pub more : List (List ℕ)
   pub taken : HasTaken new.told first now (rows ++ more)
   pub few : length more ≤ first.quota
@@ -105,14 +108,16 @@ pub record IsTurn {N P : ℕ} (first now : ShareItem N P) (rows : List (List ℕ
   pub cause : last_of now.ended ≡ Got.ReadFault → HasReadCause new.told (name_of first.feed) old.faults new.faults
 
 -- a program whose turn a write fault ended was given these samples, and its feed answered so last. It is parked no more
-pub record IsBroken {N P : ℕ} (told : Told) (first now : ShareItem N P) (rows : List (List ℕ)) (last : Got) : Type 0 where
+pub record IsBroken {N P : ℕ} (told : Told) (first now : ShareItem N P) (rows : List (List ℕ))
+    (last : Got) : Type 0 where
   pub parked : now.parked ≡ None
   pub fed : HasFed first.feed told now.feed rows last
   pub quota : now.quota ≡ first.quota
   pub ended : now.ended ≡ None
 
 -- a write failed in a turn in which it was given these further ones: some first bytes of their lines were written
-pub record IsHalf {N P : ℕ} (first now : ShareItem N P) (rows : List (List ℕ)) (number : ℕ) (old new : World) : Type 0 where
+pub record IsHalf {N P : ℕ} (first now : ShareItem N P) (rows : List (List ℕ)) (number : ℕ)
+    (old new : World) : Type 0 where
   pub more : List (List ℕ)
   pub last : Got
   pub broken : IsBroken new.told first now (rows ++ more) last
@@ -128,7 +133,10 @@ pub record Given : Type 0 where
 
 -- what a program with these samples is in the text: its quota, and its results
 abbrev pub part_of : {N P : ℕ} → ShareItem N P → List (List ℕ) → Part
-part_of {N} {P} first rows = record { quota = first.quota; rows = result_numbers N P (conf_in first.parked) (pieces (conf_in first.parked) rows) }
+part_of {N} {P} first rows = record {
+  quota = first.quota;
+  rows = result_numbers N P (conf_in first.parked) (pieces (conf_in first.parked) rows);
+}
 
 -- what programs that were given these are in the text
 abbrev pub parts_of : {N P : ℕ} → List (ShareItem N P) → List Given → List Part
@@ -140,7 +148,8 @@ has_failed told f last = is_read_fault last && not (is_lost told (name_of f))
 
 -- the number of programs of which a read failed so
 abbrev pub read_faults : {N P : ℕ} → Told → List (ShareItem N P) → List Given → ℕ
-read_faults told firsts givens = count_by (λ failed. failed) (zip2 (λ first given. has_failed told first.feed given.last) firsts givens)
+read_faults told firsts givens =
+    count_by (λ failed. failed) (zip2 (λ first given. has_failed told first.feed given.last) firsts givens)
 
 -- a program that was given these samples is parked after them, and how they ended is told where they have
 pub record IsResting {N P : ℕ} (told : Told) (first now : ShareItem N P) (given : Given) : Type 0 where
@@ -158,7 +167,9 @@ pub record IsSharing {N P : ℕ} (firsts items : List (ShareItem N P)) (start no
   pub givens : List Given
   pub items_count : length items ≡ length firsts
   pub givens_count : length givens ≡ length firsts
-  pub each : (i : ℕ) (first item : ShareItem N P) (given : Given) → slice_get firsts i ≡ Some first → slice_get items i ≡ Some item → slice_get givens i ≡ Some given → IsMember now.told first item given (if nat_lt i k then r + 1 else r)
+  pub each : (i : ℕ) (first item : ShareItem N P) (given : Given) → slice_get firsts i ≡ Some first
+      → slice_get items i ≡ Some item → slice_get givens i ≡ Some given
+      → IsMember now.told first item given (if nat_lt i k then r + 1 else r)
   pub quotas : HaveQuotas (parts_of firsts givens)
   pub text : Appends start.tape now.tape (so_far r k (parts_of firsts givens))
   pub faults : RoseBy start.faults now.faults (read_faults now.told firsts givens)
@@ -169,13 +180,14 @@ pub record IsShared {N P : ℕ} (told : Told) (first now : ShareItem N P) (given
   pub taken : HasTaken told first now given.rows
   pub ended : now.ended ≡ Some given.last
 
--- all programs have ended, and what was written is the text of their turns. At most as many reads failed as the count of
--- the shelf's faults rose by
+-- all programs have ended, and what was written is the text of their turns. At most as many reads failed as the count
+-- of the shelf's faults rose by
 pub record AreShared {N P : ℕ} (firsts items : List (ShareItem N P)) (start now : World) : Type 0 where
   pub givens : List Given
   pub items_count : length items ≡ length firsts
   pub givens_count : length givens ≡ length firsts
-  pub each : (i : ℕ) (first item : ShareItem N P) (given : Given) → slice_get firsts i ≡ Some first → slice_get items i ≡ Some item → slice_get givens i ≡ Some given → IsShared now.told first item given
+  pub each : (i : ℕ) (first item : ShareItem N P) (given : Given) → slice_get firsts i ≡ Some first
+      → slice_get items i ≡ Some item → slice_get givens i ≡ Some given → IsShared now.told first item given
   pub text : Appends start.tape now.tape (share_text (parts_of firsts givens))
   pub faults : RoseBy start.faults now.faults (read_faults now.told firsts givens)
 
@@ -192,17 +204,21 @@ MayAllBecome [] (whole ∷ wholes) = ⊥
 MayAllBecome (given ∷ givens) [] = ⊥
 MayAllBecome (given ∷ givens) (whole ∷ wholes) = MayBecome given whole × MayAllBecome givens wholes
 
--- a write failed in the turn of the program at a place. The others are parked, each after the samples that it was given.
--- Of the text of all turns some first bytes were written, whatever samples may follow
+-- a write failed in the turn of the program at a place. The others are parked, each after the samples that it was
+-- given. Of the text of all turns some first bytes were written, whatever samples may follow
 pub record AreStopped {N P : ℕ} (firsts items : List (ShareItem N P)) (start now : World) : Type 0 where
   pub place : ℕ
   pub within : place < length items
   pub givens : List Given
   pub items_count : length items ≡ length firsts
   pub givens_count : length givens ≡ length firsts
-  pub here : (first item : ShareItem N P) (given : Given) → slice_get firsts place ≡ Some first → slice_get items place ≡ Some item → slice_get givens place ≡ Some given → IsBroken now.told first item given.rows given.last
-  pub others : (i : ℕ) (first item : ShareItem N P) (given : Given) → i ≢ place → slice_get firsts i ≡ Some first → slice_get items i ≡ Some item → slice_get givens i ≡ Some given → IsResting now.told first item given
-  pub text : (wholes : List Given) → MayAllBecome givens wholes → AppendsFront start.tape now.tape (share_text (parts_of firsts wholes))
+  pub here : (first item : ShareItem N P) (given : Given) → slice_get firsts place ≡ Some first
+      → slice_get items place ≡ Some item → slice_get givens place ≡ Some given
+      → IsBroken now.told first item given.rows given.last
+  pub others : (i : ℕ) (first item : ShareItem N P) (given : Given) → i ≢ place → slice_get firsts i ≡ Some first
+      → slice_get items i ≡ Some item → slice_get givens i ≡ Some given → IsResting now.told first item given
+  pub text : (wholes : List Given) → MayAllBecome givens wholes
+      → AppendsFront start.tape now.tape (share_text (parts_of firsts wholes))
   pub faults : RoseBy start.faults now.faults (read_faults now.told firsts givens)
 
 -- the samples of some program have not ended

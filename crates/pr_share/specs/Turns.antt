@@ -23,8 +23,8 @@ use Rattle.pr_share.specs.Fed.{HasFed}
 abbrev pub Going : ℕ → ℕ → Type 0
 Going N P = Machine N P Running (Loaded N P)
 
--- what a turn is given: the configuration and its stripes, the program's number, the feed as it was at first, the samples
--- of earlier turns, and what the sink tells
+-- what a turn is given: the configuration and its stripes, the program's number, the feed as it was at first, the
+-- samples of earlier turns, and what the sink tells
 pub record Setting : Type 0 where
   pub conf : Shape
   pub stripes : ℕ
@@ -49,7 +49,9 @@ pub record IsSet (s : Setting) : Type 0 where
 
 -- the lines of the results that were taken in a history
 abbrev pub taken_text : ℕ → ℕ → Setting → History → List ℕ
-taken_text N P s h = marked s.number (take (account (stages_of s) s.stripes h).taken (result_numbers N P s.conf (account (stages_of s) s.stripes h).offered))
+taken_text N P s h =
+    let a = account (stages_of s) s.stripes h in
+    marked s.number (take a.taken (result_numbers N P s.conf a.offered))
 
 -- all lines of these samples
 abbrev pub whole_text : ℕ → ℕ → Setting → List (List ℕ) → List ℕ
@@ -69,7 +71,8 @@ abbrev pub turn_at : History → List (List ℕ) → Bool → Run (List ℕ)
 turn_at h more ended = record { history = h; rest = more; ended = ended; over = false }
 
 -- machine, feed and sink are where the turn is, which for each list of samples is this one; whatever samples may follow
-pub record IsTurning {N P : ℕ} (s : Setting) (runs : List (List ℕ) → Run (List ℕ)) (m : Going N P) (f : Feed) (told : Told) (t : Tape) (used : Use) : Type 0 where
+pub record IsTurning {N P : ℕ} (s : Setting) (runs : List (List ℕ) → Run (List ℕ)) (m : Going N P) (f : Feed)
+    (told : Told) (t : Tape) (used : Use) : Type 0 where
   pub rows : List (List ℕ)
   pub history : History
   pub shown : HasShown s m t history
@@ -77,13 +80,15 @@ pub record IsTurning {N P : ℕ} (s : Setting) (runs : List (List ℕ) → Run (
   pub offered : (account (stages_of s) s.stripes history).offered ≡ pieces s.conf rows
   pub count : used.count ≡ length rows
   pub unread : used.ended ≡ false → used.last ≡ Got.Sample
-  pub run : (more : List (List ℕ)) → (used.ended ≡ true → more ≡ []) → runs (pieces s.conf rows ++ more) ≡ turn_at history more used.ended
+  pub run : (more : List (List ℕ)) → (used.ended ≡ true → more ≡ [])
+      → runs (pieces s.conf rows ++ more) ≡ turn_at history more used.ended
 
 -- the turn's samples have ended, and nothing is in flight
 abbrev pub gone_test : Setting → Bool → History → Bool
 gone_test s ended h =
     let a = account (stages_of s) s.stripes h in
-    ended && (length a.offered - length a.entries == 0) && (length a.entries == left (stages_of s) a) && (left (stages_of s) a - a.taken == 0)
+    ended && (length a.offered - length a.entries == 0) && (length a.entries == left (stages_of s) a)
+    && (left (stages_of s) a - a.taken == 0)
 
 -- nothing is in flight
 pub record IsIdle {N P : ℕ} (m : Going N P) : Type 0 where
@@ -92,7 +97,8 @@ pub record IsIdle {N P : ℕ} (m : Going N P) : Type 0 where
   pub output : length (waiting_results m) ≡ 0
 
 -- the turn is over: nothing is in flight, and the lines of all its samples are written
-pub record IsTurned {N P : ℕ} (s : Setting) (m : Going N P) (f : Feed) (told : Told) (t : Tape) (quota : ℕ) (last : Got) : Type 0 where
+pub record IsTurned {N P : ℕ} (s : Setting) (m : Going N P) (f : Feed) (told : Told) (t : Tape) (quota : ℕ)
+    (last : Got) : Type 0 where
   pub rows : List (List ℕ)
   pub history : History
   pub stands : Stands m s.conf s.stripes history
@@ -102,8 +108,8 @@ pub record IsTurned {N P : ℕ} (s : Setting) (m : Going N P) (f : Feed) (told :
   pub few : length rows ≤ quota
   pub full : is_sample last ≡ true → length rows ≡ quota
 
--- a write failed on the way: of the lines of the samples that were read some first bytes are written. The feed answered so
--- last, a read fault only by its cause since the shelf's faults were so many
+-- a write failed on the way: of the lines of the samples that were read some first bytes are written. The feed answered
+-- so last, a read fault only by its cause since the shelf's faults were so many
 pub record IsCut (N P : ℕ) (s : Setting) (f : Feed) (told : Told) (t : Tape) (quota before now : ℕ) : Type 0 where
   pub rows : List (List ℕ)
   pub last : Got
@@ -113,7 +119,8 @@ pub record IsCut (N P : ℕ) (s : Setting) (f : Feed) (told : Told) (t : Tape) (
   pub cause : last ≡ Got.ReadFault → HasReadCause told (name_of s.first) before now
 
 -- a turn begins so: the machine was just resumed, and the feed has given the samples of earlier turns
-pub record Begins {N P : ℕ} (s : Setting) (m : Going N P) (f : Feed) (told : Told) (t : Tape) (number : ℕ) : Type 0 where
+pub record Begins {N P : ℕ} (s : Setting) (m : Going N P) (f : Feed) (told : Told) (t : Tape)
+    (number : ℕ) : Type 0 where
   pub conf : s.conf ≡ conf_of m
   pub stripes : s.stripes ≡ stripes_of m
   pub number_is : s.number ≡ number

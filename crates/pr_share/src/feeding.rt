@@ -13,7 +13,7 @@ use crate::uses::Use;
 use pr_base::Num;
 use pr_edge::Shelf;
 use pr_machine::{Machine, Running};
-use pr_run::{goes_on, offer_sample};
+use pr_run::{Room, goes_on, offer_sample};
 use pr_samples::Feed;
 
 /// The samples that wait at most.
@@ -36,7 +36,8 @@ fn read_one<const N: usize, const P: usize, S: Shelf>(
     requires count { used.count < 2 ^ 32 - 1 }
     ensures turning { (s : Setting) (runs : List (List ℕ) → Run (List ℕ)) (t : Tape) → 0 < stages_of s
         → IsTurning s runs machine.old feed.old (S.told shelf.old) t used
-        → IsTurning s (λ xs. fed (stages_of s) s.stripes free (runs xs)) machine.new feed.new (S.told shelf.new) t result }
+        → IsTurning s (λ xs. fed (stages_of s) s.stripes free (runs xs)) machine.new feed.new
+        (S.told shelf.new) t result }
     ensures count { result.count ≤ used.count + 1 }
     ensures unread { is_sample result.last ≡ true → result.ended ≡ false }
     ensures cause { result.last ≡ Got.ReadFault
@@ -64,29 +65,61 @@ fn read_one<const N: usize, const P: usize, S: Shelf>(
     }
 }
 
-/// Reads a sample and offers it, unless the turn's samples have ended or the queue is full. Where the quota is used up,
-/// they are found to have ended.
-pub(crate) fn feed_step<const N: usize, const P: usize, S: Shelf>(
+/// Reads a sample into the first of 64 numbers and offers it, or finds that the samples have ended.
+fn read_sample<const N: usize, const P: usize, S: Shelf>(
     machine: &mut Machine<N, P, Running>,
     feed: &mut Feed,
     shelf: &mut S,
     numbers: &mut [Num],
     bytes: &mut [u8],
     used: Use,
-    quota: u32,
 ) -> Use
     requires inputs { widths_of feed.old ≡ (conf_of machine.old).inputs }
     requires numbers { length numbers.old ≡ 64 }
     requires bytes { length bytes.old ≡ 64 }
+    requires room { length (waiting_samples machine.old) < 16 }
+    requires going { used.ended ≡ false }
+    requires count { used.count < 2 ^ 32 - 1 }
+    ensures turning { (s : Setting) (runs : List (List ℕ) → Run (List ℕ)) (t : Tape) → 0 < stages_of s
+        → IsTurning s runs machine.old feed.old (S.told shelf.old) t used
+        → IsTurning s (λ xs. fed (stages_of s) s.stripes free (runs xs)) machine.new feed.new
+        (S.told shelf.new) t result }
+    ensures count { result.count ≤ used.count + 1 }
+    ensures unread { is_sample result.last ≡ true → result.ended ≡ false }
+    ensures cause { result.last ≡ Got.ReadFault
+        → HasReadCause (S.told shelf.old) (name_of feed.old) (S.faults shelf.old) (S.faults shelf.new) }
+    ensures later { S.faults shelf.old ≤ S.faults shelf.new }
+    ensures told { S.told shelf.new ≡ S.told shelf.old }
+    ensures others { (q : List ℕ) → q ≢ name_of feed.old → S.reach shelf.new q ≡ S.reach shelf.old q }
+    ensures file { SameFile feed.old feed.new }
+    ensures kept { IsKept machine.old machine.new }
+{
+    let count = machine.conf().inputs.len();
+    read_one(machine, feed, shelf, &mut numbers[..count], bytes, used)
+}
+
+/// Reads a sample and offers it, unless the turn's samples have ended or the queue is full. Where the quota is used up,
+/// they are found to have ended.
+pub(crate) fn feed_step<const N: usize, const P: usize, S: Shelf>(
+    machine: &mut Machine<N, P, Running>,
+    feed: &mut Feed,
+    shelf: &mut S,
+    room: &mut Room,
+    used: Use,
+    quota: u32,
+) -> Use
+    requires inputs { widths_of feed.old ≡ (conf_of machine.old).inputs }
     requires quota { used.count ≤ quota }
     requires spent { used.ended ≡ true → is_sample used.last ≡ true → used.count ≡ quota }
     ensures turning { (s : Setting) (runs : List (List ℕ) → Run (List ℕ)) (t : Tape) → 0 < stages_of s
         → IsTurning s runs machine.old feed.old (S.told shelf.old) t used
-        → IsTurning s (λ xs. fed (stages_of s) s.stripes free (runs xs)) machine.new feed.new (S.told shelf.new) t result }
+        → IsTurning s (λ xs. fed (stages_of s) s.stripes free (runs xs)) machine.new feed.new
+        (S.told shelf.new) t result }
     ensures quota { result.count ≤ quota }
     ensures spent { result.ended ≡ true → is_sample result.last ≡ true → result.count ≡ quota }
     ensures cause { result.last ≡ Got.ReadFault
-        → (used.last ≡ Got.ReadFault) ⊎ HasReadCause (S.told shelf.old) (name_of feed.old) (S.faults shelf.old) (S.faults shelf.new) }
+        → (used.last ≡ Got.ReadFault)
+        ⊎ HasReadCause (S.told shelf.old) (name_of feed.old) (S.faults shelf.old) (S.faults shelf.new) }
     ensures later { S.faults shelf.old ≤ S.faults shelf.new }
     ensures told { S.told shelf.new ≡ S.told shelf.old }
     ensures others { (q : List ℕ) → q ≢ name_of feed.old → S.reach shelf.new q ≡ S.reach shelf.old q }
@@ -105,6 +138,12 @@ pub(crate) fn feed_step<const N: usize, const P: usize, S: Shelf>(
             ..used
         };
     }
-    let count = machine.conf().inputs.len();
-    read_one(machine, feed, shelf, &mut numbers[..count], bytes, used)
+    read_sample(
+        machine,
+        feed,
+        shelf,
+        &mut room.numbers,
+        &mut room.sample,
+        used,
+    )
 }

@@ -7,7 +7,7 @@ ghost use Rattle.pr_share.specs.Items.{World, world, ended_after, HasTaken, IsTu
 ghost use Rattle.pr_share.specs.Items.{AreReady, AreShared, AreStopped, IsGoing, AreEnded, names_of, IsNoneOf};
 
 use crate::items::ShareItem;
-use crate::turns::run_turn;
+use crate::turns::Walk;
 use pr_edge::{Shelf, Sink, WriteFault};
 use pr_machine::{Bare, Machine};
 use pr_run::{Room, goes_on, put_widths};
@@ -40,7 +40,8 @@ fn take_turn<const N: usize, const P: usize, S: Shelf, K: Sink>(
 ) -> Result<Machine<N, P, Bare>, WriteFault>
     requires number { number < 10 }
     requires going { item.old.ended ≡ None }
-    requires taken { (first : ShareItem N P) × (rows : List (List ℕ)) × HasTaken (S.told shelf.old) first item.old rows }
+    requires taken { (first : ShareItem N P) × (rows : List (List ℕ))
+        × HasTaken (S.told shelf.old) first item.old rows }
     ensures turn { let old = world (S.told shelf.old) (S.faults shelf.old) (K.told out.old) in
         let new = world (S.told shelf.new) (S.faults shelf.new) (K.told out.new) in
         (first : ShareItem N P) (rows : List (List ℕ)) → HasTaken old.told first item.old rows
@@ -63,16 +64,13 @@ fn take_turn<const N: usize, const P: usize, S: Shelf, K: Sink>(
     let mut running = machine.resume(parked);
     let mut widths = [0; 64];
     let count = put_widths(&mut widths, running.conf());
-    let last = match run_turn(
-        &mut running,
-        &mut item.feed,
-        shelf,
-        out,
+    let mut walk = Walk {
         room,
-        &widths[..count],
+        widths: &widths[..count],
         number,
-        item.quota,
-    ) {
+        quota: item.quota,
+    };
+    let last = match walk.run_turn(&mut running, &mut item.feed, shelf, out) {
         Err(fault) => return Err(fault),
         Ok(last) => last,
     };
@@ -170,9 +168,9 @@ fn is_going<const N: usize, const P: usize>(items: &[ShareItem<N, P>]) -> bool
 /// Runs up to eight programs in rounds on the same stripes until the samples of all have ended. No memory is taken.
 ///
 /// In each round each program whose samples have not ended takes up the machine, is fed up to its quota, and is parked
-/// again when nothing is in flight; each line of its results is written after its number. Where a read fails, the samples
-/// of that program alone have ended. After a write fault the program whose turn it was is given up, and the others are
-/// parked.
+/// again when nothing is in flight; each line of its results is written after its number. Where a read fails, the
+/// samples of that program alone have ended. After a write fault the program whose turn it was is given up, and the
+/// others are parked.
 pub fn share<const N: usize, const P: usize, S: Shelf, K: Sink>(
     machine: Machine<N, P, Bare>,
     parts: &mut [ShareItem<N, P>],

@@ -28,62 +28,75 @@ fn is_over<const N: usize, const P: usize>(machine: &Machine<N, P, Running>, end
         && machine.waiting_out() == 0
 }
 
-/// Feeds a machine up to the quota, and cycles it until nothing is in flight. It gives the feed's last answer; a sample
-/// says that more may follow. It is over long before so many cycles.
-pub(crate) fn run_turn<const N: usize, const P: usize, S: Shelf, K: Sink>(
-    machine: &mut Machine<N, P, Running>,
-    feed: &mut Feed,
-    shelf: &mut S,
-    out: &mut K,
-    room: &mut Room,
-    widths: &[u8],
-    number: u8,
-    quota: u32,
-) -> Result<Got, WriteFault>
-    requires resumed { Stands machine.old (conf_of machine.old) (stripes_of machine.old) [] }
-    requires inputs { widths_of feed.old ≡ (conf_of machine.old).inputs }
-    requires outputs { widths.now ≡ output_widths (conf_of machine.old) }
-    requires number { number < 10 }
-    requires fed { (first : Feed) × ((earlier : List (List ℕ)) × HasFed first (S.told shelf.old) feed.old earlier Got.Sample) }
-    ensures turned { (s : Setting) → Begins s machine.old feed.old (S.told shelf.old) (K.told out.old) number
-        → IfOk result (λ last. IsTurned s machine.new feed.new (S.told shelf.new) (K.told out.new) quota last) }
-    ensures cut { (s : Setting) → Begins s machine.old feed.old (S.told shelf.old) (K.told out.old) number
-        → OnErr result (IsCut N P s feed.new (S.told shelf.new) (K.told out.new) quota (S.faults shelf.old) (S.faults shelf.new)) }
-    ensures idle { OnOk result (IsIdle machine.new) }
-    ensures read_fault { IfOk result (λ last. last ≡ Got.ReadFault
-        → HasReadCause (S.told shelf.old) (name_of feed.old) (S.faults shelf.old) (S.faults shelf.new)) }
-    ensures cause { OnErr result (Rose (K.faults out.old) (K.faults out.new)) }
-    ensures file { SameFile feed.old feed.new }
-    ensures conf { machine.new.parts.conf ≡ machine.old.parts.conf }
-    ensures stripes { stripes_of machine.new ≡ stripes_of machine.old }
-    ensures told { S.told shelf.new ≡ S.told shelf.old }
-    ensures others { (q : List ℕ) → q ≢ name_of feed.old → S.reach shelf.new q ≡ S.reach shelf.old q }
-    ensures shelf_later { S.faults shelf.old ≤ S.faults shelf.new }
-    ensures out_later { K.faults out.old ≤ K.faults out.new }
-{
-    let mut used = Use {
-        count: 0,
-        last: Got::Sample,
-        ended: false,
-    };
-    for _ in 0..u64::MAX {
-        used = feed_step(
-            machine,
-            feed,
-            shelf,
-            &mut room.numbers,
-            &mut room.sample,
-            used,
-            quota,
-        );
-        match write_step(machine, out, widths, number, &mut room.result) {
-            Ok(()) => {}
-            Err(fault) => return Err(fault),
+/// What a turn keeps while it is made.
+#[derive(Drop)]
+pub(crate) struct Walk<'a> {
+    /// The memory.
+    pub(crate) room: &'a mut Room,
+    /// The widths of the outputs.
+    pub(crate) widths: &'a [u8],
+    /// The program's number.
+    pub(crate) number: u8,
+    /// The greatest number of samples.
+    pub(crate) quota: u32,
+}
+
+impl<'a> Walk<'a> {
+    /// Feeds a machine up to the quota, and cycles it until nothing is in flight. It gives the feed's last answer; a
+    /// sample says that more may follow. It is over long before so many cycles.
+    pub(crate) fn run_turn<const N: usize, const P: usize, S: Shelf, K: Sink>(
+        &mut self,
+        machine: &mut Machine<N, P, Running>,
+        feed: &mut Feed,
+        shelf: &mut S,
+        out: &mut K,
+    ) -> Result<Got, WriteFault>
+        requires resumed { Stands machine.old (conf_of machine.old) (stripes_of machine.old) [] }
+        requires inputs { widths_of feed.old ≡ (conf_of machine.old).inputs }
+        requires outputs { self.old.widths.now ≡ output_widths (conf_of machine.old) }
+        requires number { self.old.number < 10 }
+        requires fed { (first : Feed) × ((earlier : List (List ℕ))
+            × HasFed first (S.told shelf.old) feed.old earlier Got.Sample) }
+        ensures turned { (s : Setting)
+            → Begins s machine.old feed.old (S.told shelf.old) (K.told out.old) self.old.number
+            → IfOk result
+            (λ last. IsTurned s machine.new feed.new (S.told shelf.new) (K.told out.new) self.old.quota last) }
+        ensures cut { (s : Setting)
+            → Begins s machine.old feed.old (S.told shelf.old) (K.told out.old) self.old.number
+            → OnErr result (IsCut N P s feed.new (S.told shelf.new) (K.told out.new) self.old.quota
+            (S.faults shelf.old) (S.faults shelf.new)) }
+        ensures idle { OnOk result (IsIdle machine.new) }
+        ensures read_fault { IfOk result (λ last. last ≡ Got.ReadFault
+            → HasReadCause (S.told shelf.old) (name_of feed.old) (S.faults shelf.old) (S.faults shelf.new)) }
+        ensures cause { OnErr result (Rose (K.faults out.old) (K.faults out.new)) }
+        ensures file { SameFile feed.old feed.new }
+        ensures conf { machine.new.parts.conf ≡ machine.old.parts.conf }
+        ensures stripes { stripes_of machine.new ≡ stripes_of machine.old }
+        ensures told { S.told shelf.new ≡ S.told shelf.old }
+        ensures others { (q : List ℕ) → q ≢ name_of feed.old → S.reach shelf.new q ≡ S.reach shelf.old q }
+        ensures shelf_later { S.faults shelf.old ≤ S.faults shelf.new }
+        ensures out_later { K.faults out.old ≤ K.faults out.new }
+    {
+        let room = &mut *self.room;
+        let widths = self.widths;
+        let number = self.number;
+        let quota = self.quota;
+        let mut used = Use {
+            count: 0,
+            last: Got::Sample,
+            ended: false,
+        };
+        for _ in 0..u64::MAX {
+            used = feed_step(machine, feed, shelf, room, used, quota);
+            match write_step(machine, out, widths, number, &mut room.result) {
+                Ok(()) => {}
+                Err(fault) => return Err(fault),
+            }
+            if is_over(machine, used.ended) {
+                return Ok(used.last);
+            }
+            let _turn = machine.cycle();
         }
-        if is_over(machine, used.ended) {
-            return Ok(used.last);
-        }
-        let _turn = machine.cycle();
+        unreachable!()
     }
-    unreachable!()
 }

@@ -20,8 +20,10 @@ fn put_line<K: Sink>(out: &mut K, number: u8, widths: &[u8], bytes: &[u8]) -> Re
     requires number { number < 10 }
     requires widths { All (λ w. (1 ≤ w) × (w ≤ 128)) widths.now }
     requires bytes { length bytes.now ≡ sum_by slices_of widths.now }
-    ensures all { OnOk result (Appends (K.told out.old) (K.told out.new) (mark number ++ row_line (row_numbers widths.now bytes.now))) }
-    ensures front { OnErr result (AppendsFront (K.told out.old) (K.told out.new) (mark number ++ row_line (row_numbers widths.now bytes.now))) }
+    ensures all { OnOk result (Appends (K.told out.old) (K.told out.new)
+        (mark number ++ row_line (row_numbers widths.now bytes.now))) }
+    ensures front { OnErr result (AppendsFront (K.told out.old) (K.told out.new)
+        (mark number ++ row_line (row_numbers widths.now bytes.now))) }
     ensures cause { OnErr result (Rose (K.faults out.old) (K.faults out.new)) }
     ensures later { K.faults out.old ≤ K.faults out.new }
 {
@@ -47,8 +49,8 @@ fn write_one<const N: usize, const P: usize, K: Sink>(
         → OnOk result (HasShown s machine.new (K.told out.new) (h ++ Take ∷ [])) }
     ensures front { (s : Setting) (h : History) → s.number ≡ number → HasShown s machine.old (K.told out.old) h
         → OnErr result (AppendsFront s.tape (K.told out.new) (offered_text N P s h)) }
-    ensures offered { (s : Setting) (h : History) → HasShown s machine.old (K.told out.old) h → (account (stages_of s) s.stripes (h ++ Take ∷ [])).offered
-        ≡ (account (stages_of s) s.stripes h).offered }
+    ensures offered { (s : Setting) (h : History) → HasShown s machine.old (K.told out.old) h
+        → (account (stages_of s) s.stripes (h ++ Take ∷ [])).offered ≡ (account (stages_of s) s.stripes h).offered }
     ensures kept { IsKept machine.old machine.new }
     ensures samples { waiting_samples machine.new ≡ waiting_samples machine.old }
     ensures fewer { length (waiting_results machine.new) + 1 ≡ length (waiting_results machine.old) }
@@ -72,7 +74,8 @@ fn write_waiting<const N: usize, const P: usize, K: Sink>(
     requires number { number < 10 }
     requires bytes { length bytes.old ≡ result_bytes_of machine.old }
     ensures shown { (s : Setting) (h : History) → s.number ≡ number → HasShown s machine.old (K.told out.old) h
-        → OnOk result (HasShown s machine.new (K.told out.new) (h ++ replicate (waiting (stages_of s) (account (stages_of s) s.stripes h)) Take)) }
+        → OnOk result (HasShown s machine.new (K.told out.new)
+        (h ++ replicate (waiting (stages_of s) (account (stages_of s) s.stripes h)) Take)) }
     ensures front { (s : Setting) (h : History) → s.number ≡ number → HasShown s machine.old (K.told out.old) h
         → OnErr result (AppendsFront s.tape (K.told out.new) (offered_text N P s h)) }
     ensures kept { IsKept machine.old machine.new }
@@ -100,7 +103,8 @@ pub(crate) fn write_step<const N: usize, const P: usize, K: Sink>(
     requires number { number < 10 }
     requires bytes { length bytes.old ≡ 1024 }
     ensures shown { (s : Setting) (h : History) → s.number ≡ number → HasShown s machine.old (K.told out.old) h
-        → OnOk result (HasShown s machine.new (K.told out.new) (h ++ replicate (waiting (stages_of s) (account (stages_of s) s.stripes h)) Take)) }
+        → OnOk result (HasShown s machine.new (K.told out.new)
+        (h ++ replicate (waiting (stages_of s) (account (stages_of s) s.stripes h)) Take)) }
     ensures front { (s : Setting) (h : History) → s.number ≡ number → HasShown s machine.old (K.told out.old) h
         → OnErr result (AppendsFront s.tape (K.told out.new) (offered_text N P s h)) }
     ensures kept { IsKept machine.old machine.new }

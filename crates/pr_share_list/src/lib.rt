@@ -5,8 +5,6 @@ mod faults;
 mod laws;
 mod lines;
 mod lists;
-#[cfg(test)]
-mod tests;
 mod words;
 
 pub use faults::ListFault;

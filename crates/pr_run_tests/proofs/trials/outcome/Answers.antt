@@ -1,6 +1,6 @@
 use Rattle.std.proofs.Common.{◌≤◌, ℕ, List, All, sym, subst}
 use Rattle.pr_run.proofs.Bytes.{lawful_inputs}
-use Rattle.pr_run.proofs.tests.outcome.Goals as goal
+use Rattle.pr_run_tests.proofs.trials.outcome.Goals as goal
 
 pub make-requires-2 : goal.make-requires-2
 make-requires-2 g c =

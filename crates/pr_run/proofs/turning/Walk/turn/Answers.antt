@@ -2,7 +2,7 @@ use Rattle.std.proofs.Common.{refl, ◌∙◌}
 use Rattle.pr_run_script.specs.Script.{fed, emptied}
 use Rattle.pr_run.specs.Setting.{view, stages_of, held_of}
 use Rattle.pr_run.proofs.Closing.{turned_steps, turned_fed, on_drained, cut_drained}
-use Rattle.pr_run.proofs.turning.turn.Goals as goal
+use Rattle.pr_run.proofs.turning.Walk.turn.Goals as goal
 
 pub returns-in-Ok-clause-after : goal.returns-in-Ok-clause-after
 returns-in-Ok-clause-after g c = λ s runs next set is turns on.

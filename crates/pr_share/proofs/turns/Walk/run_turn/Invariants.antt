@@ -6,7 +6,7 @@ use Rattle.pr_edge.specs.Files.{HasReadCause}
 use Rattle.pr_machine.specs.Stands.{conf_of, stripes_of, time_of}
 use Rattle.pr_run_script.specs.Script.{begun, turns}
 use Rattle.pr_share.specs.Turns.{Setting, Begins, IsTurning, stages_of}
-use Rattle.pr_share.proofs.turns.run_turn.Given as goal
+use Rattle.pr_share.proofs.turns.Walk.run_turn.Given as goal
 
 abbrev pub invariant-loop : goal.invariant-loop
 invariant-loop g l = record {

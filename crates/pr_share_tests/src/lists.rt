@@ -1,6 +1,6 @@
 //! Lists, line by line.
 
-use crate::{Entry, ListFault, read_list};
+use pr_share_list::{Entry, ListFault, read_list};
 use std::alloc::Global;
 use std::process::Abort;
 use std::test::Fail;

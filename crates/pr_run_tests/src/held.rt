@@ -1,0 +1,86 @@
+//! A run in which the output side is held.
+
+use crate::configurations::XOR;
+use crate::trials::{Outside, Trial, check_run};
+use pr_run::RunEnd;
+use std::alloc::{AllocError, Global};
+use std::fmt::Write;
+use std::ops::Range;
+use std::test::Fail;
+
+/// The lines of the cycles in which the results of these numbers leave, each with the line of its result where
+/// `is_free`.
+fn put_cycles(text: &mut String, results: Range<u8>, is_free: bool) -> Result<(), AllocError> {
+    for k in results {
+        writeln!(
+            text,
+            "cycle {} conf - save - in {} out {k}",
+            u16::from(k) + 2,
+            u16::from(k) + 1
+        )?;
+        if is_free {
+            writeln!(text, "{}", k ^ 200)?;
+        }
+    }
+    Ok(())
+}
+
+/// The lines of the results of these numbers.
+fn put_results(text: &mut String, results: Range<u8>) -> Result<(), AllocError> {
+    for k in results {
+        writeln!(text, "{}", k ^ 200)?;
+    }
+    Ok(())
+}
+
+/// The text of a run of 30 samples in which the output side is held for 40 turns. Results 0 to 15 leave and fill their
+/// queue, and the cycle in which the next one would leave waits for the last 22 of these turns.
+fn held_text(alloc: Global) -> Result<String, AllocError> {
+    let mut text = String::from_str(
+        alloc,
+        "cycle 0 conf 0@0 save - in - out -\ncycle 1 conf 1@1 save - in 0 out -\n",
+    )?;
+    put_cycles(&mut text, 0..16, false)?;
+    for _ in 0..22 {
+        text.push_str("stall 18\n")?;
+    }
+    put_results(&mut text, 0..16)?;
+    put_cycles(&mut text, 16..29, true)?;
+    text.push_str("cycle 31 conf - save - in - out 29\n")?;
+    put_results(&mut text, 29..30)?;
+    text.push_str("end cycles 32 stalls 22 records 30\n")?;
+    Ok(text)
+}
+
+/// The lines of 30 samples.
+fn samples(alloc: Global) -> Result<String, AllocError> {
+    let mut samples = String::new(alloc);
+    for k in 0..30u8 {
+        writeln!(samples, "{k} 200")?;
+    }
+    Ok(samples)
+}
+
+#[test]
+fn held_output(rt: HostRuntime) -> Result<(), Fail> {
+    let alloc = rt.alloc();
+    let samples = samples(alloc)?;
+    let mut lines = String::new(alloc);
+    put_results(&mut lines, 0..30)?;
+    let end = RunEnd::Done {
+        cycles: 32,
+        stalls: 22,
+        results: 30,
+    };
+    for (log, text) in vec![in alloc; (true, held_text(alloc)?), (false, lines)]? {
+        let trial = Trial {
+            program: XOR,
+            stripes: 16,
+            turns: &[b'o'; 40],
+            log,
+        };
+        let outside = Outside::of(alloc, samples.as_bytes())?;
+        check_run(&rt, alloc, trial, outside, end, text.as_bytes())?;
+    }
+    Ok(())
+}
