@@ -2,17 +2,9 @@
 
 use pr_edge::{MemShelf, Shelf, Sink, SureSink};
 use pr_tool::{Answer, Bench, piperench};
+use pr_tool_files::command_line;
 use std::alloc::{AllocError, Global};
 use std::process::Abort;
-
-/// The words as the system gives them.
-fn command_line(alloc: Global, words: &[&str]) -> Result<Vec<String>, AllocError> {
-    let mut line = vec![in alloc; String::from_str(alloc, "piperench")?]?;
-    for word in words {
-        line.push(String::from_str(alloc, word)?)?;
-    }
-    Ok(line)
-}
 
 /// What the tool answers to the words, over this shelf and with this bench.
 pub(crate) fn answer_with<S: Shelf, K: Sink, E: Sink>(
@@ -75,4 +67,9 @@ pub(crate) fn check_call(
     assert_eq!(rt; out.bytes(), wanted.text.as_bytes());
     assert_eq!(rt; note.bytes(), wanted.note.as_bytes());
     Ok(())
+}
+
+/// What a call comes to where the read or write of this number fails, of so many.
+pub(crate) fn fault_of(call: u64, calls: u64, fault: Answer) -> Answer {
+    if call <= calls { fault } else { Answer::Ok }
 }

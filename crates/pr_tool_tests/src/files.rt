@@ -1,8 +1,6 @@
 //! The files of the calls.
 
-use crate::configurations::{
-    BASE, WIDE, XOR as EXCLUSIVE_OR, lengthened, marked, packed, plain, shortened, with_word,
-};
+use pr_tool_files::{Change, Kind, NEWER, OLDER, OTHER, WIDER, made};
 use std::alloc::{AllocError, Global};
 
 /// A program: the exclusive or of two inputs.
@@ -16,7 +14,7 @@ pub(crate) const BAD_LINE: &str = "5 3\n255 1\n7 x\n1 1\n2 2\n";
 
 /// The configuration file of the exclusive or.
 pub(crate) fn configuration(alloc: Global) -> Result<Vec<u8>, AllocError> {
-    packed(alloc, BASE, EXCLUSIVE_OR)
+    made(alloc, NEWER, Change::Nothing)
 }
 
 /// A file with a text.
@@ -40,30 +38,53 @@ const TEXTS: [(&str, &str); 7] = [
     ("e", ""),
 ];
 
-/// The texts, the configuration `c`, and others.
-pub(crate) fn files(alloc: Global) -> Result<Vec<(String, Vec<u8>)>, AllocError> {
-    let configurations = vec![in alloc;
-        ("c", configuration(alloc)?),
-        ("m", marked(alloc, 2, &configuration(alloc)?)?),
-        ("wide", packed(alloc, WIDE, EXCLUSIVE_OR)?),
-        ("old", plain(alloc, BASE, 64, EXCLUSIVE_OR)?),
-        ("changed", plain(alloc, BASE, 64, 0x77ff_0000)?),
-        ("cut", shortened(configuration(alloc)?)),
-        ("long", lengthened(configuration(alloc)?)?),
-        ("old-cut", shortened(plain(alloc, BASE, 64, EXCLUSIVE_OR)?)),
-        (
-            "old-long",
-            lengthened(plain(alloc, BASE, 64, EXCLUSIVE_OR)?)?
-        ),
-        ("third", with_word(configuration(alloc)?, 9, 7)),
-        ("far", with_word(configuration(alloc)?, 9, 0x0001_0003)),
-    ]?;
-    let mut files = Vec::new(alloc);
-    for (name, bytes) in configurations {
-        files.push((String::from_str(alloc, name)?, bytes))?;
+/// Configurations: `c`, and others.
+const CONFIGURATIONS: [(&str, Kind, Change); 11] = [
+    ("c", NEWER, Change::Nothing),
+    ("m", NEWER, Change::Marked(2)),
+    ("wide", WIDER, Change::Nothing),
+    ("old", OLDER, Change::Nothing),
+    ("changed", OTHER, Change::Nothing),
+    ("cut", NEWER, Change::Shortened),
+    ("long", NEWER, Change::Lengthened),
+    ("old-cut", OLDER, Change::Shortened),
+    ("old-long", OLDER, Change::Lengthened),
+    ("third", NEWER, Change::Word { place: 9, word: 7 }),
+    (
+        "far",
+        NEWER,
+        Change::Word {
+            place: 9,
+            word: 0x0001_0003,
+        },
+    ),
+];
+
+/// Appends the configurations.
+fn put_configurations(alloc: Global, files: &mut Vec<(String, Vec<u8>)>) -> Result<(), AllocError> {
+    for (name, kind, change) in CONFIGURATIONS {
+        let name = String::from_str(alloc, name)?;
+        files.push((name, made(alloc, kind, change)?))?;
     }
-    for (name, text) in TEXTS {
+    Ok(())
+}
+
+/// Appends files with these texts.
+pub(crate) fn put_named(
+    alloc: Global,
+    files: &mut Vec<(String, Vec<u8>)>,
+    texts: &[(&str, &str)],
+) -> Result<(), AllocError> {
+    for (name, text) in texts {
         files.push(named(alloc, name, text)?)?;
     }
+    Ok(())
+}
+
+/// The configurations and the texts.
+pub(crate) fn files(alloc: Global) -> Result<Vec<(String, Vec<u8>)>, AllocError> {
+    let mut files = Vec::new(alloc);
+    put_configurations(alloc, &mut files)?;
+    put_named(alloc, &mut files, &TEXTS)?;
     Ok(files)
 }

@@ -6,11 +6,7 @@ mod benches;
 #[cfg(test)]
 mod calls;
 #[cfg(test)]
-mod configurations;
-#[cfg(test)]
 mod examples;
-#[cfg(test)]
-mod executions;
 #[cfg(test)]
 mod faults;
 #[cfg(test)]
@@ -22,12 +18,6 @@ mod limits;
 #[cfg(test)]
 mod moves;
 #[cfg(test)]
-mod run_faults;
-#[cfg(test)]
 mod shares;
 #[cfg(test)]
 mod streams;
-#[cfg(test)]
-mod texts;
-#[cfg(test)]
-mod trials;

@@ -37,102 +37,138 @@ fn of_complements(alloc: Global, count: usize) -> Result<Vec<u8>, AllocError> {
     Vec::from_slice(alloc, text.as_bytes())
 }
 
-/// Calls the tool with a program `p` and samples `s`, and checks what it came to.
-fn check_texts(
-    rt: &impl Abort,
-    alloc: Global,
-    words: &[&str],
-    program: Vec<u8>,
-    samples: &str,
-    wanted: Wanted<'_>,
-) -> Result<(), AllocError> {
-    let samples = Vec::from_slice(alloc, samples.as_bytes())?;
+/// What a program has so many of.
+#[derive(Clone, Copy)]
+enum Many {
+    Bytes,
+    Inputs,
+    Complements,
+}
+
+/// A program with so many of these.
+fn program_of(alloc: Global, many: Many, count: usize) -> Result<Vec<u8>, AllocError> {
+    match many {
+        Many::Bytes => of_bytes(alloc, count),
+        Many::Inputs => of_inputs(alloc, count),
+        Many::Complements => of_complements(alloc, count),
+    }
+}
+
+/// Words, a program `p`, samples `s`, and what the call comes to.
+#[derive(Clone, Copy)]
+struct Case {
+    words: &'static [&'static str],
+    many: Many,
+    count: usize,
+    samples: &'static str,
+    wanted: Wanted<'static>,
+}
+
+/// All went well, and nothing was written.
+const GOOD: Wanted<'static> = Wanted {
+    answer: Answer::Ok,
+    status: 0,
+    text: "",
+    note: "",
+};
+
+const RUN: &[&str] = &["run", "p", "s", "--stripes", "256"];
+
+const WIDE: &[&str] = &["run", "p", "s", "--fabric", "wide"];
+
+const EVAL: &[&str] = &["eval", "p", "s"];
+
+const CASES: [Case; 6] = [
+    Case {
+        words: RUN,
+        many: Many::Bytes,
+        count: 1_048_576,
+        samples: "5 3\n",
+        wanted: Wanted {
+            text: "6\n",
+            ..GOOD
+        },
+    },
+    Case {
+        words: RUN,
+        many: Many::Bytes,
+        count: 1_048_577,
+        samples: "5 3\n",
+        wanted: Wanted {
+            answer: Answer::Limit {
+                which: Cap::ProgramBytes,
+            },
+            status: 6,
+            text: "",
+            note: "limit: program-bytes 1048576\n",
+        },
+    },
+    Case {
+        words: WIDE,
+        many: Many::Inputs,
+        count: 17,
+        samples: "9 1 2 3 4 5 6 7 8 9 10 11 12 13 14 15 16\n",
+        wanted: Wanted {
+            text: "9\n",
+            ..GOOD
+        },
+    },
+    Case {
+        words: WIDE,
+        many: Many::Inputs,
+        count: 64,
+        samples: "",
+        wanted: Wanted {
+            answer: Answer::Limit {
+                which: Cap::InputBytes,
+            },
+            status: 6,
+            text: "",
+            note: "limit: input-bytes 32\n",
+        },
+    },
+    Case {
+        words: EVAL,
+        many: Many::Complements,
+        count: 16_383,
+        samples: "7\n",
+        wanted: Wanted {
+            text: "248\n",
+            ..GOOD
+        },
+    },
+    Case {
+        words: EVAL,
+        many: Many::Complements,
+        count: 16_384,
+        samples: "7\n",
+        wanted: Wanted {
+            answer: Answer::Limit {
+                which: Cap::Equations,
+            },
+            status: 6,
+            text: "",
+            note: "limit: equations 16384\n",
+        },
+    },
+];
+
+/// Calls the tool with a case's words and files, and checks what it came to.
+fn check_case(rt: &impl Abort, alloc: Global, case: Case) -> Result<(), AllocError> {
+    let program = program_of(alloc, case.many, case.count)?;
+    let samples = Vec::from_slice(alloc, case.samples.as_bytes())?;
     let files = vec![in alloc;
         (String::from_str(alloc, "p")?, program),
         (String::from_str(alloc, "s")?, samples),
     ]?;
-    check_call(rt, alloc, words, files, wanted)
-}
-
-/// All went well, and this was written.
-fn written(text: &str) -> Wanted<'_> {
-    Wanted {
-        answer: Answer::Ok,
-        status: 0,
-        text,
-        note: "",
-    }
-}
-
-/// A quantity passed its limit, as this note says.
-fn passed(which: Cap, note: &str) -> Wanted<'_> {
-    Wanted {
-        answer: Answer::Limit { which },
-        status: 6,
-        text: "",
-        note,
-    }
+    check_call(rt, alloc, case.words, files, case.wanted)
 }
 
 #[test]
-fn bytes_of_a_program(rt: HostRuntime) -> Result<(), Fail> {
+fn limits(rt: HostRuntime) -> Result<(), Fail> {
     let alloc = rt.alloc();
-    let words = ["run", "p", "s", "--stripes", "256"];
-    let most = of_bytes(alloc, 1_048_576)?;
-    check_texts(&rt, alloc, &words, most, "5 3\n", written("6\n"))?;
-    let long = of_bytes(alloc, 1_048_577)?;
-    let note = "limit: program-bytes 1048576\n";
-    check_texts(
-        &rt,
-        alloc,
-        &words,
-        long,
-        "5 3\n",
-        passed(Cap::ProgramBytes, note),
-    )?;
-    Ok(())
-}
-
-#[test]
-fn inputs_and_equations(rt: HostRuntime) -> Result<(), Fail> {
-    let alloc = rt.alloc();
-    let wide = ["run", "p", "s", "--fabric", "wide"];
-    let seventeen = "9 1 2 3 4 5 6 7 8 9 10 11 12 13 14 15 16\n";
-    check_texts(
-        &rt,
-        alloc,
-        &wide,
-        of_inputs(alloc, 17)?,
-        seventeen,
-        written("9\n"),
-    )?;
-    let note = "limit: input-bytes 32\n";
-    check_texts(
-        &rt,
-        alloc,
-        &wide,
-        of_inputs(alloc, 64)?,
-        "",
-        passed(Cap::InputBytes, note),
-    )?;
-    let eval = ["eval", "p", "s"];
-    check_texts(
-        &rt,
-        alloc,
-        &eval,
-        of_complements(alloc, 16_383)?,
-        "7\n",
-        written("248\n"),
-    )?;
-    let note = "limit: equations 16384\n";
-    let above = of_complements(alloc, 16_384)?;
-    check_texts(
-        &rt,
-        alloc,
-        &eval,
-        above,
-        "7\n",
-        passed(Cap::Equations, note),
-    )?;
+    for case in CASES {
+        check_case(&rt, alloc, case)?;
+    }
     Ok(())
 }

@@ -1,11 +1,10 @@
 //! Runs that are moved by way of checkpoints.
 
 use crate::calls::{Wanted, answer_to, check_call};
-use crate::configurations::{marked, running_sum, shortened, with_word};
-use crate::files::named;
-use crate::trials::repeated;
+use crate::files::{named, put_named};
 use pr_edge::SureSink;
 use pr_tool::{Answer, Cap};
+use pr_tool_files::{Change, changed, repeated, running_sum};
 use std::alloc::{AllocError, Global};
 use std::process::Abort;
 use std::test::Fail;
@@ -24,30 +23,61 @@ output y = s[15];
 
 /// The checkpoint of the sum after the sample 5, or after so many: it is 255.
 fn checkpoint(alloc: Global, count: u64) -> Result<Vec<u8>, AllocError> {
-    let file = with_word(running_sum(alloc)?, 20, 0xaaff_ff00);
-    marked(alloc, count, &file)
+    let sum = Change::Word {
+        place: 20,
+        word: 0xaaff_ff00,
+    };
+    let file = changed(alloc, running_sum(alloc)?, sum)?;
+    changed(alloc, file, Change::Marked(count))
 }
 
-/// A program, samples and checkpoints: `m` is after one sample, `last` after as many as one run may have but one, and the
-/// others are no checkpoints.
-fn files(alloc: Global) -> Result<Vec<(String, Vec<u8>)>, AllocError> {
-    let mut files = vec![in alloc;
-        named(alloc, "p", RUNNING_SUM)?,
-        named(alloc, "one", "5\n")?,
-        named(alloc, "two", "1\n1\n")?,
-        named(alloc, "bad", "1\nx\n")?,
-    ]?;
-    let checkpoints = vec![in alloc;
-        ("m", checkpoint(alloc, 1)?),
-        ("last", checkpoint(alloc, 0xff_ffff_ffff)?),
-        ("first", with_word(checkpoint(alloc, 1)?, 0, 0x5049_5032)),
-        ("third", with_word(checkpoint(alloc, 1)?, 3, 0x5049_5031)),
-        ("many", checkpoint(alloc, 0x100_0000_0001)?),
-        ("cut", shortened(checkpoint(alloc, 1)?)),
-    ]?;
-    for (name, bytes) in checkpoints {
-        files.push((String::from_str(alloc, name)?, bytes))?;
+const TEXTS: [(&str, &str); 4] = [
+    ("p", RUNNING_SUM),
+    ("one", "5\n"),
+    ("two", "1\n1\n"),
+    ("bad", "1\nx\n"),
+];
+
+/// After how many samples a checkpoint is, and what is done to it: `m` is after one sample, `last` after as many as one
+/// run may have but one, and the others are no checkpoints.
+const CHECKPOINTS: [(&str, u64, Change); 6] = [
+    ("m", 1, Change::Nothing),
+    ("last", 0xff_ffff_ffff, Change::Nothing),
+    (
+        "first",
+        1,
+        Change::Word {
+            place: 0,
+            word: 0x5049_5032,
+        },
+    ),
+    (
+        "third",
+        1,
+        Change::Word {
+            place: 3,
+            word: 0x5049_5031,
+        },
+    ),
+    ("many", 0x100_0000_0001, Change::Nothing),
+    ("cut", 1, Change::Shortened),
+];
+
+/// Appends the checkpoints.
+fn put_checkpoints(alloc: Global, files: &mut Vec<(String, Vec<u8>)>) -> Result<(), AllocError> {
+    for (name, count, change) in CHECKPOINTS {
+        let name = String::from_str(alloc, name)?;
+        let bytes = checkpoint(alloc, count)?;
+        files.push((name, changed(alloc, bytes, change)?))?;
     }
+    Ok(())
+}
+
+/// A program, samples and checkpoints.
+fn files(alloc: Global) -> Result<Vec<(String, Vec<u8>)>, AllocError> {
+    let mut files = Vec::new(alloc);
+    put_named(alloc, &mut files, &TEXTS)?;
+    put_checkpoints(alloc, &mut files)?;
     Ok(files)
 }
 
@@ -139,28 +169,57 @@ fn moved_runs(rt: HostRuntime) -> Result<(), Fail> {
 }
 
 #[test]
-fn written_checkpoints(rt: HostRuntime) -> Result<(), Fail> {
+fn a_written_checkpoint(rt: HostRuntime) -> Result<(), Fail> {
     let alloc = rt.alloc();
     let words = ["checkpoint", "p", "one", "--stripes", "2"];
     let written = text_of(&rt, alloc, &words, files(alloc)?)?;
     assert_eq!(rt; written.as_slice(), checkpoint(alloc, 1)?.as_slice());
+    Ok(())
+}
 
-    let mut further = files(alloc)?;
-    further.push(named(alloc, "1", "1\n")?)?;
-    let next = text_of(&rt, alloc, &["extend", "m", "1"], further)?;
-    let moved = vec![in alloc;
-        (String::from_str(alloc, "n")?, next),
-        named(alloc, "1", "1\n")?,
+/// A checkpoint that was written, and samples.
+fn checkpoint_and(
+    alloc: Global,
+    written: Vec<u8>,
+    samples: Vec<u8>,
+) -> Result<Vec<(String, Vec<u8>)>, AllocError> {
+    let files = vec![in alloc;
+        (String::from_str(alloc, "n")?, written),
+        (String::from_str(alloc, "s")?, samples),
     ]?;
-    let text = text_of(&rt, alloc, &["move", "n", "1"], moved)?;
+    Ok(files)
+}
+
+/// A program and samples.
+fn program_and(
+    alloc: Global,
+    program: &str,
+    samples: Vec<u8>,
+) -> Result<Vec<(String, Vec<u8>)>, AllocError> {
+    let files = vec![in alloc;
+        named(alloc, "p", program)?,
+        (String::from_str(alloc, "s")?, samples),
+    ]?;
+    Ok(files)
+}
+
+#[test]
+fn an_extended_checkpoint(rt: HostRuntime) -> Result<(), Fail> {
+    let alloc = rt.alloc();
+    let before = checkpoint_and(alloc, checkpoint(alloc, 1)?, repeated(alloc, b"1\n", 1)?)?;
+    let next = text_of(&rt, alloc, &["extend", "n", "s"], before)?;
+    let moved = checkpoint_and(alloc, next, repeated(alloc, b"1\n", 1)?)?;
+    let text = text_of(&rt, alloc, &["move", "n", "s"], moved)?;
     assert_eq!(rt; text.as_slice(), b"1\n".as_slice());
+    Ok(())
+}
 
-    let none = vec![in alloc; named(alloc, "p", RUNNING_SUM)?, named(alloc, "s", "")?]?;
+#[test]
+fn a_checkpoint_before_all_samples(rt: HostRuntime) -> Result<(), Fail> {
+    let alloc = rt.alloc();
+    let none = program_and(alloc, RUNNING_SUM, Vec::new(alloc))?;
     let first = text_of(&rt, alloc, &["checkpoint", "p", "s"], none)?;
-    let all = vec![in alloc;
-        (String::from_str(alloc, "n")?, first),
-        named(alloc, "s", "5\n1\n1\n")?,
-    ]?;
+    let all = checkpoint_and(alloc, first, Vec::from_slice(alloc, b"5\n1\n1\n")?)?;
     let text = text_of(&rt, alloc, &["move", "n", "s"], all)?;
     assert_eq!(rt; text.as_slice(), b"255\n0\n1\n".as_slice());
     Ok(())
@@ -170,17 +229,11 @@ fn written_checkpoints(rt: HostRuntime) -> Result<(), Fail> {
 #[test]
 fn moved_filter(rt: HostRuntime) -> Result<(), Fail> {
     let alloc = rt.alloc();
-    let samples = (String::from_str(alloc, "s")?, repeated(alloc, b"1\n", 400)?);
-    let files = vec![in alloc; named(alloc, "p", FILTER)?, samples]?;
-    let checkpoint = text_of(
-        &rt,
-        alloc,
-        &["checkpoint", "p", "s", "--stripes", "4"],
-        files,
-    )?;
-    let rest = (String::from_str(alloc, "s")?, repeated(alloc, b"1\n", 600)?);
-    let files = vec![in alloc; (String::from_str(alloc, "m")?, checkpoint), rest]?;
-    let text = text_of(&rt, alloc, &["move", "m", "s", "--stripes", "30"], files)?;
+    let first = program_and(alloc, FILTER, repeated(alloc, b"1\n", 400)?)?;
+    let words = ["checkpoint", "p", "s", "--stripes", "4"];
+    let written = text_of(&rt, alloc, &words, first)?;
+    let rest = checkpoint_and(alloc, written, repeated(alloc, b"1\n", 600)?)?;
+    let text = text_of(&rt, alloc, &["move", "n", "s", "--stripes", "30"], rest)?;
     assert_eq!(rt; text.as_slice(), repeated(alloc, b"184\n", 600)?.as_slice());
     Ok(())
 }

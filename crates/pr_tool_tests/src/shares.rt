@@ -193,8 +193,8 @@ fn long_lists(rt: HostRuntime) -> Result<(), Fail> {
     Ok(())
 }
 
-/// What the first list comes to where these calls fail. What is written are the first bytes of its lines, or the lines of the samples
-/// that were read.
+/// What the first list comes to where these calls fail. What is written are the first bytes of its lines, or the lines
+/// of the samples that were read.
 fn came_to(
     alloc: Global,
     reads: Vec<u64>,
@@ -210,8 +210,8 @@ fn came_to(
     Ok(answer)
 }
 
-/// Five files take two reads each: one finds the bytes, the other the end. Where the first read of a program's samples fails, only the
-/// lines of the other are written; where the second does, all lines.
+/// Five files take two reads each: one finds the bytes, the other the end. Where the first read of a program's samples
+/// fails, only the lines of the other are written; where the second does, all lines.
 #[test]
 fn every_read_fails(rt: HostRuntime) -> Result<(), Fail> {
     let alloc = rt.alloc();

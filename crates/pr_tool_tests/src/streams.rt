@@ -2,9 +2,9 @@
 
 use crate::calls::answer_over;
 use crate::files::XOR;
-use crate::trials::repeated;
 use pr_edge::{MemShelf, MemSink, SureSink};
 use pr_tool::Answer;
+use pr_tool_files::repeated;
 use std::alloc::{AllocError, Global};
 use std::fmt::Write;
 use std::process::Abort;

@@ -7,8 +7,6 @@ mod modes;
 mod options;
 mod parsing;
 mod quantities;
-#[cfg(test)]
-mod tests;
 
 pub use calling::{Words, WordsFault, read_words};
 pub use modes::{GenSize, Mode};

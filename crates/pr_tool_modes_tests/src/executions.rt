@@ -1,9 +1,11 @@
 //! What runs come to.
 
-use crate::configurations::{BASE, WIDE, XOR, packed, plain};
-use crate::trials::{Wanted, check_run, repeated, shelf_of};
+use crate::trials::{Wanted, check_run, shelf_of};
 use pr_base::Cap;
 use pr_edge::MemShelf;
+use pr_tool_files::{
+    BASE, Change, Kind, NEWER, OLDER, OTHER, WIDE, WIDER, XOR, made, packed, repeated,
+};
 use pr_tool_modes::Answer;
 use std::test::Fail;
 
@@ -12,28 +14,32 @@ const TWO: &[u8] = b"5 3\n255 1\n";
 
 const RESULTS: &[u8] = b"6\n254\n";
 
-/// A run of this configuration on the two samples writes these lines and leaves a machine of so many columns.
+/// The exclusive or on the wide fabric, in the older format.
+const WIDE_AND_OLDER: Kind = Kind::Plain {
+    sizes: WIDE,
+    words: 128,
+    table: XOR,
+};
+
+/// A run of this configuration on the two samples leaves a machine of so many columns and writes these lines.
+const CONFIGURATIONS: [(Kind, usize, &[u8]); 5] = [
+    (NEWER, 16, RESULTS),
+    (OLDER, 16, RESULTS),
+    (OTHER, 16, b"254\n254\n"),
+    (WIDER, 32, RESULTS),
+    (WIDE_AND_OLDER, 32, RESULTS),
+];
+
 #[test]
 fn both_formats_on_both_fabrics(rt: HostRuntime) -> Result<(), Fail> {
     let alloc = rt.alloc();
-    let cases = vec![in alloc;
-        (packed(alloc, BASE, XOR)?, 16, RESULTS),
-        (plain(alloc, BASE, 64, XOR)?, 16, RESULTS),
-        (
-            plain(alloc, BASE, 64, 0x77ff_0000)?,
-            16,
-            b"254\n254\n".as_slice()
-        ),
-        (packed(alloc, WIDE, XOR)?, 32, RESULTS),
-        (plain(alloc, WIDE, 128, XOR)?, 32, RESULTS),
-    ]?;
-    for (configuration, columns, lines) in cases {
-        let answer = Answer::Ok;
+    for (kind, columns, lines) in CONFIGURATIONS {
         let wanted = Wanted {
-            answer,
+            answer: Answer::Ok,
             lines,
             columns,
         };
+        let configuration = made(alloc, kind, Change::Nothing)?;
         let mut shelf = shelf_of(alloc, configuration, TWO, b"", Vec::new(alloc))?;
         check_run(&rt, alloc, false, &mut shelf, wanted)?;
     }
@@ -104,34 +110,31 @@ fn refusal(answer: Answer) -> Wanted<'static> {
 }
 
 #[test]
-fn refused_files(rt: HostRuntime) -> Result<(), Fail> {
+fn a_stall_text_that_is_too_long(rt: HostRuntime) -> Result<(), Fail> {
     let alloc = rt.alloc();
     let long = repeated(alloc, b".", 1_048_577)?;
-    let mut shelf = shelf_of(
-        alloc,
-        packed(alloc, BASE, XOR)?,
-        TWO,
-        &long,
-        Vec::new(alloc),
-    )?;
-    check_run(
-        &rt,
-        alloc,
-        true,
-        &mut shelf,
-        refusal(Answer::Limit {
-            which: Cap::StallBytes,
-        }),
-    )?;
-    let mut shelf = shelf_of(
-        alloc,
-        packed(alloc, WIDE + 1, XOR)?,
-        TWO,
-        b"x",
-        Vec::new(alloc),
-    )?;
+    let configuration = packed(alloc, BASE, XOR)?;
+    let mut shelf = shelf_of(alloc, configuration, TWO, &long, Vec::new(alloc))?;
+    let wanted = refusal(Answer::Limit {
+        which: Cap::StallBytes,
+    });
+    check_run(&rt, alloc, true, &mut shelf, wanted)?;
+    Ok(())
+}
+
+#[test]
+fn a_fabric_that_there_is_not(rt: HostRuntime) -> Result<(), Fail> {
+    let alloc = rt.alloc();
+    let configuration = packed(alloc, WIDE + 1, XOR)?;
+    let mut shelf = shelf_of(alloc, configuration, TWO, b"x", Vec::new(alloc))?;
     let wanted = refusal(Answer::BadConfig { rule: 3, place: 1 });
     check_run(&rt, alloc, true, &mut shelf, wanted)?;
+    Ok(())
+}
+
+#[test]
+fn no_files(rt: HostRuntime) -> Result<(), Fail> {
+    let alloc = rt.alloc();
     let mut shelf = MemShelf::make(alloc, Vec::new(alloc), Vec::new(alloc))?;
     check_run(&rt, alloc, true, &mut shelf, refusal(Answer::ReadFault))?;
     Ok(())

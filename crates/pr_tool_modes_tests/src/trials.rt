@@ -6,15 +6,6 @@ use pr_tool_modes::{Answer, Bench, Job, Run, Source, execute};
 use std::alloc::{AllocError, Global};
 use std::process::Abort;
 
-/// So many times the same piece.
-pub(crate) fn repeated(alloc: Global, piece: &[u8], count: usize) -> Result<Vec<u8>, AllocError> {
-    let mut bytes = Vec::new(alloc);
-    for _ in 0..count {
-        bytes.extend_from_slice(piece)?;
-    }
-    Ok(bytes)
-}
-
 /// A shelf with the configuration `c`, the samples `s` and the stall text `t`, of which these reads fail.
 pub(crate) fn shelf_of(
     alloc: Global,
@@ -104,4 +95,9 @@ pub(crate) fn check_run<S: Shelf>(
     assert_eq!(rt; out.bytes(), wanted.lines);
     assert_eq!(rt; columns(&bench), wanted.columns);
     Ok(())
+}
+
+/// What a call comes to where the read or write of this number fails, of so many.
+pub(crate) fn fault_of(call: u64, calls: u64, fault: Answer) -> Answer {
+    if call <= calls { fault } else { Answer::Ok }
 }

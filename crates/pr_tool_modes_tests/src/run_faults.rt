@@ -1,8 +1,8 @@
 //! Reads and writes that fail.
 
-use crate::configurations::{BASE, XOR, packed, running_sum};
-use crate::trials::{repeated, run_on_sixteen, run_on_two, shelf_of};
+use crate::trials::{fault_of, run_on_sixteen, run_on_two, shelf_of};
 use pr_edge::MemSink;
+use pr_tool_files::{BASE, XOR, packed, repeated, running_sum};
 use pr_tool_modes::{Answer, Bench};
 use std::alloc::{AllocError, Global};
 use std::process::Abort;
@@ -32,13 +32,12 @@ fn outcome_on_two(
 #[test]
 fn every_read_fails(rt: HostRuntime) -> Result<(), Fail> {
     let alloc = rt.alloc();
-    for call in 1..7u64 {
+    for call in 1..8u64 {
         let reads = vec![in alloc; call]?;
         let answer = outcome_on_two(&rt, alloc, reads, Vec::new(alloc))?;
-        assert_eq!(rt; answer, Answer::ReadFault, "read {call}");
+        let wanted = fault_of(call, 6, Answer::ReadFault);
+        assert_eq!(rt; answer, wanted, "read {call}");
     }
-    let answer = outcome_on_two(&rt, alloc, vec![in alloc; 7]?, Vec::new(alloc))?;
-    assert_eq!(rt; answer, Answer::Ok);
     Ok(())
 }
 
@@ -46,13 +45,12 @@ fn every_read_fails(rt: HostRuntime) -> Result<(), Fail> {
 #[test]
 fn every_write_fails(rt: HostRuntime) -> Result<(), Fail> {
     let alloc = rt.alloc();
-    for call in 1..21u64 {
+    for call in 1..22u64 {
         let writes = vec![in alloc; call]?;
         let answer = outcome_on_two(&rt, alloc, Vec::new(alloc), writes)?;
-        assert_eq!(rt; answer, Answer::WriteFault, "write {call}");
+        let wanted = fault_of(call, 20, Answer::WriteFault);
+        assert_eq!(rt; answer, wanted, "write {call}");
     }
-    let answer = outcome_on_two(&rt, alloc, Vec::new(alloc), vec![in alloc; 21]?)?;
-    assert_eq!(rt; answer, Answer::Ok);
     Ok(())
 }
 
@@ -70,7 +68,8 @@ fn third_read_of_many_samples_fails(rt: HostRuntime) -> Result<(), Fail> {
     Ok(())
 }
 
-/// Where the output side is held, the samples after the first buffer are not read, so that the write fails before a read.
+/// Where the output side is held, the samples after the first buffer are not read, so that the write fails before a
+/// read.
 #[test]
 fn back_pressure(rt: HostRuntime) -> Result<(), Fail> {
     let alloc = rt.alloc();
