@@ -4,6 +4,7 @@ use Rattle.std.specs.declared.alloc.Global.{Global}
 use Rattle.pr_base.specs.declared.caps.Cap.{Cap}
 use Rattle.pr_base.specs.declared.fabrics.Fabric.{Fabric}
 use Rattle.pr_base.specs.Limits.{cap_number}
+use Rattle.pr_base.specs.Limits.{most_evaluated_bytes}
 use Rattle.pr_edge.specs.Files.{Told}
 use Rattle.pr_tool_words.specs.Lawful.{Order, Task, Eval, Share, lawful_words}
 use Rattle.pr_tool_modes.specs.Jobs.{IsNeither}
@@ -39,7 +40,7 @@ IsOther told (Some order) q = IsOtherFile told (plan_of order) q
 -- ---- limits
 -- the bytes of a file of samples
 abbrev pub sample_bytes : Task → ℕ
-sample_bytes (Eval program samples) = 16777216
+sample_bytes (Eval program samples) = most_evaluated_bytes
 sample_bytes task = cap_number Fabric.Base Cap.SampleBytes
 
 -- the fabric of the programs; those of a list are for the base fabric

@@ -1,7 +1,7 @@
 //! Laws of answers.
 
 ghost use Rattle.std.specs.Prelude.{ℕ, List, Option};
-ghost use Rattle.pr_compile.specs.Laws.{AtMostOne};
+ghost use Rattle.pr_base.specs.Laws.{AtMostOne};
 ghost use Rattle.pr_tool.specs.Words.{Asked};
 ghost use Rattle.pr_tool.specs.Calls.{IsVerdict};
 

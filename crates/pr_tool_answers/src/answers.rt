@@ -3,6 +3,7 @@ ghost use Rattle.std.specs.Prelude.{◌≡◌};
 ghost use Rattle.pr_tool_answers.specs.Statuses.{status_of, cause_status};
 
 use pr_base::Cap;
+use std::alloc::AllocError;
 
 /// Why a program or its samples were refused. Tokens, items, equations and units are counted from 0, lines from 1.
 #[derive(Clone, Copy, PartialEq, Eq, Debug)]
@@ -54,6 +55,17 @@ pub enum Answer {
     WriteFault,
     /// Memory was wanting.
     Memory,
+}
+
+impl From<AllocError> for Answer {
+    ghost use Rattle.std.specs.Prelude.{◌≡◌};
+    ghost use Rattle.pr_tool_answers.specs.declared.answers.Answer.TheVariants.{Memory};
+
+    ghost from_gives = { λ a e. e ≡ Memory };
+
+    fn from(_error: AllocError) -> Answer {
+        Answer::Memory
+    }
 }
 
 impl Cause {

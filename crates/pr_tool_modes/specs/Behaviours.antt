@@ -1,5 +1,6 @@
 -- One program, as its text and as its configuration file.
 use Rattle.std.specs.Prelude.{◌≡◌, ◌≤◌, ℕ, true, List, length, Option, Some}
+use Rattle.pr_base.specs.Limits.{most_config_bytes}
 use Rattle.pr_code.specs.Spelling.{has_bytes}
 use Rattle.pr_conf.specs.Shape.{Shape}
 use Rattle.pr_tool_modes.specs.declared.targets.Target.{Target}
@@ -21,4 +22,4 @@ pub record IsKept (files : List ℕ → Option (List ℕ)) (name : List ℕ) (ta
   pub gives : Gives (Some files) (Text name target) N P conf
   pub bytes : has_bytes conf ≡ true
   pub file : files kept ≡ Some (text_in Form.File N P conf)
-  pub short : length (text_in Form.File N P conf) ≤ 16777216
+  pub short : length (text_in Form.File N P conf) ≤ most_config_bytes

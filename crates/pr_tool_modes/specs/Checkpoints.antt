@@ -1,6 +1,7 @@
 -- Checkpoints, on the fabric that they name.
 use Rattle.std.specs.Prelude.{◌≡◌, ◌≤◌, ℕ, List, length, drop, Option, None}
 use Rattle.pr_base.specs.declared.caps.Cap.{Cap}
+use Rattle.pr_base.specs.Limits.{most_config_bytes}
 use Rattle.pr_edge.specs.Files.{Told}
 use Rattle.pr_conf.specs.Shape.{Shape}
 use Rattle.pr_code.specs.Rules.{Broken}
@@ -30,7 +31,7 @@ pub record IsResumable (N P count : ℕ) (c : Shape) (bytes : List ℕ) : Type 0
 pub record HasMark (told : Told) (name : List ℕ) (N P count : ℕ) (c : Shape) : Type 0 where
   pub bytes : List ℕ
   pub file : IsText told name bytes
-  pub short : length bytes ≤ 16777216
+  pub short : length bytes ≤ most_config_bytes
   pub resumable : IsResumable N P count c bytes
 
 -- why bytes are no checkpoint
@@ -39,4 +40,4 @@ IsBadMark bytes answer = HasBroken (broken_mark bytes) answer
 
 -- why no checkpoint came of a file
 abbrev pub IsNotMarked : Told → List ℕ → ℕ → ℕ → Answer → Type 0
-IsNotMarked told name before now answer = IsFileRefusal 16777216 Cap.ConfigBytes IsBadMark told name before now answer
+IsNotMarked told name before now answer = IsFileRefusal most_config_bytes Cap.ConfigBytes IsBadMark told name before now answer

@@ -1,6 +1,7 @@
 -- Configuration files, on the fabric that they name.
 use Rattle.std.specs.Prelude.{◌≡◌, ◌≤◌, ℕ, List, length, Option, Some, None, if◌then◌else◌, ⊤}
 use Rattle.pr_base.specs.declared.caps.Cap.{Cap}
+use Rattle.pr_base.specs.Limits.{most_config_bytes}
 use Rattle.pr_edge.specs.Files.{Told}
 use Rattle.pr_conf.specs.Shape.{Shape}
 use Rattle.pr_code.specs.Fabrics.{names_wide}
@@ -36,7 +37,7 @@ pub record IsLoadable (N P : ℕ) (c : Shape) (bytes : List ℕ) : Type 0 where
 pub record HasConfiguration (told : Told) (name : List ℕ) (N P : ℕ) (c : Shape) : Type 0 where
   pub bytes : List ℕ
   pub file : IsText told name bytes
-  pub short : length bytes ≤ 16777216
+  pub short : length bytes ≤ most_config_bytes
   pub loadable : IsLoadable N P c bytes
 
 -- a word breaks this rule at this place
@@ -60,4 +61,4 @@ IsBadConfiguration bytes answer = HasBroken (broken_in bytes) answer
 
 -- why no configuration came of a file
 abbrev pub IsNotConfigured : Told → List ℕ → ℕ → ℕ → Answer → Type 0
-IsNotConfigured told name before now answer = IsFileRefusal 16777216 Cap.ConfigBytes IsBadConfiguration told name before now answer
+IsNotConfigured told name before now answer = IsFileRefusal most_config_bytes Cap.ConfigBytes IsBadConfiguration told name before now answer

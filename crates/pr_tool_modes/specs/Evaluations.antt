@@ -2,6 +2,7 @@
 use Rattle.std.specs.Prelude.{◌≡◌, ◌≢◌, ◌⊎◌, ◌≤◌, ◌^◌, ℕ, List, [], length, Option, Some}
 use Rattle.pr_base.specs.declared.caps.Cap.{Cap}
 use Rattle.pr_base.specs.Rows.{written}
+use Rattle.pr_base.specs.Limits.{most_evaluated_bytes, most_program_bytes}
 use Rattle.pr_edge.specs.Count.{Rose}
 use Rattle.pr_edge.specs.Files.{Told, HasReadCause}
 use Rattle.pr_edge.specs.Tape.{Tape, Appends, AppendsFront}
@@ -22,7 +23,7 @@ use Rattle.pr_tool_modes.specs.Samples.{fed_in, whole_file_verdict}
 pub record HasSamples (told : Told) (name widths : List ℕ) (rows : List (List ℕ)) (ending : Ending) : Type 0 where
   pub text : List ℕ
   pub file : IsText told name text
-  pub short : length text ≤ 16777216
+  pub short : length text ≤ most_evaluated_bytes
   pub all : rows ≡ (fed_in widths text).samples
   pub ends : (fed_in widths text).ending ≡ ending
 
@@ -44,7 +45,7 @@ abbrev pub IsEnd : List ℕ → Program → Call → Answer → Type 0
 IsEnd name program k Answer.Ok = IsWhole k.before.told name program End k.old k.new
 IsEnd name program k (Answer.BadSample line) = IsWhole k.before.told name program (BadSample line) k.old k.new
 IsEnd name program k (Answer.Limit which) =
-    ((which ≡ Cap.SampleBytes) × IsLong k.before.told name 16777216 × (k.new ≡ k.old)) ⊎ IsWhole k.before.told name program (Limit which) k.old k.new
+    ((which ≡ Cap.SampleBytes) × IsLong k.before.told name most_evaluated_bytes × (k.new ≡ k.old)) ⊎ IsWhole k.before.told name program (Limit which) k.old k.new
 IsEnd name program k Answer.ReadFault = HasReadCause k.before.told name k.before.faults k.now.faults × (k.new ≡ k.old)
 IsEnd name program k Answer.WriteFault = IsPrefix k.before.told name program k.old k.new × Rose k.out_before k.out_now
 IsEnd name program k Answer.Memory = k.new ≡ k.old
@@ -52,7 +53,7 @@ IsEnd name program k answer = ⊥
 
 -- the program is refused: nothing is written, and no other file is read
 pub record HasNoResult (first : List ℕ) (k : Call) (answer : Answer) : Type 0 where
-  pub cause : IsFileRefusal 1048576 Cap.ProgramBytes IsBadProgram k.before.told first k.before.faults k.now.faults answer
+  pub cause : IsFileRefusal most_program_bytes Cap.ProgramBytes IsBadProgram k.before.told first k.before.faults k.now.faults answer
   pub unwritten : k.new ≡ k.old
   pub unread : (q : List ℕ) → q ≢ first → k.now.reach q ≡ k.before.reach q
 
@@ -98,7 +99,7 @@ pub record AreResults (program : Program) (file text : List ℕ) (end : Got) : T
 pub record HasLines (told : Told) (name : List ℕ) (program : Program) (text : List ℕ) (end : Got) : Type 0 where
   pub bytes : List ℕ
   pub file : IsText told name bytes
-  pub short : length bytes ≤ 16777216
+  pub short : length bytes ≤ most_evaluated_bytes
   pub results : AreResults program bytes text end
 
 -- ---- results while the samples are read
@@ -106,7 +107,7 @@ pub record HasLines (told : Told) (name : List ℕ) (program : Program) (text : 
 pub record IsShortFeed (widths : List ℕ) (feed : Feed) : Type 0 where
   pub fresh : IsFresh feed
   pub inputs : widths_of feed ≡ widths
-  pub limit : limit_of feed ≡ 16777216
+  pub limit : limit_of feed ≡ most_evaluated_bytes
   pub most : most_of feed ≡ 2 ^ 40
 
 -- these are all samples that such a feed gives of a file, and they end so
@@ -143,4 +144,4 @@ pub record IsLastVerdict (files : List ℕ → Option (List ℕ)) (first second 
   pub last : answer ≡ whole_file_verdict (inputs_of program) (files second)
 
 abbrev pub IsEvalVerdict : (List ℕ → Option (List ℕ)) → List ℕ → List ℕ → Answer → Type 0
-IsEvalVerdict files first second answer = IsRefusedFile 1048576 Cap.ProgramBytes IsBadProgram files first answer ⊎ IsLastVerdict files first second answer
+IsEvalVerdict files first second answer = IsRefusedFile most_program_bytes Cap.ProgramBytes IsBadProgram files first answer ⊎ IsLastVerdict files first second answer

@@ -1,6 +1,7 @@
 -- Programs that are read from files, and why their texts are refused.
 use Rattle.std.specs.Prelude.{◌≡◌, ◌≤◌, ℕ, Bool, List, length}
 use Rattle.pr_base.specs.declared.caps.Cap.{Cap}
+use Rattle.pr_base.specs.Limits.{most_program_bytes}
 use Rattle.pr_edge.specs.Files.{Told}
 use Rattle.pr_lang.specs.declared.trees.Program.{Program}
 use Rattle.pr_conf.specs.Shape.{Shape}
@@ -37,20 +38,20 @@ pub record IsBadProgram (text : List ℕ) (answer : Answer) : Type 0 where
 
 -- why no program came of a file
 abbrev pub IsNotLoaded : Told → List ℕ → ℕ → ℕ → Answer → Type 0
-IsNotLoaded told name before now answer = IsFileRefusal 1048576 Cap.ProgramBytes IsBadProgram told name before now answer
+IsNotLoaded told name before now answer = IsFileRefusal most_program_bytes Cap.ProgramBytes IsBadProgram told name before now answer
 
 -- the file has the text of this program, which no such point refuses; its equations have these widths
 pub record HasProgram (told : Told) (name : List ℕ) (program : Program) (widths : List ℕ) : Type 0 where
   pub text : List ℕ
   pub file : IsText told name text
-  pub short : length text ≤ 1048576
+  pub short : length text ≤ most_program_bytes
   pub has : HasWidths text program widths
 
 -- and this is what is handed on
 pub record IsLoaded (told : Told) (name : List ℕ) (f : Front) : Type 0 where
   pub text : List ℕ
   pub file : IsText told name text
-  pub short : length text ≤ 1048576
+  pub short : length text ≤ most_program_bytes
   pub passed : IsPassed text f
 
 -- ---- up to a configuration
@@ -71,13 +72,13 @@ pub record IsUncompiled (N P : ℕ) (narrowed : Bool) (text : List ℕ) (answer 
 -- why no configuration came of the program in a file
 abbrev pub IsNotCompiled : ℕ → ℕ → Bool → Told → List ℕ → ℕ → ℕ → Answer → Type 0
 IsNotCompiled N P narrowed told name before now answer =
-    IsFileRefusal 1048576 Cap.ProgramBytes (IsUncompiled N P narrowed) told name before now answer
+    IsFileRefusal most_program_bytes Cap.ProgramBytes (IsUncompiled N P narrowed) told name before now answer
 
 -- the file has the text of a program that no point refuses, and this is its configuration, narrowed or not
 pub record HasCompiled (told : Told) (name : List ℕ) (N P : ℕ) (narrowed : Bool) (conf : Shape) : Type 0 where
   pub text : List ℕ
   pub file : IsText told name text
-  pub short : length text ≤ 1048576
+  pub short : length text ≤ most_program_bytes
   pub is : IsCompiled N P narrowed text conf
 
 -- the net of the program in a file has so many units

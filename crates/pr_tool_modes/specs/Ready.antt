@@ -1,5 +1,6 @@
 -- What a run takes.
 use Rattle.std.specs.Prelude.{◌≡◌, ◌≤◌, ◌^◌, ℕ, List, [], length}
+use Rattle.pr_base.specs.Limits.{most_stall_bytes}
 use Rattle.pr_samples.specs.declared.feed.Feed.{Feed}
 use Rattle.pr_samples.specs.declared.stall.Stall.{Stall}
 use Rattle.pr_samples.specs.Stall.{turns_left}
@@ -20,4 +21,4 @@ pub record IsFeedOf (most : ℕ) (widths name : List ℕ) (feed : Feed) : Type 0
 pub record IsReady {N P : ℕ} (machine : Going N P) (feed : Feed) (stall : Stall) (most : ℕ) (name : List ℕ) : Type 0 where
   pub loaded : Stands machine (conf_of machine) (stripes_of machine) []
   pub opened : IsFeedOf most (conf_of machine).inputs name feed
-  pub few : length (turns_left stall) ≤ 1048576
+  pub few : length (turns_left stall) ≤ most_stall_bytes

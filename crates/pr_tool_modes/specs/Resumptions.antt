@@ -1,6 +1,7 @@
 -- What comes of a checkpoint from which a run goes on, whatever its count.
 use Rattle.std.specs.Prelude.{◌≡◌, ◌≢◌, ◌≤◌, ◌^◌, ◌++◌, ℕ, true, List, length, Option, Some}
 use Rattle.pr_base.specs.Rows.{written}
+use Rattle.pr_base.specs.Limits.{most_config_bytes}
 use Rattle.pr_code.specs.Spelling.{has_bytes}
 use Rattle.pr_conf.specs.Shape.{Shape}
 use Rattle.pr_conf.specs.After.{conf_after}
@@ -54,4 +55,4 @@ pub record IsMarkKept (files : List ℕ → Option (List ℕ)) (name : List ℕ)
   pub few : length rows ≤ 2 ^ 40
   pub bytes : has_bytes (conf_after N P conf (pieces conf rows)) ≡ true
   pub file : files kept ≡ Some (mark_after N P 0 conf rows)
-  pub short : length (mark_after N P 0 conf rows) ≤ 16777216
+  pub short : length (mark_after N P 0 conf rows) ≤ most_config_bytes

@@ -2,6 +2,7 @@
 use Rattle.std.specs.Prelude.{◌^◌, ℕ, List, length, map, nat_lt, Option, Some, None, if◌then◌else◌}
 use Rattle.pr_base.specs.declared.caps.Cap.{Cap}
 use Rattle.pr_base.specs.Rows.{row_bytes}
+use Rattle.pr_base.specs.Limits.{most_evaluated_bytes}
 use Rattle.pr_conf.specs.Shape.{Shape}
 use Rattle.pr_samples.specs.Fed.{Fed, Ending, End, BadSample, Limit, fed_of, fed_within, ending_by}
 use Rattle.pr_tool_answers.specs.declared.answers.Answer.{Answer}
@@ -20,7 +21,7 @@ fed_to most widths file reach = fed_within widths (2 ^ 44) most file reach
 
 -- the samples of a file that is read whole: there are none of a file that has more bytes than is allowed
 abbrev pub fed_whole : List ℕ → List ℕ → Fed
-fed_whole widths file = if nat_lt 16777216 (length file) then ending_by (Limit Cap.SampleBytes) else fed_in widths file
+fed_whole widths file = if nat_lt most_evaluated_bytes (length file) then ending_by (Limit Cap.SampleBytes) else fed_in widths file
 
 -- samples as bytes
 abbrev pub pieces : Shape → List (List ℕ) → List (List ℕ)

@@ -1,7 +1,9 @@
 -- Where a configuration comes from: a configuration file, the file of a program that is compiled, or a checkpoint.
 use Rattle.std.specs.Prelude.{◌≡◌, ◌-◌, ◌^◌, ℕ, List, Option}
 use Rattle.pr_base.specs.declared.caps.Cap.{Cap}
+use Rattle.pr_base.specs.declared.fabrics.Fabric.{Fabric}
 use Rattle.pr_base.specs.Fabrics.{columns, registers}
+use Rattle.pr_base.specs.Limits.{most_config_bytes, most_program_bytes}
 use Rattle.pr_edge.specs.Files.{Told}
 use Rattle.pr_conf.specs.Shape.{Shape}
 use Rattle.pr_conf.specs.Configuration.{shape_of}
@@ -36,12 +38,12 @@ most_in source = 2 ^ 40 - count_in source
 
 -- ---- configurations of either fabric
 abbrev pub columns_in : Loadable → ℕ
-columns_in (Loadable.Base conf) = 16
-columns_in (Loadable.Wide conf) = 32
+columns_in (Loadable.Base conf) = columns Fabric.Base
+columns_in (Loadable.Wide conf) = columns Fabric.Wide
 
 abbrev pub registers_in : Loadable → ℕ
-registers_in (Loadable.Base conf) = 8
-registers_in (Loadable.Wide conf) = 16
+registers_in (Loadable.Base conf) = registers Fabric.Base
+registers_in (Loadable.Wide conf) = registers Fabric.Wide
 
 abbrev pub shape_in : Loadable → Shape
 shape_in (Loadable.Base conf) = shape_of conf
@@ -75,6 +77,6 @@ IsSourceRefusal told (Mark name count) before now answer = IsNotMarked told name
 
 -- by the files alone
 abbrev pub IsRefusedSource : (List ℕ → Option (List ℕ)) → Source → Answer → Type 0
-IsRefusedSource files (File name) answer = IsRefusedFile 16777216 Cap.ConfigBytes IsBadConfiguration files name answer
-IsRefusedSource files (Text name target) answer = IsRefusedFile 1048576 Cap.ProgramBytes (IsUncompiled (columns target.fabric) (registers target.fabric) target.narrowed) files name answer
-IsRefusedSource files (Mark name count) answer = IsRefusedFile 16777216 Cap.ConfigBytes IsBadMark files name answer
+IsRefusedSource files (File name) answer = IsRefusedFile most_config_bytes Cap.ConfigBytes IsBadConfiguration files name answer
+IsRefusedSource files (Text name target) answer = IsRefusedFile most_program_bytes Cap.ProgramBytes (IsUncompiled (columns target.fabric) (registers target.fabric) target.narrowed) files name answer
+IsRefusedSource files (Mark name count) answer = IsRefusedFile most_config_bytes Cap.ConfigBytes IsBadMark files name answer

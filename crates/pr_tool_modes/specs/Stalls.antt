@@ -1,6 +1,7 @@
 -- Stall texts that are read from files.
 use Rattle.std.specs.Prelude.{◌≡◌, ◌≤◌, ◌⊎◌, ℕ, not, nat_lt, List, [], length, map, position, Option, Some, None, IsSomeAnd, if◌then◌else◌}
 use Rattle.pr_base.specs.declared.caps.Cap.{Cap}
+use Rattle.pr_base.specs.Limits.{most_stall_bytes}
 use Rattle.pr_edge.specs.Files.{Told}
 use Rattle.pr_samples.specs.Stall.{is_stall_byte, turns_of}
 use Rattle.pr_run_script.specs.Script.{Held}
@@ -21,7 +22,7 @@ first_bad text = position (λ b. not (is_stall_byte b)) text
 pub record HasStall (told : Told) (name : Option (List ℕ)) (turns : List Held) : Type 0 where
   pub text : List ℕ
   pub file : IsStallText told name text
-  pub short : length text ≤ 1048576
+  pub short : length text ≤ most_stall_bytes
   pub good : first_bad text ≡ None
   pub are : turns ≡ map held_of (turns_of text)
 
@@ -29,14 +30,14 @@ pub record HasStall (told : Told) (name : Option (List ℕ)) (turns : List Held)
 pub record HasBadStall (told : Told) (name : Option (List ℕ)) (answer : Answer) : Type 0 where
   pub text : List ℕ
   pub file : IsStallText told name text
-  pub short : length text ≤ 1048576
+  pub short : length text ≤ most_stall_bytes
   pub place : ℕ
   pub bad : first_bad text ≡ Some place
   pub answers : answer ≡ Answer.BadStall place
 
 -- why there is none
 abbrev pub IsStallRefusal : Told → Option (List ℕ) → ℕ → ℕ → Answer → Type 0
-IsStallRefusal told name before now answer = IsSomeAnd name (λ n. IsUnread 1048576 Cap.StallBytes told n before now answer) ⊎ HasBadStall told name answer
+IsStallRefusal told name before now answer = IsSomeAnd name (λ n. IsUnread most_stall_bytes Cap.StallBytes told n before now answer) ⊎ HasBadStall told name answer
 
 -- ---- the verdict
 -- a byte is bad, or the next points decide
@@ -47,7 +48,7 @@ bad_or (Some place) next = Answer.BadStall place
 -- a stall file that has these bytes, if it is there, and then the next points
 abbrev pub after_text : Option (List ℕ) → Answer → Answer
 after_text None next = Answer.ReadFault
-after_text (Some text) next = if nat_lt 1048576 (length text) then Answer.Limit Cap.StallBytes else bad_or (first_bad text) next
+after_text (Some text) next = if nat_lt most_stall_bytes (length text) then Answer.Limit Cap.StallBytes else bad_or (first_bad text) next
 
 -- the same of a stall file of this name, where there is one
 abbrev pub after_stall : (List ℕ → Option (List ℕ)) → Option (List ℕ) → Answer → Answer

@@ -62,9 +62,6 @@ pub fn read_configuration<S: Shelf>(
     ensures same { S.told shelf.new ≡ S.told shelf.old }
     ensures others { (q : List ℕ) → q ≢ name.now → S.reach shelf.new q ≡ S.reach shelf.old q }
 {
-    let bytes = match read_file(alloc, shelf, name, Cap::MOST_CONFIG_BYTES, Cap::ConfigBytes) {
-        Ok(bytes) => bytes,
-        Err(answer) => return Err(answer),
-    };
+    let bytes = read_file(alloc, shelf, name, Cap::MOST_CONFIG_BYTES, Cap::ConfigBytes)?;
     decode_named(alloc, &bytes)
 }

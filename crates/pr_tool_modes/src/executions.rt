@@ -51,14 +51,8 @@ fn run_on<const N: usize, const P: usize, S: Shelf, K: Sink>(
     ensures shelf_later { S.faults shelf.old ≤ S.faults shelf.new }
     ensures out_later { K.faults out.old ≤ K.faults out.new }
 {
-    let stall = match read_stall(alloc, shelf, run.stall) {
-        Ok(stall) => stall,
-        Err(answer) => return Err(answer),
-    };
-    let ready = match make_ready(alloc, conf, before, run, stall) {
-        Ok(ready) => ready,
-        Err(_) => return Err(Answer::Memory),
-    };
+    let stall = read_stall(alloc, shelf, run.stall)?;
+    let ready = make_ready(alloc, conf, before, run, stall)?;
     Ok(run_all(ready, run.log, shelf, out))
 }
 

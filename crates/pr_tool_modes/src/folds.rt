@@ -91,14 +91,8 @@ fn fold_on<const N: usize, const P: usize, S: Shelf>(
         → S.reach shelf.new q ≡ S.reach shelf.old q }
     ensures later { S.faults shelf.old ≤ S.faults shelf.new }
 {
-    let stall = match read_stall(alloc, shelf, run.stall) {
-        Ok(stall) => stall,
-        Err(answer) => return Err(answer),
-    };
-    let ready = match make_ready(alloc, conf, before, run, stall) {
-        Ok(ready) => ready,
-        Err(_) => return Err(Answer::Memory),
-    };
+    let stall = read_stall(alloc, shelf, run.stall)?;
+    let ready = make_ready(alloc, conf, before, run, stall)?;
     fold_all(alloc, ready, before, shelf)
 }
 

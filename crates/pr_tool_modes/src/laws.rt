@@ -2,7 +2,7 @@
 
 ghost use Rattle.std.specs.Prelude.{◌≡◌, ◌+◌, ◌++◌, ℕ, List, All, length, Option, Some};
 ghost use Rattle.pr_base.specs.Rows.{IsRow};
-ghost use Rattle.pr_compile.specs.Laws.{AtMostOne};
+ghost use Rattle.pr_base.specs.Laws.{AtMostOne};
 ghost use Rattle.pr_conf.specs.Shape.{Shape};
 ghost use Rattle.pr_conf.specs.After.{conf_after};
 ghost use Rattle.pr_edge.specs.Tape.{Appends};

@@ -51,16 +51,8 @@ pub fn load_program<S: Shelf>(alloc: Global, shelf: &mut S, name: &str) -> Resul
     ensures same { S.told shelf.new ≡ S.told shelf.old }
     ensures others { (q : List ℕ) → q ≢ name.now → S.reach shelf.new q ≡ S.reach shelf.old q }
 {
-    let text = match read_file(
-        alloc,
-        shelf,
-        name,
-        Cap::MOST_PROGRAM_BYTES,
-        Cap::ProgramBytes,
-    ) {
-        Ok(text) => text,
-        Err(answer) => return Err(answer),
-    };
+    let most = Cap::MOST_PROGRAM_BYTES;
+    let text = read_file(alloc, shelf, name, most, Cap::ProgramBytes)?;
     match read_program(alloc, &text) {
         Ok(front) => Ok(front),
         Err(fault) => Err(answer_of_front(fault)),
@@ -116,16 +108,8 @@ pub fn compile_on<const N: usize, const P: usize, S: Shelf>(
     ensures same { S.told shelf.new ≡ S.told shelf.old }
     ensures others { (q : List ℕ) → q ≢ name.now → S.reach shelf.new q ≡ S.reach shelf.old q }
 {
-    let text = match read_file(
-        alloc,
-        shelf,
-        name,
-        Cap::MOST_PROGRAM_BYTES,
-        Cap::ProgramBytes,
-    ) {
-        Ok(text) => text,
-        Err(answer) => return Err(answer),
-    };
+    let most = Cap::MOST_PROGRAM_BYTES;
+    let text = read_file(alloc, shelf, name, most, Cap::ProgramBytes)?;
     compile_text::<N, P>(alloc, &text, narrowed)
 }
 

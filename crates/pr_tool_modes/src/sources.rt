@@ -24,9 +24,6 @@ pub fn load<S: Shelf>(alloc: Global, source: &Source<'_>, shelf: &mut S) -> Resu
 {
     match *source {
         Source::File { name } => read_configuration(alloc, shelf, name),
-        Source::Program { name, target } => match compile_file(alloc, shelf, name, target) {
-            Ok(made) => Ok(made.loaded),
-            Err(answer) => Err(answer),
-        },
+        Source::Program { name, target } => Ok(compile_file(alloc, shelf, name, target)?.loaded),
     }
 }

@@ -48,10 +48,7 @@ pub fn read_stall<S: Shelf>(
     ensures others { (q : List ℕ) → option_map (λ s. s.now) name.entry ≢ Some q
         → S.reach shelf.new q ≡ S.reach shelf.old q }
 {
-    let text = match read_text(alloc, shelf, name) {
-        Ok(text) => text,
-        Err(answer) => return Err(answer),
-    };
+    let text = read_text(alloc, shelf, name)?;
     match Stall::make(text) {
         Ok(stall) => Ok(stall),
         Err(bad) => Err(Answer::BadStall { place: bad.place }),

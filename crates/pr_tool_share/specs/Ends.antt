@@ -12,11 +12,11 @@ abbrev pub is_read_fault : Answer → Bool
 is_read_fault Answer.ReadFault = true
 is_read_fault answer = false
 
--- a bad line or a limit ended the samples of program k, or else this
+-- the part of program k where its answer tells of one program alone, whatever the cause; or else this
 abbrev pub part_or : ℕ → Answer → Answer → Answer
 part_or k answer other = unwrap_or (part_of k answer) other
 
--- the first program from number k on whose samples a bad line or a limit ended
+-- the part of the first program from number k on that has one, and Ok where none has
 abbrev pub first_part : ℕ → List Answer → Answer
 first_part k [] = Answer.Ok
 first_part k (answer ∷ answers) = part_or k answer (first_part (k + 1) answers)

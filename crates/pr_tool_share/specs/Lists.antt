@@ -3,6 +3,7 @@ use Rattle.std.specs.Prelude.{◌≡◌, ◌≢◌, ◌≤◌, ◌+◌, ◌⊎�
 use Rattle.pr_base.specs.declared.caps.Cap.{Cap}
 use Rattle.pr_edge.specs.Files.{Told}
 use Rattle.pr_base.specs.declared.fabrics.Fabric.{Fabric}
+use Rattle.pr_base.specs.Limits.{most_list_bytes}
 use Rattle.pr_conf.specs.Shape.{Shape}
 use Rattle.pr_share_list.specs.List.{Entry, IsListed, IsBadAt}
 use Rattle.pr_tool_answers.specs.declared.answers.Answer.{Answer}
@@ -19,17 +20,17 @@ IsBadList text answer = ⊥
 
 -- why no list was taken from a file
 abbrev pub IsListRefusal : Told → List ℕ → ℕ → ℕ → Answer → Type 0
-IsListRefusal told list before now answer = IsFileRefusal 65536 Cap.ListBytes IsBadList told list before now answer
+IsListRefusal told list before now answer = IsFileRefusal most_list_bytes Cap.ListBytes IsBadList told list before now answer
 
 -- by the files alone
 abbrev pub IsRefusedList : (List ℕ → Option (List ℕ)) → List ℕ → Answer → Type 0
-IsRefusedList files list answer = IsRefusedFile 65536 Cap.ListBytes IsBadList files list answer
+IsRefusedList files list answer = IsRefusedFile most_list_bytes Cap.ListBytes IsBadList files list answer
 
 -- the file lists these programs
 pub record HasList (told : Told) (list : List ℕ) (entries : List Entry) : Type 0 where
   pub text : List ℕ
   pub file : IsText told list text
-  pub short : length text ≤ 65536
+  pub short : length text ≤ most_list_bytes
   pub listed : IsListed text entries
 
 -- ---- programs

@@ -30,7 +30,8 @@ HaveTaken firsts items start now out_before out_now answer =
     (AreShared firsts items start now × (answer ≡ answer_of_all (map end_of items)))
     ⊎ (AreStopped firsts items start now × ((answer ≡ Answer.WriteFault) × Rose out_before out_now))
 
--- all programs were compiled, and have taken turns on a machine of so many stripes
+-- there was a bare machine of so many stripes, all programs were compiled, and they have taken turns; on which machine they
+-- took them is not said
 pub record HaveShared (list : List ℕ) (stripes : ℕ) (k : Call) (answer : Answer) : Type 0 where
   pub machine : Machine 16 8 Bare (Idle 16 8)
   pub stripes_are : bare_stripes machine ≡ stripes

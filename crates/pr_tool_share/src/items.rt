@@ -31,10 +31,8 @@ fn compile<S: Shelf>(
     ensures same { S.told shelf.new ≡ S.told shelf.old }
     ensures others { (q : List ℕ) → q ≢ (entry_in entry.now).program → S.reach shelf.new q ≡ S.reach shelf.old q }
 {
-    match compile_on::<16, 8, S>(alloc, shelf, &entry.program, false) {
-        Ok(compiled) => Ok(compiled.conf),
-        Err(answer) => Err(answer),
-    }
+    let compiled = compile_on::<16, 8, S>(alloc, shelf, &entry.program, false)?;
+    Ok(compiled.conf)
 }
 
 /// A configuration that is parked, with the samples and the quota of an entry.
@@ -71,14 +69,8 @@ fn make_item<S: Shelf>(
     ensures same { S.told shelf.new ≡ S.told shelf.old }
     ensures others { (q : List ℕ) → q ≢ (entry_in entry.now).program → S.reach shelf.new q ≡ S.reach shelf.old q }
 {
-    let conf = match compile(alloc, shelf, entry) {
-        Ok(conf) => conf,
-        Err(answer) => return Err(answer),
-    };
-    match park(alloc, entry, conf) {
-        Ok(item) => Ok(item),
-        Err(_) => Err(Answer::Memory),
-    }
+    let conf = compile(alloc, shelf, entry)?;
+    Ok(park(alloc, entry, conf)?)
 }
 
 /// Makes the programs of a list ready for their turns. They are read and compiled in order, and the first that is refused ends it.

@@ -1,6 +1,6 @@
 //! Laws of the mode.
 ghost use Rattle.std.specs.Prelude.{◌≡◌, ℕ, List, Option, Some};
-ghost use Rattle.pr_compile.specs.Laws.{AtMostOne};
+ghost use Rattle.pr_base.specs.Laws.{AtMostOne};
 ghost use Rattle.pr_tool_answers.specs.declared.answers.Answer.{Answer};
 ghost use Rattle.pr_tool_answers.specs.Owed.{IsOwed};
 ghost use Rattle.pr_tool_modes.specs.Calls.{Call};

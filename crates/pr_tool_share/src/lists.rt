@@ -23,10 +23,7 @@ pub(crate) fn load_list<S: Shelf>(
     ensures same { S.told shelf.new ≡ S.told shelf.old }
     ensures others { (q : List ℕ) → q ≢ list.now → S.reach shelf.new q ≡ S.reach shelf.old q }
 {
-    let text = match read_file(alloc, shelf, list, Cap::MOST_LIST_BYTES, Cap::ListBytes) {
-        Ok(text) => text,
-        Err(answer) => return Err(answer),
-    };
+    let text = read_file(alloc, shelf, list, Cap::MOST_LIST_BYTES, Cap::ListBytes)?;
     match read_list(alloc, &text) {
         Ok(entries) => Ok(entries),
         Err(ListFault::BadList { line }) => Err(Answer::BadList { line }),

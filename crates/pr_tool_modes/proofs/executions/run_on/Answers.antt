@@ -2,4 +2,4 @@ use Rattle.std.proofs.Common.{◌∙◌}
 use Rattle.pr_tool_modes.proofs.executions.run_on.Goals as goal
 
 pub returns-clause-others : goal.returns-clause-others
-returns-clause-others g c = λ q second stall. c.run_all.ensures.others q (λ e. second (e ∙ c.in-Ok-make_ready.ensures.ready.opened.file)) ∙ c.read_stall.ensures.others q stall
+returns-clause-others g c = λ q second stall. c.run_all.ensures.others q (λ e. second (e ∙ c.in_ok-ready.ensures.ready.opened.file)) ∙ c.read_stall.ensures.others q stall
