@@ -10,7 +10,9 @@ ghost use Rattle.pr_compile_front.specs.Refusals.{HasWidths, IsRefusal};
 /// of widths.
 pub fn front_law()
     ensures one { (text : List ℕ) (e f : FrontFault) → IsRefusal text e → IsRefusal text f → e ≡ f }
-    ensures none { (text : List ℕ) (e : FrontFault) (program : Program) (widths : List ℕ) → IsRefusal text e → HasWidths text program widths → ⊥ }
-    ensures tree { (text : List ℕ) (p q : Program) (v w : List ℕ) → HasWidths text p v → HasWidths text q w → program_shape p ≡ program_shape q }
+    ensures none { (text : List ℕ) (e : FrontFault) (program : Program) (widths : List ℕ) → IsRefusal text e →
+        HasWidths text program widths → ⊥ }
+    ensures tree { (text : List ℕ) (p q : Program) (v w : List ℕ) → HasWidths text p v → HasWidths text q w →
+        program_shape p ≡ program_shape q }
     ensures widths { (text : List ℕ) (p q : Program) (v w : List ℕ) → HasWidths text p v → HasWidths text q w → v ≡ w }
 {}

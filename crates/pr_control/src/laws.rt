@@ -22,14 +22,17 @@ pub fn stripes_law()
 /// Where stage s + 1 computes in cycle t, stage s computed in cycle t - 1 in the stripe before, and is there still: the
 /// row that it made is the one that is read, also where the stripe is configured anew in cycle t.
 pub fn feeding_law()
-    ensures { (v p t s i : ℕ) → 0 < p → Computes v p t (suc s) i → Computes v p (t - 1) s (before p i) × Resides v p t s (before p i) }
+    ensures { (v p t s i : ℕ) → 0 < p → Computes v p t (suc s) i →
+        Computes v p (t - 1) s (before p i) × Resides v p t s (before p i) }
 {}
 
 /// With more stages than stripes, a stage that an event brings computes in the p - 1 cycles that follow, and in the cycle
 /// after these another stage takes its stripe. With no more stages than stripes it computes in every later cycle.
 pub fn lasting_law()
-    ensures resides { (v p t s i u : ℕ) → p < v → 0 < p → event v p t ≡ Some (s, i) → t < u → u ≤ t + p → Resides v p u s i }
-    ensures computes { (v p t s i u : ℕ) → p < v → 0 < p → event v p t ≡ Some (s, i) → t < u → u < t + p → Computes v p u s i }
+    ensures resides { (v p t s i u : ℕ) → p < v → 0 < p → event v p t ≡ Some (s, i) → t < u →
+        u ≤ t + p → Resides v p u s i }
+    ensures computes { (v p t s i u : ℕ) → p < v → 0 < p → event v p t ≡ Some (s, i) → t < u →
+        u < t + p → Computes v p u s i }
     ensures ends { (v p t s i : ℕ) → p < v → 0 < p → event v p t ≡ Some (s, i) → Active v p (t + p) s → ⊥ }
     ensures stays { (v p t s i u : ℕ) → v ≤ p → 0 < p → event v p t ≡ Some (s, i) → t < u → Computes v p u s i }
 {}

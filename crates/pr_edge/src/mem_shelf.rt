@@ -63,8 +63,10 @@ impl Shelf for MemShelf {
     fn read_at(&mut self, name: &str, place: u64, buf: &mut [u8]) -> Result<usize, Failed>
         ensures bound { IfOk result (λ k. k ≤ length buf.new) }
         ensures part { IfOk result (λ k. OfFile (told_of self.old) name.now (λ file. IsPart file place k buf.new)) }
-        ensures missing { IsMissing (told_of self.old) name.now → IsErr result × (faults_of self.new ≡ faults_of self.old) }
-        ensures cause { OnErr result (HasReadCause (told_of self.old) name.now (faults_of self.old) (faults_of self.new)) }
+        ensures missing { IsMissing (told_of self.old) name.now →
+            IsErr result × (faults_of self.new ≡ faults_of self.old) }
+        ensures cause { OnErr result
+            (HasReadCause (told_of self.old) name.now (faults_of self.old) (faults_of self.new)) }
         ensures later { faults_of self.old ≤ faults_of self.new }
         ensures same { told_of self.new ≡ told_of self.old }
         ensures reached { reach_of self.new name.now ≡ reach_after result (reach_of self.old name.now) place }

@@ -70,7 +70,8 @@ impl Sink for MemSink {
         ensures later { faults_of self.old ≤ faults_of self.new }
 
         // Each piece is taken whole or refused.
-        ensures answer { result_ok result ≡ (if refuses_next self.old bytes.now then None else Some (length bytes.now)) }
+        ensures answer { result_ok result ≡
+            (if refuses_next self.old bytes.now then None else Some (length bytes.now)) }
         ensures count { faults_of self.new ≡ faults_after self.old bytes.now }
         ensures calls { calls_of self.new ≡ next_count (calls_of self.old) }
         ensures failing { failing_of self.new ≡ failing_of self.old }

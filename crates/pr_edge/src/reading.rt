@@ -58,8 +58,10 @@ pub fn read_all<S: Shelf>(
     ensures short { IfOk result (λ v. length v.items ≤ limit) }
     ensures long { IsErrOf result ReadAll.TooLong → OfFile (S.told shelf.old) name.now (λ file. limit < length file) }
 
-    ensures missing { IsMissing (S.told shelf.old) name.now → IsErrOf result ReadAll.ReadFault × (S.faults shelf.new ≡ S.faults shelf.old) }
-    ensures cause { IsErrOf result ReadAll.ReadFault → HasReadCause (S.told shelf.old) name.now (S.faults shelf.old) (S.faults shelf.new) }
+    ensures missing { IsMissing (S.told shelf.old) name.now →
+        IsErrOf result ReadAll.ReadFault × (S.faults shelf.new ≡ S.faults shelf.old) }
+    ensures cause { IsErrOf result ReadAll.ReadFault →
+        HasReadCause (S.told shelf.old) name.now (S.faults shelf.old) (S.faults shelf.new) }
     ensures later { S.faults shelf.old ≤ S.faults shelf.new }
 
     ensures same { S.told shelf.new ≡ S.told shelf.old }

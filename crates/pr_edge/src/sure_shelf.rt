@@ -39,15 +39,18 @@ impl Shelf for SureShelf {
     fn read_at(&mut self, name: &str, place: u64, buf: &mut [u8]) -> Result<usize, Failed>
         ensures bound { IfOk result (λ k. k ≤ length buf.new) }
         ensures part { IfOk result (λ k. OfFile (told_of self.old) name.now (λ file. IsPart file place k buf.new)) }
-        ensures missing { IsMissing (told_of self.old) name.now → IsErr result × (faults_of self.new ≡ faults_of self.old) }
-        ensures cause { OnErr result (HasReadCause (told_of self.old) name.now (faults_of self.old) (faults_of self.new)) }
+        ensures missing { IsMissing (told_of self.old) name.now →
+            IsErr result × (faults_of self.new ≡ faults_of self.old) }
+        ensures cause { OnErr result
+            (HasReadCause (told_of self.old) name.now (faults_of self.old) (faults_of self.new)) }
         ensures later { faults_of self.old ≤ faults_of self.new }
         ensures same { told_of self.new ≡ told_of self.old }
         ensures reached { reach_of self.new name.now ≡ reach_after result (reach_of self.old name.now) place }
         ensures others { (q : List ℕ) → q ≢ name.now → reach_of self.new q ≡ reach_of self.old q }
 
         // It reads as many bytes as there are and fit.
-        ensures answer { result ≡ Ok (min (length buf.new) (length (drop place (sure_file (files_of self.old) name.now)))) }
+        ensures answer { result ≡ Ok
+            (min (length buf.new) (length (drop place (sure_file (files_of self.old) name.now)))) }
     {
         Ok(copy_part(bytes_of(&self.files, name), place, buf))
     }

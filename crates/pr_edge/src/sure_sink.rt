@@ -64,7 +64,8 @@ impl Sink for SureSink {
         // Each piece is taken whole, and what does not fit of it is dropped.
         ensures answer { result ≡ Ok (length bytes.now) }
         ensures kept { bytes_of self.new ≡ take (room_of self.old) (bytes_of self.old ++ bytes.now) }
-        ensures dropped { has_dropped self.new ≡ (has_dropped self.old || nat_lt (room_of self.old) (length (bytes_of self.old) + length bytes.now)) }
+        ensures dropped { has_dropped self.new ≡
+            (has_dropped self.old || nat_lt (room_of self.old) (length (bytes_of self.old) + length bytes.now)) }
     {
         let fitting = bytes.len().min(self.room - self.kept.len());
         self.kept.extend_from_slice(&bytes[..fitting]).unwrap();

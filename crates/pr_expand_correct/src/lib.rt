@@ -18,13 +18,20 @@ ghost use Rattle.pr_expand_correct.specs.Results.{AreSamples, HasLists, output_r
 /// operand is then as wide as the stream that is meant.
 pub fn widths_law()
     ensures exist { (program : Program) → offence program ≡ None → has_widths program ≡ true → HaveWidths program }
-    ensures needed { (program : Program) (widths : List ℕ) → offence program ≡ None → AreWidths (equations_of program).equations widths → has_widths program ≡ true }
-    ensures outputs { (program : Program) (widths : List ℕ) (xs : List (List ℕ)) → offence program ≡ None → AreWidths (equations_of program).equations widths → HasStreams program widths xs }
+    ensures needed { (program : Program) (widths : List ℕ) → offence program ≡ None →
+        AreWidths (equations_of program).equations widths → has_widths program ≡ true }
+    ensures outputs { (program : Program) (widths : List ℕ) (xs : List (List ℕ)) → offence program ≡ None →
+        AreWidths (equations_of program).equations widths → HasStreams program widths xs }
 {}
 
 /// On lawful samples the list of each output of the equations is that of the stream which the program means, and the rows
 /// of the outputs are the program's result rows.
 pub fn streams_law()
-    ensures lists { (program : Program) (widths : List ℕ) (xs : List (List ℕ)) → offence program ≡ None → IsFlat (equations_of program).equations (equations_of program).outputs → AreWidths (equations_of program).equations widths → AreSamples program xs → HasLists program widths xs }
-    ensures rows { (program : Program) (widths : List ℕ) (xs : List (List ℕ)) → offence program ≡ None → IsFlat (equations_of program).equations (equations_of program).outputs → AreWidths (equations_of program).equations widths → AreSamples program xs → out program xs ≡ output_rows (equations_of program).equations (equations_of program).outputs widths xs }
+    ensures lists { (program : Program) (widths : List ℕ) (xs : List (List ℕ)) → offence program ≡ None →
+        IsFlat (equations_of program).equations (equations_of program).outputs →
+        AreWidths (equations_of program).equations widths → AreSamples program xs → HasLists program widths xs }
+    ensures rows { (program : Program) (widths : List ℕ) (xs : List (List ℕ)) → offence program ≡ None →
+        IsFlat (equations_of program).equations (equations_of program).outputs →
+        AreWidths (equations_of program).equations widths → AreSamples program xs →
+        out program xs ≡ output_rows (equations_of program).equations (equations_of program).outputs widths xs }
 {}

@@ -22,12 +22,14 @@ pub fn paren_law()
 /// The kinds and widths of a program's outputs are the same for all samples, and so is whether it has any.
 pub fn widths_law()
     ensures widths { (program : Program) (xs : List (List ℕ)) → is_some (streams_of program xs) ≡ has_widths program }
-    ensures forms { (program : Program) (xs ys : List (List ℕ)) → option_map (map form_of) (streams_of program xs) ≡ option_map (map form_of) (streams_of program ys) }
+    ensures forms { (program : Program) (xs ys : List (List ℕ)) →
+        option_map (map form_of) (streams_of program xs) ≡ option_map (map form_of) (streams_of program ys) }
 {}
 
 /// There is one result row for each sample, and the rows of the first samples are the first rows: what comes later
 /// changes nothing.
 pub fn prefix_law()
     ensures count { (program : Program) (xs : List (List ℕ)) → length (out program xs) ≡ length xs }
-    ensures first { (program : Program) (xs ys : List (List ℕ)) → take (length xs) (out program (xs ++ ys)) ≡ out program xs }
+    ensures first { (program : Program) (xs ys : List (List ℕ)) →
+        take (length xs) (out program (xs ++ ys)) ≡ out program xs }
 {}

@@ -16,13 +16,15 @@ ghost use Rattle.pr_expand_spec.specs.Programs.{equations_of};
 /// Programs with one tree have the same first offence, if there is one, and the walk finds the same inputs.
 pub fn walk_law()
     ensures offence { (p q : Program) → program_shape p ≡ program_shape q → offence p ≡ offence q }
-    ensures inputs { (p q : Program) → program_shape p ≡ program_shape q → inputs_after (program_walk p) ≡ inputs_after (program_walk q) }
+    ensures inputs { (p q : Program) → program_shape p ≡ program_shape q →
+        inputs_after (program_walk p) ≡ inputs_after (program_walk q) }
 {}
 
 /// Programs with one tree mean the same: both have widths or neither, and their result rows are the same for all samples.
 pub fn meaning_law()
     ensures widths { (p q : Program) → program_shape p ≡ program_shape q → has_widths p ≡ has_widths q }
-    ensures rows { (p q : Program) → program_shape p ≡ program_shape q → (rows : List (List ℕ)) → out p rows ≡ out q rows }
+    ensures rows { (p q : Program) → program_shape p ≡ program_shape q → (rows : List (List ℕ)) →
+        out p rows ≡ out q rows }
 {}
 
 /// Programs with one tree have the same equations, and their outputs give the same.

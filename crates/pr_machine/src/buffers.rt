@@ -82,12 +82,14 @@ pub(crate) fn buffers_for<const N: usize, const P: usize>(
     alloc: Global,
     conf: &Configuration<N, P>,
 ) -> Result<Buffers<N>, AllocError>
-    ensures states { IfOk result (λ r. (s : ℕ) → s < vec_len conf.now.stages → rows_of r.store s ≡ (steps_of N P (shape_of conf.now) s).init) }
+    ensures states { IfOk result (λ r. (s : ℕ) → s < vec_len conf.now.stages →
+        rows_of r.store s ≡ (steps_of N P (shape_of conf.now) s).init) }
     ensures rows { IfOk result (λ r. length r.store ≡ vec_len conf.now.stages) }
     ensures ready { IfOk result (λ r. AreReady (P - 1) (shape_of conf.now).stages r.prepared.items) }
     ensures count { IfOk result (λ r. vec_len r.prepared ≡ vec_len conf.now.stages) }
     ensures input { IfOk result (λ r. r.input ≡ record { size = bytes_in (shape_of conf.now).inputs; waiting = [] }) }
-    ensures output { IfOk result (λ r. r.output ≡ record { size = bytes_in (output_widths (shape_of conf.now)); waiting = [] }) }
+    ensures output { IfOk result (λ r. r.output ≡
+        record { size = bytes_in (output_widths (shape_of conf.now)); waiting = [] }) }
     ensures sample { IfOk result (λ r. vec_len r.sample ≡ bytes_in (shape_of conf.now).inputs) }
     ensures buffer { IfOk result (λ r. bytes_in (output_widths (shape_of conf.now)) ≤ vec_capacity r.result) }
 {

@@ -58,7 +58,8 @@ fn empty_at<const N: usize, const P: usize>(
     requires here { IsHere (length store.old) (place_at places.old at) }
     requires some { 0 < length store.old }
     ensures others { (j : ℕ) → j ≢ at → place_at places.new j ≡ place_at places.old j }
-    ensures save { (s : ℕ) → s < length store.old → rows_of store.new s ≡ saved (rows_of store.old) (spots_of places.old at) s }
+    ensures save { (s : ℕ) → s < length store.old →
+        rows_of store.new s ≡ saved (rows_of store.old) (spots_of places.old at) s }
     ensures bare { is_bare (place_at places.new at) ≡ true }
     ensures size { length store.new ≡ length store.old }
 {
@@ -74,7 +75,8 @@ pub(crate) fn empty_all<const N: usize, const P: usize>(
 )
     requires here { AreHere (length store.old) places.old }
     requires some { 0 < length store.old }
-    ensures rows { (s : ℕ) → s < length store.old → IsEmptied (length places.old) (spots_of places.old) s (rows_of store.old s) (rows_of store.new s) }
+    ensures rows { (s : ℕ) → s < length store.old →
+        IsEmptied (length places.old) (spots_of places.old) s (rows_of store.old s) (rows_of store.new s) }
     ensures bare { AreBare places.new }
     ensures size { length store.new ≡ length store.old }
 {
@@ -90,7 +92,8 @@ pub(crate) fn begin_from<const N: usize, const P: usize>(
 )
     requires { length store.now ≡ vec_len conf.old.stages }
     ensures shape { shape_of conf.new ≡ with_states (shape_of conf.old) (rows_of store.now) }
-    ensures states { (s : ℕ) → s < vec_len conf.new.stages → rows_of store.now s ≡ (steps_of N P (shape_of conf.new) s).init }
+    ensures states { (s : ℕ) → s < vec_len conf.new.stages →
+        rows_of store.now s ≡ (steps_of N P (shape_of conf.new) s).init }
     ensures stages { vec_len conf.new.stages ≡ vec_len conf.old.stages }
 {
     for stage in 0..conf.stages() {

@@ -128,7 +128,8 @@ impl<const N: usize, const P: usize> Loaded<N, P> {
         requires two { 2 ≤ vec_len places }
         requires small { vec_len places ≤ 256 }
         requires bare { AreBare places.items }
-        requires states { (s : ℕ) → s < vec_len conf.stages → rows_of buffers.store s ≡ (steps_of N P (shape_of conf) s).init }
+        requires states { (s : ℕ) → s < vec_len conf.stages →
+            rows_of buffers.store s ≡ (steps_of N P (shape_of conf) s).init }
         requires rows { length buffers.store ≡ vec_len conf.stages }
         requires ready { AreReady (P - 1) (shape_of conf).stages buffers.prepared.items }
         requires count { vec_len buffers.prepared ≡ vec_len conf.stages }
@@ -153,7 +154,8 @@ impl<const N: usize, const P: usize> Loaded<N, P> {
 
     /// What the next cycle is to do.
     pub(crate) fn schedule(&self) -> Schedule
-        ensures scheduled { IsScheduled (vec_len self.now.conf.stages) (vec_len self.now.places) self.now.plan.time result }
+        ensures scheduled { IsScheduled (vec_len self.now.conf.stages) (vec_len self.now.places)
+            self.now.plan.time result }
         ensures live { result.live ≡ self.now.live }
     {
         Schedule {
@@ -166,7 +168,8 @@ impl<const N: usize, const P: usize> Loaded<N, P> {
 
     /// Whether the next cycle is stalled.
     pub(crate) fn is_held(&self, schedule: &Schedule) -> bool
-        requires { IsScheduled (vec_len self.now.conf.stages) (vec_len self.now.places) self.now.plan.time schedule.now }
+        requires { IsScheduled (vec_len self.now.conf.stages) (vec_len self.now.places)
+            self.now.plan.time schedule.now }
         ensures { (c : Shape) (p : ℕ) (h : History) → PartsStand self.now c p h
             → result ≡ stalled (length c.stages) p (account_of c p h) }
     {
@@ -182,7 +185,8 @@ impl<const N: usize, const P: usize> Loaded<N, P> {
 
     /// A cycle that is not stalled.
     pub(crate) fn advance(&mut self, schedule: &Schedule) -> Turn
-        requires schedule { IsScheduled (vec_len self.old.conf.stages) (vec_len self.old.places) self.old.plan.time schedule.now }
+        requires schedule { IsScheduled (vec_len self.old.conf.stages) (vec_len self.old.places)
+            self.old.plan.time schedule.now }
         requires live { schedule.now.live ≡ self.old.live }
         requires time { self.old.plan.time < 2 ^ 63 }
         ensures stands { (c : Shape) (p : ℕ) (h : History) → PartsStand self.old c p h

@@ -150,8 +150,10 @@ impl<const N: usize, const P: usize> Machine<N, P, Running> {
     /// `InFull` exactly where 16 samples wait; the machine is then as it was.
     pub fn offer(&mut self, piece: &[u8]) -> Result<(), InFull>
         requires { length piece.now ≡ sample_bytes_of self.old }
-        ensures stands { (c : Shape) (p : ℕ) (h : History) → Stands self.old c p h → Stands self.new c p (h ++ Offer piece.now ∷ []) }
-        ensures reply { (c : Shape) (p : ℕ) (h : History) → Stands self.old c p h → offer_reply (is_ok result) ≡ reply_of N P c p h (Offer piece.now) }
+        ensures stands { (c : Shape) (p : ℕ) (h : History) → Stands self.old c p h →
+            Stands self.new c p (h ++ Offer piece.now ∷ []) }
+        ensures reply { (c : Shape) (p : ℕ) (h : History) → Stands self.old c p h →
+            offer_reply (is_ok result) ≡ reply_of N P c p h (Offer piece.now) }
         ensures full { IsErr result ↔ (length (waiting_samples self.old) ≡ 16) }
         ensures put { OnOk result (waiting_samples self.new ≡ waiting_samples self.old ++ piece.now ∷ []) }
         ensures same { OnErr result (waiting_samples self.new ≡ waiting_samples self.old) }
@@ -171,8 +173,10 @@ impl<const N: usize, const P: usize> Machine<N, P, Running> {
     /// `OutEmpty` exactly where no result waits; the machine and the buffer are then as they were.
     pub fn take(&mut self, into: &mut [u8]) -> Result<(), OutEmpty>
         requires { length into.old ≡ result_bytes_of self.old }
-        ensures stands { (c : Shape) (p : ℕ) (h : History) → Stands self.old c p h → Stands self.new c p (h ++ Take ∷ []) }
-        ensures reply { (c : Shape) (p : ℕ) (h : History) → Stands self.old c p h → take_reply (is_ok result) into.new ≡ reply_of N P c p h Take }
+        ensures stands { (c : Shape) (p : ℕ) (h : History) → Stands self.old c p h →
+            Stands self.new c p (h ++ Take ∷ []) }
+        ensures reply { (c : Shape) (p : ℕ) (h : History) → Stands self.old c p h →
+            take_reply (is_ok result) into.new ≡ reply_of N P c p h Take }
         ensures empty { IsErr result ↔ (waiting_results self.old ≡ []) }
         ensures got { OnOk result (waiting_results self.old ≡ into.new ∷ waiting_results self.new) }
         ensures same { OnErr result ((waiting_results self.new ≡ waiting_results self.old) × (into.new ≡ into.old)) }
@@ -189,9 +193,12 @@ impl<const N: usize, const P: usize> Machine<N, P, Running> {
     /// `advanced` false and changes nothing.
     pub fn cycle(&mut self) -> Turn
         requires { time_of self.old < 2 ^ 63 }
-        ensures stands { (c : Shape) (p : ℕ) (h : History) → Stands self.old c p h → Stands self.new c p (h ++ Cycle ∷ []) }
-        ensures turn { (c : Shape) (p : ℕ) (h : History) → Stands self.old c p h → result ≡ turn_of (length c.stages) p (account_of c p h) }
-        ensures reply { (c : Shape) (p : ℕ) (h : History) → Stands self.old c p h → cycle_reply result.advanced ≡ reply_of N P c p h Cycle }
+        ensures stands { (c : Shape) (p : ℕ) (h : History) → Stands self.old c p h →
+            Stands self.new c p (h ++ Cycle ∷ []) }
+        ensures turn { (c : Shape) (p : ℕ) (h : History) → Stands self.old c p h →
+            result ≡ turn_of (length c.stages) p (account_of c p h) }
+        ensures reply { (c : Shape) (p : ℕ) (h : History) → Stands self.old c p h →
+            cycle_reply result.advanced ≡ reply_of N P c p h Cycle }
         ensures stalled { OnFalse result.advanced (self.new ≡ self.old) }
         ensures conf { self.new.parts.conf ≡ self.old.parts.conf }
         ensures stripes { stripes_of self.new ≡ stripes_of self.old }
@@ -213,7 +220,8 @@ impl<const N: usize, const P: usize> Machine<N, P, Running> {
     /// The state row of a stage in the store; none exactly where a stripe holds the stage or there is no such stage.
     pub fn stored(&self, stage: u32) -> Option<&[u8]>
         ensures size { IfSome result (λ row. length row.now ≡ N) }
-        ensures stored { (c : Shape) (p : ℕ) (h : History) → Stands self.now c p h → IsStored N P c p (account_of c p h) stage (option_copied result) }
+        ensures stored { (c : Shape) (p : ℕ) (h : History) → Stands self.now c p h →
+            IsStored N P c p (account_of c p h) stage (option_copied result) }
     {
         if stage as usize >= self.parts.conf.stages() {
             return None;

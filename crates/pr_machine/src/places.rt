@@ -35,7 +35,8 @@ pub enum Place<const N: usize, const P: usize> {
 fn stage_at<const N: usize, const P: usize>(conf: &Configuration<N, P>, number: u32) -> &Stage<N>
     requires { number < vec_len conf.now.stages }
     ensures pes { slice_index_or (shape_of conf.now).stages number [] ≡ result.now.pes.items }
-    ensures lawful { are_lawful_pes (site_of N P (bytes_in (shape_of conf.now).inputs) number) result.now.pes.items ≡ true }
+    ensures lawful { are_lawful_pes (site_of N P (bytes_in (shape_of conf.now).inputs) number)
+        result.now.pes.items ≡ true }
 {
     &conf.stages[number as usize]
 }
@@ -127,7 +128,8 @@ fn step_at<const N: usize, const P: usize>(
     requires ready { AreReady (P - 1) (shape_of conf.now).stages buffers.now.prepared.items }
     requires count { vec_len buffers.now.prepared ≡ vec_len conf.now.stages }
     ensures others { (j : ℕ) → j ≢ at → place_at places.new j ≡ place_at places.old j }
-    ensures step { spots_of places.new at ≡ stepped (steps_of N P (shape_of conf.now)) (row_if valid buffers.now.sample.items)
+    ensures step { spots_of places.new at ≡
+        stepped (steps_of N P (shape_of conf.now)) (row_if valid buffers.now.sample.items)
         (spots_of places.old at) (shows (spots_of places.old from)) }
     ensures here { IsHere (vec_len conf.now.stages) (place_at places.new at) }
 {
@@ -391,7 +393,8 @@ pub(crate) fn pass<const N: usize, const P: usize>(
         (row_if entering buffers.old.sample.items) (spots_of places.old) (spots_of places.new)
         (rows_of buffers.old.store) (rows_of buffers.new.store)
         (row_if result.left buffers.new.result.items) result.saved }
-    ensures length { result.left ≡ true → length buffers.new.result.items ≡ bytes_in (output_widths (shape_of conf.now)) }
+    ensures length { result.left ≡ true →
+        length buffers.new.result.items ≡ bytes_in (output_widths (shape_of conf.now)) }
     ensures rows { length buffers.new.store ≡ length buffers.old.store }
     ensures buffer { vec_capacity buffers.old.result ≤ vec_capacity buffers.new.result }
     ensures others { (buffers.new.input ≡ buffers.old.input) × (buffers.new.output ≡ buffers.old.output)

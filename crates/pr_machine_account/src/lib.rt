@@ -56,7 +56,8 @@ pub fn drain_law()
 /// Where n samples are always ready and results always taken, no cycle is stalled, and the last result has left after
 /// exactly `cycles_of v p n` cycles: then all n have left, and after fewer cycles they have not.
 pub fn cycles_law()
-    ensures time { (v p k : ℕ) (xs : List (List ℕ)) → 0 < v → (free_turns v p k (record { account = start; rest = xs })).account.time ≡ k }
+    ensures time { (v p k : ℕ) (xs : List (List ℕ)) → 0 < v →
+        (free_turns v p k (record { account = start; rest = xs })).account.time ≡ k }
     ensures last { (v p : ℕ) (xs : List (List ℕ)) → 0 < v → 2 ≤ p
         → left v (free_turns v p (cycles_of v p (length xs)) (record { account = start; rest = xs })).account ≡ length xs }
     ensures before { (v p k : ℕ) (xs : List (List ℕ)) → 0 < v → 2 ≤ p → k < cycles_of v p (length xs)

@@ -32,7 +32,8 @@ pub fn finish<const N: usize, const P: usize, S: Shelf>(
     requires turns { length (turns_left stall.old) ≤ 1048576 }
 
     // A run over a sink that tells nothing, which no write ends.
-    ensures ran { Ran (setting_of machine.old stall.old feed.old (view (S.told shelf.old) (S.reach shelf.old) (S.faults shelf.old)) untold false)
+    ensures ran { Ran (setting_of machine.old stall.old feed.old
+        (view (S.told shelf.old) (S.reach shelf.old) (S.faults shelf.old)) untold false)
         machine.new feed.new (view (S.told shelf.new) (S.reach shelf.new) (S.faults shelf.new)) untold result }
     ensures writes { result ≢ RunEnd.WriteFault }
 
@@ -44,11 +45,14 @@ pub fn finish<const N: usize, const P: usize, S: Shelf>(
     // How the file ends, where it is told.
     ensures ends { (file : List ℕ) → Tells (S.told shelf.old) (name_of feed.old) file → EndsRun result feed.new file }
     ensures missing { IsMissing (S.told shelf.old) (name_of feed.old) → IsFault result × (given_of feed.new ≡ 0) }
-    ensures reached { S.reach shelf.old (name_of feed.old) ≡ Some 0 → S.reach shelf.new (name_of feed.old) ≡ Some (place_of feed.new) }
-    ensures read_fault { result ≡ RunEnd.ReadFault → HasReadCause (S.told shelf.old) (name_of feed.old) (S.faults shelf.old) (S.faults shelf.new) }
+    ensures reached { S.reach shelf.old (name_of feed.old) ≡ Some 0 →
+        S.reach shelf.new (name_of feed.old) ≡ Some (place_of feed.new) }
+    ensures read_fault { result ≡ RunEnd.ReadFault →
+        HasReadCause (S.told shelf.old) (name_of feed.old) (S.faults shelf.old) (S.faults shelf.new) }
 
     // Without a stall text the numbers are exact.
-    ensures counted { turns_left stall.old ≡ [] → IsCounted (length (conf_of machine.old).stages) (stripes_of machine.old) (given_of feed.new) result }
+    ensures counted { turns_left stall.old ≡ [] →
+        IsCounted (length (conf_of machine.old).stages) (stripes_of machine.old) (given_of feed.new) result }
 
     ensures conf { machine.new.parts.conf ≡ machine.old.parts.conf }
     ensures stripes { stripes_of machine.new ≡ stripes_of machine.old }

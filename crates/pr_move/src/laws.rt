@@ -14,7 +14,8 @@ pub fn moving_law()
     ensures lines { (N P : ℕ) (c : Shape) (xs ys : List (List ℕ))
         → written (result_numbers N P c (xs ++ ys))
         ≡ written (result_numbers N P c xs) ++ written (result_numbers N P (conf_after N P c xs) ys) }
-    ensures runs { (N P : ℕ) (c : Shape) (xs ys : List (List ℕ)) (p q r : ℕ) (whole first last : List Held) (good : Bool)
+    ensures runs { (N P : ℕ) (c : Shape) (xs ys : List (List ℕ)) (p q r : ℕ)
+        (whole first last : List Held) (good : Bool)
         → 0 < length c.stages → 2 ≤ p → 2 ≤ q → 2 ≤ r
         → run_text N P false c p (xs ++ ys) whole good
         ≡ run_text N P false c q xs first good ++ run_text N P false (conf_after N P c xs) r ys last good }

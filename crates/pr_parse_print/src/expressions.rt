@@ -77,7 +77,9 @@ fn put_ends(text: &mut Vec<u8>, high: &Fixed, low: &Fixed) -> Result<(), AllocEr
 /// In parentheses, with commas between.
 #[cycle(expressions)]
 fn put_arguments(text: &mut Vec<u8>, list: &[Expr]) -> Result<(), AllocError>
-    ensures { OnOk result (IsPut text.old.items (symbol OpenRound ∷ (spelling (comma_listed (map expr_shape list.now)) ++ symbol CloseRound ∷ [])) text.new.items) }
+    ensures { OnOk result (IsPut text.old.items
+        (symbol OpenRound ∷ (spelling (comma_listed (map expr_shape list.now)) ++
+        symbol CloseRound ∷ [])) text.new.items) }
 {
     put_symbol(text, Symbol::OpenRound)?;
     put_exprs(text, list)?;

@@ -42,7 +42,8 @@ pub fn put_fixed(text: &mut Vec<u8>, fixed: &Fixed) -> Result<(), AllocError>
 /// In square brackets.
 #[cycle(fixed)]
 fn put_index(text: &mut Vec<u8>, index: &Fixed) -> Result<(), AllocError>
-    ensures { OnOk result (IsPut text.old.items (symbol OpenSquare ∷ (spelling (fixed_shape index.now) ++ symbol CloseSquare ∷ [])) text.new.items) }
+    ensures { OnOk result (IsPut text.old.items
+        (symbol OpenSquare ∷ (spelling (fixed_shape index.now) ++ symbol CloseSquare ∷ [])) text.new.items) }
 {
     put_symbol(text, Symbol::OpenSquare)?;
     put_fixed(text, index)?;

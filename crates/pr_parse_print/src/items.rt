@@ -33,7 +33,9 @@ fn put_params(text: &mut Vec<u8>, list: &[Param]) -> Result<(), AllocError>
 }
 
 fn put_table(text: &mut Vec<u8>, name: &Name, values: &[Fixed]) -> Result<(), AllocError>
-    ensures { OnOk result (IsPut text.old.items (spelling (tree.const (name_tree name.now) (tree.table (comma_listed (map fixed_shape values.now))))) text.new.items) }
+    ensures { OnOk result (IsPut text.old.items
+        (spelling (tree.const (name_tree name.now)
+        (tree.table (comma_listed (map fixed_shape values.now))))) text.new.items) }
 {
     put_named(text, Keyword::Const, name)?;
     put_symbol(text, Symbol::Assign)?;
@@ -51,7 +53,9 @@ fn put_function(
     body: &[Stmt],
     value: &Expr,
 ) -> Result<(), AllocError>
-    ensures { OnOk result (IsPut text.old.items (spelling (tree.function (name_tree name.now) (comma_listed (map param_shape params.now)) (width_tree width) (listed (map stmt_shape body.now)) (expr_shape value.now))) text.new.items) }
+    ensures { OnOk result (IsPut text.old.items
+        (spelling (tree.function (name_tree name.now) (comma_listed (map param_shape params.now)) (width_tree width)
+        (listed (map stmt_shape body.now)) (expr_shape value.now))) text.new.items) }
 {
     put_named(text, Keyword::Fn, name)?;
     put_symbol(text, Symbol::OpenRound)?;

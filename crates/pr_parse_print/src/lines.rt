@@ -35,8 +35,10 @@ fn put_line(alloc: Global, text: &mut Vec<u8>, item: &Item) -> Result<(), AllocE
 /// from a text, this text has the same tokens, and so it is read back as the same program.
 pub fn print(alloc: Global, program: &Program) -> Result<Vec<u8>, AllocError>
     ensures text { IfOk result (λ text. text.items ≡ printed (program_shape program.now)) }
-    ensures same { IfOk result (λ text. (from : List ℕ) → IsProgram from (program_shape program.now) → IsProgram text.items (program_shape program.now)) }
-    ensures tokens { IfOk result (λ text. (from : List ℕ) → IsProgram from (program_shape program.now) → words_of text.items ≡ words_of from) }
+    ensures same { IfOk result (λ text. (from : List ℕ) → IsProgram from (program_shape program.now) →
+        IsProgram text.items (program_shape program.now)) }
+    ensures tokens { IfOk result (λ text. (from : List ℕ) → IsProgram from (program_shape program.now) →
+        words_of text.items ≡ words_of from) }
 {
     let mut text = Vec::new(alloc);
     for item in program.items.as_slice() {

@@ -15,7 +15,8 @@ use std::alloc::AllocError;
 
 /// A value after `=`, and the semicolon.
 pub fn put_value(text: &mut Vec<u8>, value: &Expr) -> Result<(), AllocError>
-    ensures { OnOk result (IsPut text.old.items (symbol Assign ∷ (spelling (expr_shape value.now) ++ symbol Semi ∷ [])) text.new.items) }
+    ensures { OnOk result (IsPut text.old.items
+        (symbol Assign ∷ (spelling (expr_shape value.now) ++ symbol Semi ∷ [])) text.new.items) }
 {
     put_symbol(text, Symbol::Assign)?;
     put_expr(text, value)?;

@@ -60,7 +60,8 @@ pub fn wake(tables: &Tables, waits: &mut Vec<usize>, candidates: &mut Candidates
     requires waits { (g : ℕ) → readings tables.now g groups.now ≤ slice_index waits.old.items g }
     ensures lists { AreLists tables.now.class.items waits.new.items candidates.new }
     ensures long { length waits.new.items ≡ length waits.old.items }
-    ensures waits { (g : ℕ) → slice_index waits.new.items g + readings tables.now g groups.now ≡ slice_index waits.old.items g }
+    ensures waits { (g : ℕ) → slice_index waits.new.items g + readings tables.now g groups.now ≡
+        slice_index waits.old.items g }
     ensures woken { Woken tables.now.class.items waits.old.items candidates.old.ready.items
         waits.new.items candidates.new.ready.items }
 {

@@ -62,7 +62,8 @@ fn push_unit(
     group: u32,
     cells: &[Cell],
 ) -> Result<(), AllocError>
-    requires there { (i : ℕ) (d : Cell) → i < length cells.now → IsCellBelow first.now (length owner.now) (slice_index_or cells.now i d) }
+    requires there { (i : ℕ) (d : Cell) → i < length cells.now →
+        IsCellBelow first.now (length owner.now) (slice_index_or cells.now i d) }
     requires small { length owner.now < 2 ^ 32 }
     ensures { OnOk result (reads.new.items ≡ reads.old.items ++ unit_reads_of first.now owner.now group cells.now) }
 {

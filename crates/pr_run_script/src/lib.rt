@@ -20,14 +20,16 @@ pub fn script_law()
     ensures whole { (v p : ℕ) (xs : List (List ℕ)) (stall : List Held) → 0 < v → 2 ≤ p → IsWhole v p xs stall }
     ensures further { (v p k : ℕ) (xs : List (List ℕ)) (stall : List Held) → 0 < v → 2 ≤ p
         → most_cycles v p stall (length xs) < k → turns v p stall k (begun xs) ≡ whole_run v p xs stall }
-    ensures cycles { (v p : ℕ) (xs : List (List ℕ)) → 0 < v → 2 ≤ p → (account v p (script v p xs [])).time ≡ cycles_of v p (length xs) }
+    ensures cycles { (v p : ℕ) (xs : List (List ℕ)) → 0 < v → 2 ≤ p →
+        (account v p (script v p xs [])).time ≡ cycles_of v p (length xs) }
     ensures stalls { (v p : ℕ) (xs : List (List ℕ)) → 0 < v → 2 ≤ p → stalls_in v p (script v p xs []) ≡ 0 }
 {}
 
 /// What a whole run writes without its log is the lines of its results. In the log the stage that a cycle saves is the
 /// one of p cycles before, where there are more stages than stripes.
 pub fn text_law()
-    ensures results { (N P : ℕ) (c : Shape) (p : ℕ) (xs : List (List ℕ)) (stall : List Held) (good : Bool) → 0 < length c.stages → 2 ≤ p
+    ensures results { (N P : ℕ) (c : Shape) (p : ℕ) (xs : List (List ℕ)) (stall : List Held) (good : Bool) →
+        0 < length c.stages → 2 ≤ p
         → run_text N P false c p xs stall good ≡ written (result_numbers N P c xs) }
     ensures saved { (v p t : ℕ) → 0 < p → found_stage v p t ≡ evicted_stage v p t }
 {}

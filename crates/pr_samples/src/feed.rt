@@ -180,7 +180,8 @@ impl Feed {
         ensures passed { self.new.passed ≡ self.old.passed }
         ensures place { self.new.place ≡ self.old.place + count }
         ensures tail { self.new.tail ≡ tail_after count self.old.limit self.new.place }
-        ensures pending { pending_of self.new ≡ take (self.old.limit - self.old.place) (take count self.old.buffer.items) }
+        ensures pending { pending_of self.new ≡
+            take (self.old.limit - self.old.place) (take count self.old.buffer.items) }
         ensures numbers { self.new.numbers ≡ self.old.numbers }
     {
         self.start = 0;
@@ -228,7 +229,8 @@ impl Feed {
         requires room { cursor.done + begun cursor.phase ≤ length (widths_of self.old) }
         requires spent { self.old.start ≡ self.old.end }
         requires tail { self.old.tail ≢ Tail.Open }
-        ensures told { (file : List ℕ) → IsReadTo self.old cursor file → GivesNext result self.old self.new into.new file }
+        ensures told { (file : List ℕ) → IsReadTo self.old cursor file →
+            GivesNext result self.old self.new into.new file }
         ensures given { given_of self.new ≡ given_of self.old + given_by result }
         ensures into { (is_sample result ≡ false) → into.new ≡ into.old }
         ensures fault { result ≢ Got.ReadFault }
@@ -313,7 +315,8 @@ impl Feed {
 
         ensures cause { result ≡ Got.ReadFault
             → HasReadCause (S.told shelf.old) (name_of self.old) (S.faults shelf.old) (S.faults shelf.new) }
-        ensures missing { IsMissing (S.told shelf.old) (name_of self.old) → reads_nothing self.old → result ≡ Got.ReadFault }
+        ensures missing { IsMissing (S.told shelf.old) (name_of self.old) → reads_nothing self.old →
+            result ≡ Got.ReadFault }
         ensures quiet { IsReady self.old → (S.faults shelf.new ≡ S.faults shelf.old) × (result ≢ Got.ReadFault) }
         ensures later { S.faults shelf.old ≤ S.faults shelf.new }
 
@@ -345,7 +348,8 @@ impl Feed {
             → ReadsOn (S.told shelf.old) bytes self.old self.new
             (λ file. IfOk result (λ long. long ≡ nat_lt (limit_of self.old) (length file))) }
         ensures file { SameFile self.old self.new }
-        ensures cause { OnErr result (HasReadCause (S.told shelf.old) (name_of self.old) (S.faults shelf.old) (S.faults shelf.new)) }
+        ensures cause { OnErr result
+            (HasReadCause (S.told shelf.old) (name_of self.old) (S.faults shelf.old) (S.faults shelf.new)) }
         ensures later { S.faults shelf.old ≤ S.faults shelf.new }
         ensures same { S.told shelf.new ≡ S.told shelf.old }
         ensures others { (q : List ℕ) → q ≢ name_of self.old → S.reach shelf.new q ≡ S.reach shelf.old q }

@@ -68,7 +68,8 @@ fn after_digit(widths: &[u8], cursor: Cursor, digit: u8) -> Cursor
     requires digit { digit ≤ 9 }
     requires widths { All (λ w. w ≤ 128) widths.now }
     requires room { cursor.done + begun cursor.phase ≤ length widths.now }
-    ensures scan { (numbers : List ℕ) → scan_of widths.now numbers result ≡ with_digit (scan_of widths.now numbers cursor) digit }
+    ensures scan { (numbers : List ℕ) →
+        scan_of widths.now numbers result ≡ with_digit (scan_of widths.now numbers cursor) digit }
     ensures room { result.done + begun result.phase ≤ length widths.now }
 {
     let wrong = Cursor {
@@ -96,7 +97,8 @@ fn after_digit(widths: &[u8], cursor: Cursor, digit: u8) -> Cursor
 fn after_number(numbers: &mut [Num], cursor: Cursor, phase: Phase) -> Cursor
     requires room { cursor.done + begun cursor.phase ≤ length numbers.old }
     requires phase { begun phase ≡ 0 }
-    ensures scan { (widths : List ℕ) → scan_of widths numbers.new result ≡ finished (scan_of widths numbers.old cursor) phase }
+    ensures scan { (widths : List ℕ) →
+        scan_of widths numbers.new result ≡ finished (scan_of widths numbers.old cursor) phase }
     ensures room { result.done + begun result.phase ≤ length numbers.new }
 {
     match cursor.phase {

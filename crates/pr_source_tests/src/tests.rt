@@ -98,7 +98,8 @@ fn program_of(alloc: Global, text: &[u8]) -> Result<Option<Scoped>, AllocError>
 
 /// The equations of a program, where they are not too many.
 fn equations_of(alloc: Global, scoped: &Scoped) -> Result<Option<Flat>, AllocError>
-    ensures { IfOk result (λ o. IfSome o (λ flat. input_widths (shapes_of flat.equations.items) ≡ scoped.now.inputs.items)) }
+    ensures { IfOk result (λ o. IfSome o (λ flat. input_widths (shapes_of flat.equations.items) ≡
+        scoped.now.inputs.items)) }
 {
     match expand(alloc, scoped) {
         Err(ExpandFault::Memory(error)) => Err(error),

@@ -156,7 +156,8 @@ pub(crate) fn shifted_row(hi: u8x16, lo: u8x16, by: u16x16) -> u8x16
     requires hi { length hi ≡ 16 }
     requires lo { length lo ≡ 16 }
     requires by { length by ≡ 16 }
-    ensures words { HasLanes 16 result (λ k. (slice_index hi k * 256 + slice_index lo k) * slice_index by k % 65536 / 256) }
+    ensures words { HasLanes 16 result (λ k.
+        (slice_index hi k * 256 + slice_index lo k) * slice_index by k % 65536 / 256) }
     ensures bytes { (k s : ℕ) → k < 16 → slice_index by k ≡ 2 ^ s → s < 8
         → slice_index result k ≡ shifted (slice_index hi k) (slice_index lo k) s }
 {
@@ -205,7 +206,8 @@ pub(crate) fn look_up(row: u8x16, places: u8x32) -> u8x32
     requires row { length row ≡ 16 }
     requires long { length places ≡ 32 }
     requires places { (k : ℕ) → k < 32 → is_place (slice_index places k) ≡ true }
-    ensures { HasLanes 32 result (λ k. if nat_le 128 (slice_index places k) then 0 else slice_index row (slice_index places k)) }
+    ensures { HasLanes 32 result (λ k.
+        if nat_le 128 (slice_index places k) then 0 else slice_index row (slice_index places k)) }
 {
     twice(row).swizzle_dyn_within::<16>(places)
 }

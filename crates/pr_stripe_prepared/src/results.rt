@@ -28,7 +28,8 @@ fn look_up_all(q: &Prepared, a: u8x16, b: u8x16, c: u8x16) -> u8x16
     requires b { length b ≡ 16 }
     requires c { length c ≡ 16 }
     ensures lanes { HasLanes 16 result (found q.now a b c) }
-    ensures bytes { q.now.has_c ≡ true → (k : ℕ) → k < 16 → (found_by q.now.off a b k < 256) × (found_by q.now.on a b k < 256) }
+    ensures bytes { q.now.has_c ≡ true → (k : ℕ) → k < 16 →
+        (found_by q.now.off a b k < 256) × (found_by q.now.on a b k < 256) }
 {
     let off = look_up_half(&q.off, a, b);
     if q.has_c {
@@ -86,11 +87,13 @@ pub(crate) fn results(q: &Prepared, a: u8x16, b: u8x16, c: u8x16) -> Outputs
     requires b { length b ≡ 16 }
     requires c { length c ≡ 16 }
     ensures outputs { HasLanes 16 result.output (result_k q.now a (row_by 16 (found q.now a b c)) c) }
-    ensures carries { q.now.has_sums ≡ true → HasLanes 16 result.carries (carry_k q.now a (row_by 16 (found q.now a b c)) c) }
+    ensures carries { q.now.has_sums ≡ true →
+        HasLanes 16 result.carries (carry_k q.now a (row_by 16 (found q.now a b c)) c) }
     ensures long { length result.carries ≡ 16 }
     ensures operands { (k : ℕ) → k < 16 → (slice_index a k < 256) × (slice_index b k < 256) }
     ensures found { (k : ℕ) → k < 16 → found q.now a b c k < 256 }
-    ensures halves { q.now.has_c ≡ true → (k : ℕ) → k < 16 → (found_by q.now.off a b k < 256) × (found_by q.now.on a b k < 256) }
+    ensures halves { q.now.has_c ≡ true → (k : ℕ) → k < 16 →
+        (found_by q.now.off a b k < 256) × (found_by q.now.on a b k < 256) }
 {
     let x = look_up_all(q, a, b, c);
     let (sums, carries) = sum_all(q, a, x, c);

@@ -82,7 +82,8 @@ impl<'a, R: Files, W: Write + Drop> FileShelf<'a, R, W> {
     fn read(&mut self, name: &str, place: u64, buf: &mut [u8]) -> io::Result<usize>
         ensures bound { IfOk result (λ k. k ≤ length buf.new) }
         ensures faults { self.new.faults ≡ self.old.faults }
-        ensures read { IfOk result (λ k. IsReadOn R.File.remaining self.old.slots.items self.new.slots.items name.now place k (take k buf.new)) }
+        ensures read { IfOk result (λ k.
+            IsReadOn R.File.remaining self.old.slots.items self.new.slots.items name.now place k (take k buf.new)) }
     {
         let at = self.slot_of(name);
         let slot = take_out(self.alloc, &mut self.slots, at);

@@ -36,7 +36,8 @@ impl<W: Write + Drop> Gathering<W> {
     /// Takes a piece, or its first bytes.
     fn put(&mut self, bytes: &[u8]) -> io::Result<usize>
         ensures bound { IfOk result (λ k. k ≤ length bytes.now) }
-        ensures bytes { WriteAppends (writer_contents W.contents self.old.stream) (writer_contents W.contents self.new.stream) result bytes.now }
+        ensures bytes { WriteAppends (writer_contents W.contents self.old.stream)
+            (writer_contents W.contents self.new.stream) result bytes.now }
         ensures broken { self.old.is_broken ≡ true → IsErr result }
         ensures same { self.new.is_broken ≡ self.old.is_broken }
     {
@@ -48,7 +49,8 @@ impl<W: Write + Drop> Gathering<W> {
 
     /// Hands on what is gathered. Where that fails, the next results are refused.
     fn hand_on(&mut self)
-        ensures bytes { Keeps (writer_contents W.contents self.old.stream) (writer_contents W.contents self.new.stream) }
+        ensures bytes { Keeps (writer_contents W.contents self.old.stream)
+            (writer_contents W.contents self.new.stream) }
         ensures broken { self.old.is_broken ≡ true → self.new.is_broken ≡ true }
     {
         if !flush_once(&mut self.stream) {

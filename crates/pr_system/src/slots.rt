@@ -85,8 +85,10 @@ impl<F: Read + Drop> Slot<F> {
     fn read_on(&mut self, buf: &mut [u8]) -> io::Result<usize>
         ensures bound { IfOk result (λ k. k ≤ length buf.new) }
         ensures name { self.new.name ≡ self.old.name }
-        ensures bytes { IfOk result (λ k. (place : ℕ) → GaveFrom F.remaining self.old.opened self.new.opened place (take k buf.new)) }
-        ensures place { IfOk result (λ k. (place : ℕ) → IsOpenAt self.old place → IsOpenAt self.new (min (place + k) (2 ^ 64 - 1))) }
+        ensures bytes { IfOk result (λ k. (place : ℕ) →
+            GaveFrom F.remaining self.old.opened self.new.opened place (take k buf.new)) }
+        ensures place { IfOk result (λ k. (place : ℕ) → IsOpenAt self.old place →
+            IsOpenAt self.new (min (place + k) (2 ^ 64 - 1))) }
     {
         match &mut self.opened {
             Some(opened) => opened.read(buf),

@@ -43,7 +43,8 @@ pub fn flush_once<W: Write>(inner: &mut W) -> bool
 /// Writes some bytes of the piece, one at least, and says how many.
 fn write_once<W: Write>(inner: &mut W, bytes: &[u8]) -> Option<usize>
     ensures some { IfSome result (λ k. (0 < k) × (k ≤ length bytes.now)) }
-    ensures bytes { IfSome result (λ k. known.Appends (W.contents inner.old) (W.contents inner.new) (take k bytes.now)) }
+    ensures bytes { IfSome result (λ k.
+        known.Appends (W.contents inner.old) (W.contents inner.new) (take k bytes.now)) }
     ensures none { IfNone result (known.Keeps (W.contents inner.old) (W.contents inner.new)) }
 {
     for _ in 0..TRIES {
@@ -68,7 +69,8 @@ impl<W: Write> Sink for OutSink<W> {
         ensures bound { IfOk result (λ k. k ≤ length bytes.now) }
         ensures some { IfOk result (λ k. 0 < length bytes.now → 0 < k) }
         ensures empty { length bytes.now ≡ 0 → IsOk result }
-        ensures appended { IfOk result (λ k. Appends (record { bytes = None; keeps = 0 }) (record { bytes = None; keeps = 0 }) (take k bytes.now)) }
+        ensures appended { IfOk result (λ k.
+            Appends (record { bytes = None; keeps = 0 }) (record { bytes = None; keeps = 0 }) (take k bytes.now)) }
         ensures cause { OnErr result (Rose self.old.faults self.new.faults) }
         ensures later { self.old.faults ≤ self.new.faults }
 

@@ -73,7 +73,8 @@ fn two_files<'a>(mode: &str, first: &'a str, samples: &'a str) -> Option<Mode<'a
 
 /// The mode of this name on these files.
 fn mode_of<'a>(mode: &str, first: Option<&'a str>, second: Option<&'a str>) -> Option<Mode<'a>>
-    ensures { option_map mode_task result ≡ task_of mode.now (option_map (λ s. s.now) first.entry) (option_map (λ s. s.now) second.entry) }
+    ensures { option_map mode_task result ≡
+        task_of mode.now (option_map (λ s. s.now) first.entry) (option_map (λ s. s.now) second.entry) }
 {
     match (first, second) {
         (Some(file), None) => one_file(mode, file),
