@@ -1,6 +1,9 @@
 -- The number of each key is that of the first delay which has it.
-use Rattle.std.proofs.Common.{◌≡◌, ◌∙◌, ◌<◌, ◌≤◌, ℕ, zero, suc, ◌+◌, Bool, true, false, cond, ◌&&◌, nat_eq, List, [], ◌∷◌, ◌++◌, length, take, Option, Some, None, is_some, option_map, Vec, Global, refl, sym, ap, subst, arith, ⊎_elim, bytes_eq, eq-eqb, unwrap_or}
+use mathlib.Core.Path.{fun_ext}
+use Rattle.std.proofs.Common.{◌≡◌, ◌∙◌, ◌<◌, ◌≤◌, ℕ, zero, suc, ◌+◌, Bool, true, false, cond, ◌&&◌, nat_eq, List, [], ◌∷◌, ◌++◌, length, take, Option, Some, None, is_some, HashMap, refl, sym, ap, subst, arith, ⊎_elim, bytes_eq, eq-eqb, unwrap_or}
 use Rattle.std.specs.Cmp.Lexicographic.{bytes_decides, nat_list_eq_equiv}
+use Rattle.std.specs.HashMap.{UpdatesBy}
+use Rattle.std.specs.Map.{update}
 use Rattle.std.proofs.lemmas.Bool.{cases_Bool, cond-true, cond-false, eqb-true}
 use Rattle.pr_scope_names.specs.Names.{bind, unbind}
 use Rattle.pr_flat.specs.declared.equations.Equation.{Equation}
@@ -10,7 +13,7 @@ use Rattle.pr_flat.specs.declared.equations.Op.{Op}
 use Rattle.pr_flat.specs.declared.equations.Op.TheVariants.{Delay}
 use Rattle.pr_flat.specs.Shape.{EquationShape, equation_shape, shapes_of}
 use Rattle.pr_expand_spec.specs.Making.{Equations, declare_last, delay_from, is_delay_of, same_operand}
-use Rattle.pr_expand.specs.Keys.{Found, delay_key, is_number, key_in, with_key, without_key}
+use Rattle.pr_expand.specs.Keys.{Found, delay_key, found_in, is_number, key_in, with_key, without_key}
 
 swapped : (x y : Bool) → x && (y && true) ≡ y && x
 swapped true true = refl
@@ -195,17 +198,21 @@ take_less xs (suc k) zero h = absurd (omega (arith, h))
 take_less [] (suc k) (suc n) h = refl
 take_less (x ∷ xs) (suc k) (suc n) h = ap (λ (ys : List Equation). x ∷ ys) (take_less xs k n (omega (arith, h)))
 
-pub noted_is : (key : Option (Vec ℕ Global)) (k : Vec ℕ Global) (n : ℕ) (old now : Found) → key ≡ Some k → is_some (old k.items) ≡ false → now ≡ bind k.items n old → now ≡ with_key (option_map (λ (v : Vec ℕ Global). v.items) key) n old
+-- the table with something at one key
+pub found_updates : {S : Type 0} (key : List ℕ) (m n : HashMap (List ℕ) ℕ S) (w : Option ℕ) → UpdatesBy bytes_eq (bytes_eq key) m n w → found_in n ≡ (λ q. update bytes_eq (found_in m) key w q)
+found_updates key m n w h = fun_ext h.0
+
+pub noted_is : (key : Option (List ℕ)) (k : List ℕ) (n : ℕ) (old now : Found) → key ≡ Some k → is_some (old k) ≡ false → now ≡ bind k n old → now ≡ with_key key n old
 noted_is key k n old now is absent bound =
     bound ∙
-    (sym (ap (λ (b : Bool). cond b old (bind k.items n old)) absent) ∙
-    sym (ap (λ (o : Option (Vec ℕ Global)). with_key (option_map (λ (v : Vec ℕ Global). v.items) o) n old) is))
+    (sym (ap (λ (b : Bool). cond b old (bind k n old)) absent) ∙
+    sym (ap (λ (o : Option (List ℕ)). with_key o n old) is))
 
-pub forgotten_is : (key : Option (Vec ℕ Global)) (k : Vec ℕ Global) (n : ℕ) (old now : Found) → key ≡ Some k → is_number n (old k.items) ≡ true → now ≡ unbind k.items old → now ≡ without_key (option_map (λ (v : Vec ℕ Global). v.items) key) n old
+pub forgotten_is : (key : Option (List ℕ)) (k : List ℕ) (n : ℕ) (old now : Found) → key ≡ Some k → is_number n (old k) ≡ true → now ≡ unbind k old → now ≡ without_key key n old
 forgotten_is key k n old now is there unbound =
     unbound ∙
-    (sym (ap (λ (b : Bool). cond b (unbind k.items old) old) there) ∙
-    sym (ap (λ (o : Option (Vec ℕ Global)). without_key (option_map (λ (v : Vec ℕ Global). v.items) o) n old) is))
+    (sym (ap (λ (b : Bool). cond b (unbind k old) old) there) ∙
+    sym (ap (λ (o : Option (List ℕ)). without_key o n old) is))
 
 pub found_at : (found : Found) (es ds : List Equation) (e : Equation) → ((q : Operand) (c : ℕ) → found (delay_key q c) ≡ delay_from 0 (shapes_of ds) q c) → ds ≡ es ++ e ∷ [] → (q : Operand) (c : ℕ) → found (delay_key q c) ≡ delay_from 0 (shapes_of es ++ equation_shape e ∷ []) q c
 found_at found es ds e old is q c = old q c ∙ ap (λ (xs : Equations). delay_from 0 xs q c) (ap shapes_of is ∙ shapes_more es e)

@@ -1,5 +1,6 @@
 -- The keys by which delays are found.
-use Rattle.std.specs.Prelude.{ℕ, Bool, false, cond, nat_eq, List, [], ◌∷◌, Option, Some, None, is_some}
+use Rattle.std.specs.Prelude.{ℕ, Bool, false, bytes_eq, cond, nat_eq, List, [], ◌∷◌, Option, Some, None, is_some}
+use Rattle.std.specs.HashMap.{HashMap, get}
 use Rattle.pr_scope_names.specs.Names.{bind, unbind}
 use Rattle.pr_flat.specs.declared.equations.Operand.{Operand}
 use Rattle.pr_flat.specs.declared.equations.Operand.TheVariants.{Const, Eq, Past}
@@ -8,8 +9,8 @@ use Rattle.pr_flat.specs.declared.equations.Op.TheVariants.{Delay}
 
 -- an operand and the number before its first one, as numbers
 abbrev pub delay_key : Operand → ℕ → List ℕ
-delay_key (Const a) c = 0 ∷ a ∷ c ∷ []
-delay_key (Eq i) c = 1 ∷ i ∷ c ∷ []
+delay_key (Const a) c = 0 ∷ a ∷ 0 ∷ c ∷ []
+delay_key (Eq i) c = 1 ∷ i ∷ 0 ∷ c ∷ []
 delay_key (Past rec k) c = 2 ∷ rec ∷ k ∷ c ∷ []
 
 -- the key of an equation that is a delay
@@ -20,6 +21,9 @@ key_in op args = None
 -- the number of the delay of each key
 abbrev pub Found : Type 0
 Found = List ℕ → Option ℕ
+
+abbrev pub found_in : {S : Type 0} → HashMap (List ℕ) ℕ S → Found
+found_in m key = get bytes_eq m key
 
 abbrev pub is_number : ℕ → Option ℕ → Bool
 is_number n None = false

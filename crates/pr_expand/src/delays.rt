@@ -10,21 +10,16 @@ use crate::making::delay_of;
 use crate::stops::Stop;
 use pr_expand_spec::Given;
 use pr_flat::Operand;
-use std::alloc::{AllocError, Global};
+use std::alloc::Global;
 
 /// The number of the first delay of an operand after this number, and its key.
-fn find(
-    alloc: Global,
-    ledger: &Ledger,
-    operand: Operand,
-    init: u64,
-) -> Result<(Option<u32>, Vec<u64>), AllocError>
-    ensures number { IfOk result (λ found. found.0 ≡ delay_from 0 (shapes_in ledger.now) operand init) }
-    ensures key { IfOk result (λ found. found.1.items ≡ delay_key operand init) }
+fn find(ledger: &Ledger, operand: Operand, init: u64) -> (Option<u32>, [u64; 4])
+    ensures number { result.0 ≡ delay_from 0 (shapes_in ledger.now) operand init }
+    ensures key { result.1 ≡ delay_key operand init }
 {
-    let key = key_numbers(alloc, operand, init)?;
-    let number = ledger.delays.get(key.as_slice()).copied();
-    Ok((number, key))
+    let key = key_numbers(operand, init);
+    let number = ledger.delays.get(&key).copied();
+    (number, key)
 }
 
 /// One sample earlier.
@@ -32,7 +27,7 @@ fn delay_once(alloc: Global, ledger: Ledger, operand: Operand, init: u64) -> Res
     ensures value { IfOk result (λ m. made_of m ≡ delayed_once operand init (shapes_in ledger)) }
     ensures limit { IfErr result (λ s. IsPast s (delayed_once operand init (shapes_in ledger)).equations) }
 {
-    let (found, key) = find(alloc, &ledger, operand, init)?;
+    let (found, key) = find(&ledger, operand, init);
     match found {
         Some(number) => Ok(Made {
             ledger,

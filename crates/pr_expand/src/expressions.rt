@@ -622,7 +622,7 @@ fn settle(
     if counted.number as usize <= made.ledger.equations.len() {
         return Ok(made);
     }
-    let ledger = cut(alloc, made.ledger, counted.first)?;
+    let ledger = cut(made.ledger, counted.first);
     make_body(alloc, items, statics, env, ledger, &counted.body)
 }
 
@@ -649,7 +649,7 @@ fn make_rec(
     env.set(alloc, &stmt.target.name, at, Standing::Own(0))?;
     let counted = make_body(alloc, items, statics, &env, ledger, &stmt.body)?;
     let number = counted.ledger.equations.len() as u32;
-    let ledger = cut(alloc, counted.ledger, first)?;
+    let ledger = cut(counted.ledger, first);
     env.set(alloc, &stmt.target.name, at, Standing::Own(number))?;
     let made = make_body(alloc, items, statics, &env, ledger, &stmt.body)?;
     env.set(alloc, &stmt.target.name, at, Standing::Own(0))?;

@@ -1,27 +1,26 @@
 //! The equations so far.
-ghost use Rattle.std.specs.Prelude.{◌≡◌, ℕ, ◌≤◌, ◌-◌, [], vec_len, IfOk, take};
+ghost use Rattle.std.specs.Prelude.{◌≡◌, ℕ, ◌≤◌, ◌-◌, [], vec_len, take};
 ghost use Rattle.std.proofs.Props.{props};
-ghost use Rattle.pr_scope_names.specs.Names.{at_name};
 ghost use Rattle.pr_flat.specs.declared.equations.Operand.{Operand};
 ghost use Rattle.pr_flat.specs.Shape.{shapes_of};
 ghost use Rattle.pr_expand_spec.specs.Making.{delay_from};
-ghost use Rattle.pr_expand.specs.Keys.{delay_key};
+ghost use Rattle.pr_expand.specs.Keys.{delay_key, found_in};
 
 use crate::environment::Environment;
 use crate::keys::{forgotten, key_of};
 use pr_expand_spec::Given;
 use pr_flat::{Equation, Operand};
-use std::alloc::{AllocError, Global};
-use std::collections::BTreeMap;
+use std::alloc::Global;
+use std::collections::HashMap;
 
 /// The equations so far, in order, and the first delay of each operand after each number.
 #[derive(Drop)]
 pub struct Ledger {
     pub equations: Vec<Equation>,
-    pub delays: BTreeMap<Vec<u64>, u32>,
+    pub delays: HashMap<[u64; 4], u32>,
     pub ghost few: { vec_len equations ≤ 16384 },
     pub ghost found: { (q : Operand) (c : ℕ)
-        → at_name delays (delay_key q c) ≡ delay_from 0 (shapes_of equations.items) q c } by { Prim.hlevel props },
+        → found_in delays (delay_key q c) ≡ delay_from 0 (shapes_of equations.items) q c } by { Prim.hlevel props },
 }
 
 /// What comes of an expression: the equations with its own, and its operand.
@@ -59,38 +58,38 @@ pub fn no_equations(alloc: Global) -> Ledger
 {
     Ledger {
         equations: Vec::new(alloc),
-        delays: BTreeMap::new(alloc),
+        delays: HashMap::new(alloc),
     }
 }
 
 /// The equations but for the last one.
-fn without_last(alloc: Global, ledger: Ledger) -> Result<Ledger, AllocError>
-    ensures equations { IfOk result (λ l. l.equations.items
-        ≡ take (vec_len ledger.equations - 1) ledger.equations.items) }
-    ensures count { IfOk result (λ l. vec_len l.equations ≡ vec_len ledger.equations - 1) }
+fn without_last(ledger: Ledger) -> Ledger
+    ensures equations { result.equations.items ≡ take (vec_len ledger.equations - 1) ledger.equations.items }
+    ensures count { vec_len result.equations ≡ vec_len ledger.equations - 1 }
 {
     let Ledger {
         mut equations,
         delays,
     } = ledger;
     match equations.pop() {
-        None => Ok(Ledger { equations, delays }),
+        None => {
+            return Ledger { equations, delays };
+        }
         Some(last) => {
-            let key = key_of(alloc, &last)?;
             let number = equations.len() as u32;
-            let delays = forgotten(delays, key, number);
-            Ok(Ledger { equations, delays })
+            let delays = forgotten(delays, key_of(&last), number);
+            return Ledger { equations, delays };
         }
     }
 }
 
 /// The first equations, so many.
-pub fn cut(alloc: Global, ledger: Ledger, count: usize) -> Result<Ledger, AllocError>
-    ensures { IfOk result (λ l. l.equations.items ≡ take count ledger.equations.items) }
+pub fn cut(ledger: Ledger, count: usize) -> Ledger
+    ensures { result.equations.items ≡ take count ledger.equations.items }
 {
     let mut ledger = ledger;
     'shorter: while ledger.equations.len() > count {
-        ledger = without_last(alloc, ledger)?;
+        ledger = without_last(ledger);
     }
-    Ok(ledger)
+    ledger
 }

@@ -1,5 +1,5 @@
 //! Equations that are made one after the other.
-ghost use Rattle.std.specs.Prelude.{◌≡◌, ◌++◌, [], ◌∷◌, false, IfErr, IfOk, Some, None, option_map};
+ghost use Rattle.std.specs.Prelude.{◌≡◌, ◌++◌, [], ◌∷◌, false, IfErr, IfOk, None};
 ghost use Rattle.pr_flat.specs.Shape.{equation_shape};
 ghost use Rattle.pr_expand_spec.specs.Making.{declare_last, delay_step, fitted, form_of_kind};
 ghost use Rattle.pr_expand_spec.specs.Making.{is_signed, kinds_read, with_equation};
@@ -20,10 +20,10 @@ use std::alloc::{AllocError, Global};
 fn push_keyed(
     ledger: Ledger,
     equation: Equation,
-    key: Option<Vec<u64>>,
+    key: Option<[u64; 4]>,
     signed: bool,
 ) -> Result<Made, Stop>
-    requires { option_map (λ v. v.items) key ≡ key_in equation.op equation.args.items }
+    requires { key ≡ key_in equation.op equation.args.items }
     ensures value { IfOk result (λ m. made_of m ≡ added (equation_shape equation) signed (shapes_in ledger)) }
     ensures limit { IfErr result (λ s. IsPast s (shapes_in ledger ++ equation_shape equation ∷ [])) }
 {
@@ -49,11 +49,11 @@ fn push_keyed(
 }
 
 /// One equation more.
-fn push(alloc: Global, ledger: Ledger, equation: Equation, signed: bool) -> Result<Made, Stop>
+fn push(ledger: Ledger, equation: Equation, signed: bool) -> Result<Made, Stop>
     ensures value { IfOk result (λ m. made_of m ≡ added (equation_shape equation) signed (shapes_in ledger)) }
     ensures limit { IfErr result (λ s. IsPast s (shapes_in ledger ++ equation_shape equation ∷ [])) }
 {
-    let key = key_of(alloc, &equation)?;
+    let key = key_of(&equation);
     push_keyed(ledger, equation, key, signed)
 }
 
@@ -154,7 +154,7 @@ pub fn input(alloc: Global, ledger: Ledger, width: u8) -> Result<Made, Stop>
         declared: Some(width),
         kinds: Vec::new(alloc),
     };
-    push(alloc, ledger, equation, false)
+    push(ledger, equation, false)
 }
 
 /// An operation on one operand.
@@ -170,7 +170,7 @@ pub fn one(
 {
     let kind = kind_of_one(op, a.signed);
     let equation = on_one(alloc, op, a.operand, declared, kind)?;
-    push(alloc, ledger, equation, signed_of_one(op, kind))
+    push(ledger, equation, signed_of_one(op, kind))
 }
 
 /// A delay of an operand after a number, of which this is the key.
@@ -179,9 +179,9 @@ pub fn delay_of(
     ledger: Ledger,
     operand: Operand,
     init: u64,
-    key: Vec<u64>,
+    key: [u64; 4],
 ) -> Result<Made, Stop>
-    requires { key.items ≡ delay_key operand init }
+    requires { key ≡ delay_key operand init }
     ensures value { IfOk result (λ m. made_of m ≡ delay_step None operand init (shapes_in ledger)) }
     ensures limit { IfErr result (λ s. IsPast s (delay_step None operand init (shapes_in ledger)).equations) }
 {
@@ -215,7 +215,7 @@ pub fn two(alloc: Global, ledger: Ledger, op: Op, a: Given, b: Given) -> Result<
 {
     let (first, second) = kinds_of_two(op, a.signed, b.signed);
     let equation = on_two(alloc, op, a.operand, b.operand, first, second)?;
-    push(alloc, ledger, equation, signed_of_two(op, first, second))
+    push(ledger, equation, signed_of_two(op, first, second))
 }
 
 /// The first of two operands where the condition is 1, and else the second.
@@ -225,7 +225,7 @@ pub fn choose(alloc: Global, ledger: Ledger, c: Given, a: Given, b: Given) -> Re
         (with_equation Op.Choose (c ∷ a ∷ b ∷ []) None (shapes_in ledger)).equations) }
 {
     let equation = on_three(alloc, c.operand, a.operand, b.operand, a.signed, b.signed)?;
-    push(alloc, ledger, equation, a.signed || b.signed)
+    push(ledger, equation, a.signed || b.signed)
 }
 
 /// The same operand, under a declared width.

@@ -12,7 +12,7 @@ use Rattle.pr_expand_spec.specs.Statements.{Progress, changes_of, number_after, 
 use Rattle.pr_scope_facts.proofs.Appending.{appends-length, assigned-appends, body-appends}
 use Rattle.pr_expand.specs.Code.{IsPast, all_of, longer, made_of, progress_of, shapes_in, streams_in}
 use Rattle.pr_expand.specs.Scopes.{functions_before, visible_in}
-use Rattle.pr_expand.proofs.Callables.{called_is, callee_known, entered}
+use Rattle.pr_expand.proofs.Callables.{called_is, callee_known, entered, signed_is}
 use Rattle.pr_expand.proofs.Layers.{call_is, cat_is, for_is, parts_step, shift_is, stmts_step, three_is, turns_step, two_is}
 use Rattle.pr_expand.proofs.Limits.{args_within, assigned_within, begun_within, chosen_within, condition_within, first_within, operator_within, other_within, part_within, parts_within, passed_on, same_long, second_within, stmt_within, turn_within}
 use Rattle.pr_expand.proofs.Recurrences.{body_as, body_within, counted_as, counted_number, counted_within, cut_shapes, longer_counted, rec_as, rec_last, shapes_cut, stands_as, stands_within, twice}
@@ -185,9 +185,9 @@ make_rec-returns-clause-value t c =
     let counts = counted_as v name width e begun p at declared (streams_in c.set.new.self) (made_of c.in_ok-counted.counted) c.place_at-at.ensures refl c.in_ok-set.ensures.stands c.in_ok-counted.ensures.value in
     let length_is = counted_number c.in_ok-counted.counted.ledger.equations.items c.len-number.result (omega arith) in
     let first_is = counted_number c.args.begun.ledger.equations.items c.len-first.result (omega arith) in
-    let start = cut_shapes c.in_ok-ledger.ledger.equations.items c.in_ok-counted.counted.ledger.equations.items c.args.begun.ledger.equations.items c.len-first.result (omega arith) c.in_ok-ledger.ensures in
+    let start = cut_shapes c.cut-ledger.result.equations.items c.in_ok-counted.counted.ledger.equations.items c.args.begun.ledger.equations.items c.len-first.result (omega arith) c.cut-ledger.ensures in
     let kept = visible_kept items s c.make_body.new.statics c.in_ok-counted.ensures.names in
-    let body = body_as v (visible_in items c.make_body.new.statics) name width e begun p at declared c.len-number.result (streams_in c.set.new.self) (streams_in c.set-2.new.self) (made_of c.in_ok-counted.counted) (made_of c.in_ok-made.made) (shapes_in c.in_ok-ledger.ledger) grown.more c.place_at-at.ensures refl c.in_ok-set.ensures.stands c.in_ok-counted.ensures.value length_is start c.in_ok-set-2.ensures.stands kept c.in_ok-made.ensures.value grown.is in
+    let body = body_as v (visible_in items c.make_body.new.statics) name width e begun p at declared c.len-number.result (streams_in c.set.new.self) (streams_in c.set-2.new.self) (made_of c.in_ok-counted.counted) (made_of c.in_ok-made.made) (shapes_in c.cut-ledger.result) grown.more c.place_at-at.ensures refl c.in_ok-set.ensures.stands c.in_ok-counted.ensures.value length_is start c.in_ok-set-2.ensures.stands kept c.in_ok-made.ensures.value grown.is in
     let again = body-appends v (scene_appends items s c.requires) name p width e n begun in
     let number_is : c.len-number.result ≡ n = length_is ∙ ap (λ (m : Made). length m.equations) counts in
     let one : streams_in c.set.new.self ≡ with_standing name p (Own 0) begun.streams = c.in_ok-set.ensures.stands ∙ (λ i. with_standing name (c.place_at-at.ensures i) (Own 0) begun.streams) in
@@ -227,10 +227,10 @@ make_rec-returns-in_err-made-clause-limit t c =
     let counts = counted_as v name width e begun p at declared (streams_in c.set.new.self) (made_of c.in_ok-counted.counted) c.place_at-at.ensures refl c.in_ok-set.ensures.stands c.in_ok-counted.ensures.value in
     let length_is = counted_number c.in_ok-counted.counted.ledger.equations.items c.len-number.result (omega arith) in
     let first_is = counted_number c.args.begun.ledger.equations.items c.len-first.result (omega arith) in
-    let start = cut_shapes c.in_ok-ledger.ledger.equations.items c.in_ok-counted.counted.ledger.equations.items c.args.begun.ledger.equations.items c.len-first.result (omega arith) c.in_ok-ledger.ensures in
+    let start = cut_shapes c.cut-ledger.result.equations.items c.in_ok-counted.counted.ledger.equations.items c.args.begun.ledger.equations.items c.len-first.result (omega arith) c.cut-ledger.ensures in
     let kept = visible_kept items s c.make_body.new.statics c.in_ok-counted.ensures.names in
     passed_on c.from_residual-in_err-made.result c.in_err-made.field-0.0 _ _ c.from_residual-in_err-made.ensures.1
-    (body_within v c.args.stmt.now.target.now width c.args.stmt.now.init.now e begun _ (body_as v (visible_in items c.make_body.new.statics) name width e begun p at declared c.len-number.result (streams_in c.set.new.self) (streams_in c.set-2.new.self) (made_of c.in_ok-counted.counted) _ (shapes_in c.in_ok-ledger.ledger) grown.more c.place_at-at.ensures refl c.in_ok-set.ensures.stands c.in_ok-counted.ensures.value length_is start c.in_ok-set-2.ensures.stands kept refl grown.is))
+    (body_within v c.args.stmt.now.target.now width c.args.stmt.now.init.now e begun _ (body_as v (visible_in items c.make_body.new.statics) name width e begun p at declared c.len-number.result (streams_in c.set.new.self) (streams_in c.set-2.new.self) (made_of c.in_ok-counted.counted) _ (shapes_in c.cut-ledger.result) grown.more c.place_at-at.ensures refl c.in_ok-set.ensures.stands c.in_ok-counted.ensures.value length_is start c.in_ok-set-2.ensures.stands kept refl grown.is))
     c.in_err-made.ensures.limit
 
 pub make_rec-returns-in_err-made-2-clause-limit : goal.make_rec-returns-in_err-made-2-clause-limit
@@ -250,9 +250,9 @@ make_rec-returns-in_err-made-2-clause-limit t c =
     let counts = counted_as v name width e begun p at declared (streams_in c.set.new.self) (made_of c.in_ok-counted.counted) c.place_at-at.ensures refl c.in_ok-set.ensures.stands c.in_ok-counted.ensures.value in
     let length_is = counted_number c.in_ok-counted.counted.ledger.equations.items c.len-number.result (omega arith) in
     let first_is = counted_number c.args.begun.ledger.equations.items c.len-first.result (omega arith) in
-    let start = cut_shapes c.in_ok-ledger.ledger.equations.items c.in_ok-counted.counted.ledger.equations.items c.args.begun.ledger.equations.items c.len-first.result (omega arith) c.in_ok-ledger.ensures in
+    let start = cut_shapes c.cut-ledger.result.equations.items c.in_ok-counted.counted.ledger.equations.items c.args.begun.ledger.equations.items c.len-first.result (omega arith) c.cut-ledger.ensures in
     let kept = visible_kept items s c.make_body.new.statics c.in_ok-counted.ensures.names in
-    let body = body_as v (visible_in items c.make_body.new.statics) name width e begun p at declared c.len-number.result (streams_in c.set.new.self) (streams_in c.set-2.new.self) (made_of c.in_ok-counted.counted) (made_of c.in_ok-made.made) (shapes_in c.in_ok-ledger.ledger) grown.more c.place_at-at.ensures refl c.in_ok-set.ensures.stands c.in_ok-counted.ensures.value length_is start c.in_ok-set-2.ensures.stands kept c.in_ok-made.ensures.value grown.is in
+    let body = body_as v (visible_in items c.make_body.new.statics) name width e begun p at declared c.len-number.result (streams_in c.set.new.self) (streams_in c.set-2.new.self) (made_of c.in_ok-counted.counted) (made_of c.in_ok-made.made) (shapes_in c.cut-ledger.result) grown.more c.place_at-at.ensures refl c.in_ok-set.ensures.stands c.in_ok-counted.ensures.value length_is start c.in_ok-set-2.ensures.stands kept c.in_ok-made.ensures.value grown.is in
     let again = body-appends v (scene_appends items s c.requires) name p width e n begun in
     let number_is : c.len-number.result ≡ n = length_is ∙ ap (λ (m : Made). length m.equations) counts in
     let one : streams_in c.set.new.self ≡ with_standing name p (Own 0) begun.streams = c.in_ok-set.ensures.stands ∙ (λ i. with_standing name (c.place_at-at.ensures i) (Own 0) begun.streams) in
@@ -279,9 +279,9 @@ make_rec-returns-in_err-made-3-clause-limit t c =
     let counts = counted_as v name width e begun p at declared (streams_in c.set.new.self) (made_of c.in_ok-counted.counted) c.place_at-at.ensures refl c.in_ok-set.ensures.stands c.in_ok-counted.ensures.value in
     let length_is = counted_number c.in_ok-counted.counted.ledger.equations.items c.len-number.result (omega arith) in
     let first_is = counted_number c.args.begun.ledger.equations.items c.len-first.result (omega arith) in
-    let start = cut_shapes c.in_ok-ledger.ledger.equations.items c.in_ok-counted.counted.ledger.equations.items c.args.begun.ledger.equations.items c.len-first.result (omega arith) c.in_ok-ledger.ensures in
+    let start = cut_shapes c.cut-ledger.result.equations.items c.in_ok-counted.counted.ledger.equations.items c.args.begun.ledger.equations.items c.len-first.result (omega arith) c.cut-ledger.ensures in
     let kept = visible_kept items s c.make_body.new.statics c.in_ok-counted.ensures.names in
-    let body = body_as v (visible_in items c.make_body.new.statics) name width e begun p at declared c.len-number.result (streams_in c.set.new.self) (streams_in c.set-2.new.self) (made_of c.in_ok-counted.counted) (made_of c.in_ok-made.made) (shapes_in c.in_ok-ledger.ledger) grown.more c.place_at-at.ensures refl c.in_ok-set.ensures.stands c.in_ok-counted.ensures.value length_is start c.in_ok-set-2.ensures.stands kept c.in_ok-made.ensures.value grown.is in
+    let body = body_as v (visible_in items c.make_body.new.statics) name width e begun p at declared c.len-number.result (streams_in c.set.new.self) (streams_in c.set-2.new.self) (made_of c.in_ok-counted.counted) (made_of c.in_ok-made.made) (shapes_in c.cut-ledger.result) grown.more c.place_at-at.ensures refl c.in_ok-set.ensures.stands c.in_ok-counted.ensures.value length_is start c.in_ok-set-2.ensures.stands kept c.in_ok-made.ensures.value grown.is in
     let again = body-appends v (scene_appends items s c.requires) name p width e n begun in
     let number_is : c.len-number.result ≡ n = length_is ∙ ap (λ (m : Made). length m.equations) counts in
     let one : streams_in c.set.new.self ≡ with_standing name p (Own 0) begun.streams = c.in_ok-set.ensures.stands ∙ (λ i. with_standing name (c.place_at-at.ensures i) (Own 0) begun.streams) in
@@ -549,9 +549,9 @@ settle-returns-clause-value t c =
     let v = visible_in c.args.items.now c.args.statics.now in
     let made_on : List EquationShape → Made = λ es. declared_at_operator (plan_of c.args.counted.now.body.expr.now).is_operator (lawful c.args.counted.now.body.width) ((plan_of c.args.counted.now.body.expr.now).making v (streams_in c.args.env.now) es) in
     let es = c.args.made.ledger.equations.items in
-    let cut_is = shapes_cut c.in_ok-ledger.ledger.equations.items es c.args.counted.now.first c.in_ok-ledger.ensures in
+    let cut_is = shapes_cut c.cut-ledger.result.equations.items es c.args.counted.now.first c.cut-ledger.ensures in
     let less : c.len.result < c.args.counted.now.number = omega (arith, c.if-counted-len.false) in
-    let is : made_on (shapes_in c.in_ok-ledger.ledger) ≡ longer c.args.counted.now.number (made_on (take c.args.counted.now.first (shapes_in c.args.made.ledger))) (made_of c.args.made) = ap made_on cut_is ∙ sym (longer_counted c.args.counted.now.number c.len.result (made_on (take c.args.counted.now.first (shapes_of es))) es c.args.made.given less (omega arith)) in
+    let is : made_on (shapes_in c.cut-ledger.result) ≡ longer c.args.counted.now.number (made_on (take c.args.counted.now.first (shapes_in c.args.made.ledger))) (made_of c.args.made) = ap made_on cut_is ∙ sym (longer_counted c.args.counted.now.number c.len.result (made_on (take c.args.counted.now.first (shapes_of es))) es c.args.made.given less (omega arith)) in
     subst (λ (x : Made). IfOk c.make_body.result (λ m. made_of m ≡ x)) is c.make_body.ensures.value
 
 pub settle-returns-clause-limit : goal.settle-returns-clause-limit
@@ -559,7 +559,28 @@ settle-returns-clause-limit t c =
     let v = visible_in c.args.items.now c.args.statics.now in
     let made_on : List EquationShape → Made = λ es. declared_at_operator (plan_of c.args.counted.now.body.expr.now).is_operator (lawful c.args.counted.now.body.width) ((plan_of c.args.counted.now.body.expr.now).making v (streams_in c.args.env.now) es) in
     let es = c.args.made.ledger.equations.items in
-    let cut_is = shapes_cut c.in_ok-ledger.ledger.equations.items es c.args.counted.now.first c.in_ok-ledger.ensures in
+    let cut_is = shapes_cut c.cut-ledger.result.equations.items es c.args.counted.now.first c.cut-ledger.ensures in
     let less : c.len.result < c.args.counted.now.number = omega (arith, c.if-counted-len.false) in
-    let is : made_on (shapes_in c.in_ok-ledger.ledger) ≡ longer c.args.counted.now.number (made_on (take c.args.counted.now.first (shapes_in c.args.made.ledger))) (made_of c.args.made) = ap made_on cut_is ∙ sym (longer_counted c.args.counted.now.number c.len.result (made_on (take c.args.counted.now.first (shapes_of es))) es c.args.made.given less (omega arith)) in
+    let is : made_on (shapes_in c.cut-ledger.result) ≡ longer c.args.counted.now.number (made_on (take c.args.counted.now.first (shapes_in c.args.made.ledger))) (made_of c.args.made) = ap made_on cut_is ∙ sym (longer_counted c.args.counted.now.number c.len.result (made_on (take c.args.counted.now.first (shapes_of es))) es c.args.made.given less (omega arith)) in
     subst (λ (x : Made). IfErr c.make_body.result (λ s. IsPast s x.equations)) is c.make_body.ensures.limit
+
+pub call-returns-in-None-item-clause-value : goal.call-returns-in-None-item-clause-value
+call-returns-in-None-item-clause-value t c =
+    let known = callee_known (known_in c.args.statics.now c.args.name.now) c.in-Some.callee c.in-Some.ensures.value in
+    c.signed.ensures ∙ signed_is c.args.items.now c.args.statics.now c.args.name.now c.in-Some.callee (all_of c.args.all) known c.in-None-item.is c.requires
+
+pub call-returns-in_err-made-in-Some-item-clause-limit : goal.call-returns-in_err-made-in-Some-item-clause-limit
+call-returns-in_err-made-in-Some-item-clause-limit t c =
+    let known = callee_known (known_in c.args.statics.now c.args.name.now) c.in-Some.callee c.in-Some.ensures.value in
+    let is = called_is c.args.items.now c.args.statics.now c.enter-frame.new.self c.args.name.now c.in-Some.callee c.in-Some-item.item _ (all_of c.args.all) known c.in-Some-item.is c.enter-frame.ensures.inside c.enter-frame.ensures.known c.requires c.item_at.ensures in
+    let long = ap (λ (m : Made). length m.equations) is in
+    passed_on c.from_residual.result c.in_err-made-in-Some-item.field-0.0 _ _ c.from_residual.ensures.1 (omega (arith, long)) c.in_err-made-in-Some-item.ensures.limit
+
+pub make_rec-returns-clause-limit : goal.make_rec-returns-clause-limit
+make_rec-returns-clause-limit t c = c.stands.ensures.limit _
+
+pub make_stmt-returns-in-For-clause-value : goal.make_stmt-returns-in-For-clause-value
+make_stmt-returns-in-For-clause-value t c =
+    let v = visible_in c.args.items.now c.args.statics.now in
+    let e = for_is c.args.stmt.now c.in-For.index c.in-For.low c.in-For.high c.in-For.body c.deref.result.now v (progress_of c.args.begun) c.value_of-from.result c.value_of-to.result c.in-For.is c.deref.ensures.value c.value_of-from.ensures c.value_of-to.ensures in
+    subst (λ (z : Progress). IfOk c.make_turns.result (λ p. progress_of p ≡ z)) (sym e) c.make_turns.ensures.value
