@@ -1,17 +1,17 @@
 -- What is put in a table of instances.
 use mathlib.Core.Path.{fun_ext}
-use Rattle.std.proofs.Common.{◌≡◌, ◌∙◌, ℕ, Bool, true, false, cond, ◌||◌, ◌&&◌, List, Option, None, Some, Vec, Global, BTreeMap, is_some, option_map, refl, sym, ap, nat_cmp, bytes_eq}
-use Rattle.std.specs.Cmp.Lexicographic.{slice_cmp, bytes_decides}
-use Rattle.std.specs.BTreeMap.{UpdatesBy}
+use Rattle.std.proofs.Common.{◌≡◌, ◌∙◌, ℕ, Bool, true, false, cond, ◌||◌, ◌&&◌, List, Option, None, Some, Vec, Global, HashMap, is_some, option_map, refl, sym, ap, bytes_eq}
+use Rattle.std.specs.Cmp.Lexicographic.{bytes_decides}
+use Rattle.std.specs.HashMap.{UpdatesBy}
 use Rattle.pr_scope_names.specs.declared.instances.Places.{Places}
-use Rattle.pr_scope_names.specs.Names.{ByInstance, are_there, at_name, bind, held, placed, placed_in, put_at, same_place, with_instance, with_place}
-use Rattle.pr_scope_names.proofs.Maps.{at_name_updates, bound-same, read_of, read_updates}
+use Rattle.pr_scope_names.specs.Names.{ByInstance, are_there, at_hash, bind, held, placed, placed_in, put_at, same_place, with_instance, with_place}
+use Rattle.pr_scope_names.proofs.Maps.{at_hash_updates, bound-same, read_of, read_updates}
 
 -- the instances of a name are written
-pub written : {X : Type 0} (key name : List ℕ) (m n : BTreeMap (Vec ℕ Global) (Places X)) (now : Places X) → key ≡ name → UpdatesBy (λ x y. slice_cmp nat_cmp x.items y.items) (λ k. slice_cmp nat_cmp key k.items) m n (Some now) → read_of placed_in (at_name n) ≡ bind name (placed_in now) (read_of placed_in (at_name m))
+pub written : {X S : Type 0} (key name : List ℕ) (m n : HashMap (Vec ℕ Global) (Places X) S) (now : Places X) → key ≡ name → UpdatesBy (λ x y. bytes_eq x.items y.items) (λ k. bytes_eq key k.items) m n (Some now) → read_of placed_in (at_hash n) ≡ bind name (placed_in now) (read_of placed_in (at_hash m))
 written {X} key name m n now same h =
-    read_updates placed_in (at_name m) (at_name n) key (Some now) (at_name_updates key m n (Some now) h)
-    ∙ ap (λ (k : List ℕ). bind k (placed_in now) (read_of placed_in (at_name m))) same
+    read_updates placed_in (at_hash m) (at_hash n) key (Some now) (at_hash_updates key m n (Some now) h)
+    ∙ ap (λ (k : List ℕ). bind k (placed_in now) (read_of placed_in (at_hash m))) same
 
 -- a name is put with its instances, one of which is new or changed
 pub put-instance : {X : Type 0} (name : List ℕ) (place : Option ℕ) (x : X) (s t : ByInstance X) (was : Option (Option ℕ → Option X)) (now : Option ℕ → Option X) → s name ≡ was → t ≡ bind name now s → ((q : Option ℕ) → now q ≡ put_at place x (placed was) q) → t ≡ with_instance name place x s

@@ -4,6 +4,7 @@ use Rattle.std.specs.Ordering.{nat_cmp}
 use Rattle.std.specs.Cmp.Lexicographic.{slice_cmp}
 use Rattle.std.specs.Map.{update}
 use Rattle.std.specs.BTreeMap.{BTreeMap, get_by}
+use Rattle.std.specs.HashMap as hash
 use Rattle.std.specs.declared.alloc.Global.{Global}
 use Rattle.pr_scope_names.specs.declared.rules.Rule.TheVariants.{Introduced}
 use Rattle.pr_scope_names.specs.declared.rules.Offence.{Offence}
@@ -134,10 +135,14 @@ with_instance name place x s = bind name (put_at place x (placed (s name))) s
 
 abbrev pub placed_in : {X : Type 0} → Places X → Option ℕ → Option X
 placed_in p None = p.alone
-placed_in p (Some n) = get_by (nat_cmp n) p.indexed
+placed_in p (Some n) = hash.get_by (nat_eq n) p.indexed
+
+-- what a table that finds by hashes has at a name
+abbrev pub at_hash : {X S : Type 0} → hash.HashMap (Vec ℕ Global) X S → List ℕ → Option X
+at_hash m name = hash.get_by (λ k. bytes_eq name k.items) m
 
 abbrev pub instances_in : {X : Type 0} → Instances X → ByInstance X
-instances_in s name = option_map placed_in (at_name s.map name)
+instances_in s name = option_map placed_in (at_hash s.map name)
 
 abbrev pub are_there : {X : Type 0} → (Option ℕ → Option X) → Option ℕ → Bool
 are_there places place = is_some (places place)

@@ -4,13 +4,13 @@ ghost use Rattle.pr_scope_names.specs.Names.{instances_in, placed, placed_in, pu
 
 use pr_lang::Name;
 use std::alloc::{AllocError, Global};
-use std::collections::BTreeMap;
+use std::collections::HashMap;
 
 /// The instances of one name: alone, and by index.
 #[derive(Drop)]
 pub struct Places<T> {
     alone: Option<T>,
-    indexed: BTreeMap<u64, T>,
+    indexed: HashMap<u64, T>,
 }
 
 impl<T: Drop> Places<T> {
@@ -19,7 +19,7 @@ impl<T: Drop> Places<T> {
     {
         Places {
             alone: None,
-            indexed: BTreeMap::new(alloc),
+            indexed: HashMap::new(alloc),
         }
     }
 
@@ -49,7 +49,7 @@ impl<T: Drop> Places<T> {
 /// What each name stands for, alone and with each index.
 #[derive(Drop)]
 pub struct Instances<T> {
-    map: BTreeMap<Vec<u8>, Places<T>>,
+    map: HashMap<Vec<u8>, Places<T>>,
 }
 
 impl<T: Drop> Instances<T> {
@@ -58,7 +58,7 @@ impl<T: Drop> Instances<T> {
         ensures { instances_in result ≡ (λ _. None) }
     {
         Instances {
-            map: BTreeMap::new(alloc),
+            map: HashMap::new(alloc),
         }
     }
 

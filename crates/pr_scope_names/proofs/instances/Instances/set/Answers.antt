@@ -1,6 +1,6 @@
 use Rattle.std.proofs.Common.{◌≡◌, ◌∙◌, ℕ, List, Some, option_map, ap, sym, subst, rules}
 use Rattle.std.proofs.lemmas.Result.{on_ok_weaker, on_err_weaker}
-use Rattle.pr_scope_names.specs.Names.{at_name, instances_in, placed_in}
+use Rattle.pr_scope_names.specs.Names.{at_hash, instances_in, placed_in}
 use Rattle.pr_scope_names.proofs.Maps.{read_of}
 use Rattle.pr_scope_names.proofs.Placing.{put-instance, put-same, written}
 use Rattle.pr_scope_names.proofs.instances.Instances.set.Goals as goal
@@ -21,4 +21,4 @@ returns-in-Some-clause-same g c =
 
 pub returns-in-None-clause-same : goal.returns-in-None-clause-same
 returns-in-None-clause-same g c =
-    on_err_weaker c.begin.result (λ e. e ∙ ap (λ m. read_of placed_in (at_name m)) c.get_mut.follows.holds-at-none) c.begin.ensures.same
+    on_err_weaker c.begin.result (λ e. e ∙ ap (λ m. read_of placed_in (at_hash m)) c.get_mut.follows.holds-at-none) c.begin.ensures.same
