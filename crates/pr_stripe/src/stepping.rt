@@ -15,6 +15,7 @@ impl<const N: usize, const P: usize> Stripe<N, P, Live> {
     ghost use Rattle.pr_stripe_prepared.specs.Prepared.{IsPrepared};
 
     /// One cycle of the stage, as `compute`, by the rows that were prepared of it where there are some.
+    #[inline(always)]
     pub fn compute_prepared(
         &mut self,
         prev: &Row<N, P>,

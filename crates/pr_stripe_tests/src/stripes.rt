@@ -223,3 +223,27 @@ fn a_filter_adds_with_the_carry(rt: HostRuntime) -> Result<(), Fail> {
     check_shown(&rt, &stripe, Some(registers));
     Ok(())
 }
+
+/// A stripe that takes another stage in place leaves its state in the store, and shows a bubble.
+#[test]
+fn a_stripe_takes_another_stage(rt: HostRuntime) -> Result<(), Fail> {
+    let alloc = rt.alloc();
+    let mut store = Store::<4>::make(alloc, &[1, 1, 1, 1, 2, 2, 2, 2, 3, 3, 3, 3])?;
+    let mut stripe = Stripe::<4, 4, Blank>::make(alloc)?.arm(2, &store);
+    let prev = showing(alloc, [[5, 0, 0, 0], [0; 4], [0; 4]])?;
+    stripe.compute(
+        prev.row(),
+        &[0, 0],
+        prev.row().valid(),
+        &filter_stage(alloc)?,
+    );
+    assert_eq!(rt; states(&store), [[1; 4], [2; 4], [3; 4]]);
+    stripe.rearm(1, &mut store);
+    assert_eq!(rt; stripe.stage_number(), 1);
+    check_shown(&rt, &stripe, None);
+    assert_eq!(rt; states(&store), [[1; 4], [2; 4], [5, 3, 3, 3]]);
+    stripe.rearm(0, &mut store);
+    assert_eq!(rt; stripe.stage_number(), 0);
+    assert_eq!(rt; states(&store), [[1; 4], [2; 4], [5, 3, 3, 3]]);
+    Ok(())
+}
