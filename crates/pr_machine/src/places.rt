@@ -42,6 +42,7 @@ fn stage_at<const N: usize, const P: usize>(conf: &Configuration<N, P>, number: 
 }
 
 /// The row that a place shows.
+#[inline(always)]
 fn row_at<const N: usize, const P: usize>(place: &Place<N, P>) -> &Row<N, P>
     requires { is_there place.now ≡ true }
     ensures { shown result.now ≡ shows (seen place.now) }
@@ -54,6 +55,7 @@ fn row_at<const N: usize, const P: usize>(place: &Place<N, P>) -> &Row<N, P>
 }
 
 /// A cycle of a place in which its stage computes, if it has one.
+#[inline(always)]
 fn compute_at<const N: usize, const P: usize>(
     place: &mut Place<N, P>,
     prev: &Place<N, P>,
@@ -88,29 +90,72 @@ fn compute_at<const N: usize, const P: usize>(
     }
 }
 
-/// What a place becomes when an event falls on it: its stage is saved, and another takes the stripe.
-fn renewed<const N: usize, const P: usize>(
+/// What a stripe without a stage becomes when an event falls on it.
+fn armed<const N: usize, const P: usize>(
     was: Place<N, P>,
-    store: &mut Store<N>,
+    store: &Store<N>,
     stage: u32,
 ) -> Place<N, P>
-    requires here { IsHere (length store.old) was }
+    requires blank { stage_in (seen was) ≡ None }
+    requires there { is_there was ≡ true }
+    requires stage { stage < length store.now }
+    ensures armed { seen result ≡ Held stage (rows_of store.now stage) None }
+    ensures here { IsHere (length store.now) result }
+{
+    match was {
+        Place::Blank(stripe) => Place::Live(stripe.arm(stage, store)),
+        Place::Live(_) | Place::Away => unreachable!(),
+    }
+}
+
+/// The event of a place: its stage is saved, and another takes the stripe.
+fn renew<const N: usize, const P: usize>(place: &mut Place<N, P>, store: &mut Store<N>, stage: u32)
+    requires here { IsHere (length store.old) place.old }
     requires stage { stage < length store.old }
     ensures save { (s : ℕ) → s < length store.old
-        → rows_of store.new s ≡ saved (rows_of store.old) (seen was.entry) s }
-    ensures armed { seen result ≡ Held stage (rows_of store.new stage) None }
+        → rows_of store.new s ≡ saved (rows_of store.old) (seen place.old) s }
+    ensures armed { seen place.new ≡ Held stage (rows_of store.new stage) None }
     ensures size { length store.new ≡ length store.old }
-    ensures here { IsHere (length store.old) result }
+    ensures here { IsHere (length store.old) place.new }
 {
-    let blank = match was {
-        Place::Blank(stripe) => stripe,
-        Place::Live(stripe) => stripe.retire().save(store),
-        Place::Away => unreachable!(),
-    };
-    Place::Live(blank.arm(stage, store))
+    match place {
+        Place::Live(stripe) => stripe.rearm(stage, store),
+        Place::Blank(_) | Place::Away => {
+            let was = mem::replace(place, Place::Away);
+            *place = armed(was, store, stage);
+        }
+    }
+}
+
+/// One place computes, and reads what a later place shows.
+#[inline(never)]
+#[tactic(auto, using(crate::proofs::Here::there))]
+fn step_below<const N: usize, const P: usize>(
+    places: &mut [Place<N, P>],
+    conf: &Configuration<N, P>,
+    at: usize,
+    from: usize,
+    buffers: &Buffers<N>,
+    valid: bool,
+)
+    requires from { from < length places.old }
+    requires below { at < from }
+    requires here { AreHere (vec_len conf.now.stages) places.old }
+    requires sample { vec_len buffers.now.sample ≡ bytes_in (shape_of conf.now).inputs }
+    requires ready { AreReady (P - 1) (shape_of conf.now).stages buffers.now.prepared.items }
+    requires count { vec_len buffers.now.prepared ≡ vec_len conf.now.stages }
+    ensures others { (j : ℕ) → j ≢ at → place_at places.new j ≡ place_at places.old j }
+    ensures step { spots_of places.new at ≡
+        stepped (steps_of N P (shape_of conf.now)) (row_if valid buffers.now.sample.items)
+        (spots_of places.old at) (shows (spots_of places.old from)) }
+    ensures here { IsHere (vec_len conf.now.stages) (place_at places.new at) }
+{
+    let (low, high) = places.split_at_mut(from);
+    compute_at(&mut low[at], &high[0], conf, buffers, valid);
 }
 
 /// One place computes, and reads what the place `from` shows.
+#[inline(always)]
 #[tactic(auto, using(crate::proofs::Here::there))]
 fn step_at<const N: usize, const P: usize>(
     places: &mut [Place<N, P>],
@@ -134,8 +179,7 @@ fn step_at<const N: usize, const P: usize>(
     ensures here { IsHere (vec_len conf.now.stages) (place_at places.new at) }
 {
     if at < from {
-        let (low, high) = places.split_at_mut(from);
-        compute_at(&mut low[at], &high[0], conf, buffers, valid);
+        step_below(places, conf, at, from, buffers, valid);
     } else {
         let (low, high) = places.split_at_mut(at);
         compute_at(&mut high[0], &low[from], conf, buffers, valid);
@@ -159,9 +203,7 @@ fn turn_over<const N: usize, const P: usize>(
     ensures size { length store.new ≡ length store.old }
     ensures here { IsHere (length store.old) (place_at places.new at) }
 {
-    let was = mem::replace(&mut places[at], Place::Away);
-    let now = renewed(was, store, stage);
-    places[at] = now;
+    renew(&mut places[at], store, stage);
 }
 
 /// Each place but `q` computes in place, from the one before `q` back to the one after it, so that each reads what the
