@@ -32,6 +32,10 @@ fn put_if_set(out: &mut Vec<u8>, pe: &Pe) -> Result<bool, AllocError>
     ensures set { IfOk result (λ set. set ≡ is_set pe.now) }
     ensures bytes { has_pe_bytes pe.now ≡ true }
 {
+    // most elements of a long chain of stages are idle
+    if *pe == Pe::IDLE {
+        return Ok(false);
+    }
     let words = pe_words(pe);
     if words == [0; 4] {
         return Ok(false);
