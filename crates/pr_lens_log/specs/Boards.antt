@@ -1,0 +1,16 @@
+-- Which stage stands in which stripe.
+use Rattle.std.specs.Prelude.{ℕ, List, Option, Some, None, slice_get, slice_set, nat_lt, length, if◌then◌else◌}
+
+abbrev pub stage_or_none : Option (Option ℕ) → Option ℕ
+stage_or_none None = None
+stage_or_none (Some stage) = stage
+
+-- the stage in a stripe
+abbrev pub stage_in : List (Option ℕ) → ℕ → Option ℕ
+stage_in stages stripe = stage_or_none (slice_get stages stripe)
+
+-- after a cycle that configures a stage in a stripe, or none
+abbrev pub after_turn : List (Option ℕ) → Option (ℕ × ℕ) → List (Option ℕ)
+after_turn stages None = stages
+after_turn stages (Some (stage, stripe)) =
+    if nat_lt stripe (length stages) then slice_set stages stripe (Some stage) else stages
