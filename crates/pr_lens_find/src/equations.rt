@@ -1,0 +1,93 @@
+//! The equations of programs that end earlier.
+
+ghost use Rattle.std.specs.Prelude.{◌≤◌, ◌-◌, length, IfOk};
+
+use crate::fronts::{Part, cut_front, front_of, with_ends};
+use crate::sources::Source;
+use pr_expand::{ExpandFault, expand};
+use pr_flat::Flat;
+use pr_lang::Program;
+use pr_lens_items::Cut;
+use pr_scope::{ScopeFault, Scoped, check};
+use std::alloc::{AllocError, Global};
+
+/// The equations of a program, where it has any.
+#[derive(Drop)]
+pub enum Made {
+    Flat(Flat),
+    TooMany,
+    Refused,
+}
+
+/// The equations of a program that keeps the rules of scope.
+fn made_of(alloc: Global, scoped: &Scoped) -> Result<Made, AllocError> {
+    match expand(alloc, scoped) {
+        Ok(flat) => Ok(Made::Flat(flat)),
+        Err(ExpandFault::Limit(_)) => Ok(Made::TooMany),
+        Err(ExpandFault::Memory(error)) => Err(error),
+    }
+}
+
+/// The equations of a program, and of an input behind them where it has none.
+fn equations_of(alloc: Global, program: Program) -> Result<Made, AllocError> {
+    let program = with_ends(alloc, program)?;
+    match check(alloc, program) {
+        Ok(scoped) => made_of(alloc, &scoped),
+        Err(ScopeFault::Memory(error)) => Err(error),
+        Err(_) => Ok(Made::Refused),
+    }
+}
+
+/// The equations of the items before this one.
+fn made_before(alloc: Global, source: &Source, item: usize) -> Result<Made, AllocError>
+    requires { length source.now.text.now ≤ 1048576 }
+{
+    match front_of(alloc, source, item)? {
+        None => Ok(Made::Refused),
+        Some(program) => equations_of(alloc, program),
+    }
+}
+
+/// The equations of the items before this one and of so many points of its expressions.
+pub fn made_with(alloc: Global, part: &Part, values: u32) -> Result<Made, AllocError>
+    requires { length part.now.source.text.now ≤ 1048576 }
+{
+    let cut = Cut {
+        values,
+        frames: u32::MAX,
+        fixeds: u32::MAX,
+    };
+    match cut_front(alloc, part, cut)? {
+        None => Ok(Made::Refused),
+        Some(program) => equations_of(alloc, program),
+    }
+}
+
+/// Whether the items before this one have more than so many equations.
+fn has_more(alloc: Global, source: &Source, item: usize, count: usize) -> Result<bool, AllocError>
+    requires { length source.now.text.now ≤ 1048576 }
+{
+    match made_before(alloc, source, item)? {
+        Made::Flat(flat) => Ok(flat.equations.len() > count),
+        Made::TooMany => Ok(true),
+        Made::Refused => Ok(false),
+    }
+}
+
+/// The item that makes the equation of this number.
+pub fn equations_item(alloc: Global, source: &Source, equation: usize) -> Result<usize, AllocError>
+    requires { length source.now.text.now ≤ 1048576 }
+    ensures { IfOk result (λ item. item ≤ length source.now.spans.now - 1) }
+{
+    let mut low = 0;
+    let mut high = source.spans.len();
+    while low < high && high - low > 1 {
+        let middle = low + (high - low) / 2;
+        if has_more(alloc, source, middle, equation)? {
+            high = middle;
+        } else {
+            low = middle;
+        }
+    }
+    Ok(high.saturating_sub(1))
+}

@@ -1,0 +1,128 @@
+//! Programs that end earlier.
+
+ghost use Rattle.std.specs.Prelude.{◌≡◌, ◌≤◌, length, IfOk, IfSome};
+ghost use Rattle.pr_compile_front.specs.Refusals.{IsRead};
+ghost use Rattle.pr_lens_find.specs.Tokens.{front_text};
+ghost use Rattle.pr_lens_find.specs.Fronts.{IsSeen};
+
+use crate::sources::Source;
+use pr_lang::{Expr, Item, Name, Program};
+use pr_lens_items::{Cut, cut_item};
+use pr_parse::{ParseFault, parse, tokens};
+use pr_scope::{ScopeFault, check};
+use std::alloc::{AllocError, Global};
+
+/// The program of a text, where it is one.
+fn program_of(alloc: Global, text: &[u8]) -> Result<Option<Program>, AllocError>
+    requires { length text.now ≤ 1048576 }
+    ensures { IfOk result (λ found. IfSome found (IsRead text.now)) }
+{
+    let found = tokens(alloc, text)?;
+    match parse(alloc, text, &found) {
+        Ok(program) => Ok(Some(program)),
+        Err(ParseFault::Memory(error)) => Err(error),
+        Err(_) => Ok(None),
+    }
+}
+
+/// The program of the items before this one.
+pub fn front_of(alloc: Global, source: &Source, item: usize) -> Result<Option<Program>, AllocError>
+    requires { length source.now.text.now ≤ 1048576 }
+    ensures { let front = front_text source.now.text.now source.now.tokens.now source.now.spans.now item in
+        IfOk result (λ found. IfSome found (IsRead front)) }
+{
+    program_of(alloc, source.front(item))
+}
+
+/// The tree of an item.
+pub fn item_of(alloc: Global, source: &Source, item: usize) -> Result<Option<Item>, AllocError>
+    requires { length source.now.text.now ≤ 1048576 }
+{
+    match front_of(alloc, source, item.saturating_add(1))? {
+        None => Ok(None),
+        Some(mut program) => Ok(program.items.pop()),
+    }
+}
+
+/// An item with its number.
+#[derive(Clone, Copy)]
+pub struct Part<'a> {
+    pub source: Source<'a>,
+    pub number: usize,
+    pub item: &'a Item,
+}
+
+/// The program of the items before this one and as much of it as is kept.
+pub fn cut_front(alloc: Global, part: &Part, cut: Cut) -> Result<Option<Program>, AllocError>
+    requires { length part.now.source.text.now ≤ 1048576 }
+{
+    match front_of(alloc, &part.source, part.number)? {
+        None => Ok(None),
+        Some(mut program) => {
+            program.items.push(cut_item(alloc, cut, part.item)?)?;
+            Ok(Some(program))
+        }
+    }
+}
+
+/// What the rules of scope say of a program.
+#[derive(Clone, Copy)]
+pub enum Seen {
+    Kept,
+    Broken { rule: u8, item: u32 },
+    TooLong,
+}
+
+/// What the rules of scope say of a program.
+pub fn see(alloc: Global, program: Program) -> Result<Seen, AllocError>
+    ensures { IfOk result (IsSeen program) }
+{
+    match check(alloc, program) {
+        Ok(_) => Ok(Seen::Kept),
+        Err(ScopeFault::Scope { rule, item }) => Ok(Seen::Broken { rule, item }),
+        Err(ScopeFault::Limit(_)) => Ok(Seen::TooLong),
+        Err(ScopeFault::Memory(error)) => Err(error),
+    }
+}
+
+/// A name that no text has.
+fn unwritten(alloc: Global, bytes: &[u8]) -> Result<Name, AllocError> {
+    Ok(Name::new(Vec::from_slice(alloc, bytes)?))
+}
+
+/// Adds an input under a name that no text has.
+fn add_input(alloc: Global, program: &mut Program) -> Result<(), AllocError> {
+    let name = unwritten(alloc, b"?in")?;
+    program.items.push(Item::Input { name, width: 1 })?;
+    Ok(())
+}
+
+/// Adds an output under a name that no text has.
+fn add_output(alloc: Global, program: &mut Program) -> Result<(), AllocError> {
+    let name = unwritten(alloc, b"?out")?;
+    program.items.push(Item::Output {
+        name,
+        width: None,
+        value: Expr::Number(0),
+    })?;
+    Ok(())
+}
+
+fn has_input(items: &[Item]) -> bool {
+    items.iter().any(|item| matches!(item, Item::Input { .. }))
+}
+
+fn has_output(items: &[Item]) -> bool {
+    items.iter().any(|item| matches!(item, Item::Output { .. }))
+}
+
+/// The program with an input and an output more behind all that it has, where it has none.
+pub fn with_ends(alloc: Global, mut program: Program) -> Result<Program, AllocError> {
+    if !has_input(&program.items) {
+        add_input(alloc, &mut program)?;
+    }
+    if !has_output(&program.items) {
+        add_output(alloc, &mut program)?;
+    }
+    Ok(program)
+}

@@ -1,0 +1,155 @@
+//! A text, its tokens, and where its items stand.
+
+ghost use Rattle.std.specs.Prelude.{◌≡◌, ◌≤◌, length, IfOk, All};
+ghost use Rattle.pr_lens_find.specs.Tokens.{kind_of, start_of, end_of, bytes_of, text_before, first_of, front_text};
+ghost use Rattle.pr_lens_find.specs.Spans.{IsSpanWithin};
+
+use pr_lang::{Keyword, Kind, Symbol, Token};
+use std::alloc::{AllocError, Global};
+
+/// The first token of an item, and the last.
+#[derive(Clone, Copy)]
+pub struct Span {
+    pub first: usize,
+    pub last: usize,
+}
+
+/// A text that is looked at, with its tokens and its items.
+#[derive(Clone, Copy)]
+pub struct Source<'a> {
+    pub text: &'a [u8],
+    pub tokens: &'a [Token],
+    pub spans: &'a [Span],
+}
+
+impl<'a> Source<'a> {
+    /// The kind of a token, and End behind the last.
+    pub fn kind(&self, at: usize) -> Kind
+        ensures { result ≡ kind_of self.now.tokens.now at }
+    {
+        match self.tokens.get(at) {
+            None => Kind::End,
+            Some(token) => token.kind,
+        }
+    }
+
+    /// The place of a token's first byte, and the text's end behind the last token.
+    pub fn start(&self, at: usize) -> usize
+        ensures value { result ≡ start_of self.now.text.now self.now.tokens.now at }
+        ensures within { result ≤ length self.now.text.now }
+    {
+        match self.tokens.get(at) {
+            None => self.text.len(),
+            Some(token) => self.text.len().min(token.start as usize),
+        }
+    }
+
+    /// The place behind a token's last byte, and the text's end behind the last token.
+    pub fn end(&self, at: usize) -> usize
+        ensures value { result ≡ end_of self.now.text.now self.now.tokens.now at }
+        ensures within { result ≤ length self.now.text.now }
+    {
+        match self.tokens.get(at) {
+            None => self.text.len(),
+            Some(token) => self.text.len().min(token.end as usize),
+        }
+    }
+
+    /// The text before a token.
+    pub fn before(&self, at: usize) -> &[u8]
+        ensures text { result.now ≡ text_before self.now.text.now self.now.tokens.now at }
+        ensures within { length result.now ≤ length self.now.text.now }
+    {
+        let end = self.start(at);
+        &self.text[..end]
+    }
+
+    /// The bytes of a token.
+    pub fn bytes(&self, at: usize) -> &[u8]
+        ensures { result.now ≡ bytes_of self.now.text.now self.now.tokens.now at }
+    {
+        let start = self.start(at);
+        let end = self.end(at);
+        if start <= end {
+            &self.text[start..end]
+        } else {
+            &[]
+        }
+    }
+
+    /// The token at which an item begins, and the last token behind the last item.
+    pub fn first(&self, item: usize) -> usize
+        ensures { result ≡ first_of self.now.tokens.now self.now.spans.now item }
+    {
+        match self.spans.get(item) {
+            None => self.tokens.len().saturating_sub(1),
+            Some(span) => span.first,
+        }
+    }
+
+    /// The item in which a token stands, and the number of items behind them all.
+    pub fn item_at(&self, token: usize) -> usize {
+        self.spans
+            .iter()
+            .position(|span| token <= span.last)
+            .unwrap_or(self.spans.len())
+    }
+
+    /// The text of the items before this one.
+    pub fn front(&self, item: usize) -> &[u8]
+        ensures text { result.now ≡ front_text self.now.text.now self.now.tokens.now self.now.spans.now item }
+        ensures within { length result.now ≤ length self.now.text.now }
+    {
+        self.before(self.first(item))
+    }
+}
+
+/// How deep brackets are open after a token.
+fn depth_after(depth: usize, kind: Kind) -> usize {
+    match kind {
+        Kind::Mark(symbol) => match symbol {
+            Symbol::OpenRound | Symbol::OpenSquare | Symbol::OpenCurly => depth.saturating_add(1),
+            Symbol::CloseRound | Symbol::CloseSquare | Symbol::CloseCurly => {
+                depth.saturating_sub(1)
+            }
+            _ => depth,
+        },
+        _ => depth,
+    }
+}
+
+/// Whether an item that begins with this token ends with a curly bracket, and not with a semicolon.
+fn has_body(kind: Kind) -> bool {
+    matches!(kind, Kind::Word(Keyword::Fn) | Kind::Word(Keyword::For))
+}
+
+/// Whether the item that began with the first token ends with this one, behind which brackets are open so deep.
+fn is_last(first: Kind, kind: Kind, depth: usize) -> bool {
+    if depth > 0 {
+        return false;
+    }
+    let end = if has_body(first) {
+        Symbol::CloseCurly
+    } else {
+        Symbol::Semi
+    };
+    kind == Kind::Mark(end)
+}
+
+/// The items of the tokens of a program, in order.
+pub fn spans_of(alloc: Global, tokens: &[Token]) -> Result<Vec<Span>, AllocError>
+    ensures { IfOk result (λ spans. All (IsSpanWithin (length tokens.now)) spans.items) }
+{
+    let mut spans = Vec::new(alloc);
+    let mut first = 0;
+    let mut depth = 0;
+    for last in 0..tokens.len() {
+        let kind = tokens[last].kind;
+        depth = depth_after(depth, kind);
+        if first < tokens.len() && is_last(tokens[first].kind, kind, depth) {
+            spans.push(Span { first, last })?;
+            first = last + 1;
+        }
+    }
+    Ok(spans)
+}

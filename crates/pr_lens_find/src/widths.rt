@@ -1,0 +1,250 @@
+//! Equations without widths.
+
+ghost use Rattle.std.specs.Prelude.{◌≡◌, ◌≤◌, length, vec_len, IfOk, MatchOption, Some};
+ghost use Rattle.pr_flat.specs.Flats.{equations_of};
+ghost use Rattle.pr_flat.specs.Widths.{AreWidths, IsFirstWithout};
+ghost use Rattle.pr_lens_find.specs.Widths.{HaveWidths};
+
+use crate::counts::{numbered, short};
+use crate::equations::{Made, equations_item, made_with};
+use crate::fronts::{Part, item_of};
+use crate::sources::Source;
+use pr_base::bits_of;
+use pr_flat::{Equation, Flat, Op, Operand};
+use pr_lens_items::points_of;
+use pr_width::{WidthFault, Widths, solve};
+use std::alloc::{AllocError, Global};
+
+/// The first equation without a width, where there is one.
+fn first_without(alloc: Global, flat: &Flat) -> Result<Option<u32>, AllocError>
+    ensures { let equations = equations_of flat.now in
+        IfOk result (λ found. MatchOption found (HaveWidths equations) (IsFirstWithout equations)) }
+{
+    match solve(alloc, flat) {
+        Ok(_widths) => {
+            return Ok(None);
+        }
+        Err(WidthFault::NoWidth { equation }) => {
+            return Ok(Some(equation));
+        }
+        Err(WidthFault::Memory(error)) => {
+            return Err(error);
+        }
+    }
+}
+
+/// Whether some equation has no width with so many points of the item's expressions.
+fn lacks(alloc: Global, part: &Part, values: u32) -> Result<bool, AllocError>
+    requires { length part.now.source.text.now ≤ 1048576 }
+{
+    let Made::Flat(flat) = made_with(alloc, part, values)? else {
+        return Ok(false);
+    };
+    let found = first_without(alloc, &flat)?;
+    Ok(found.is_some())
+}
+
+/// A count of points with which some equation of the item has no width, and with one less all have.
+fn first_count(alloc: Global, part: &Part, most: u32) -> Result<u32, AllocError>
+    requires { length part.now.source.text.now ≤ 1048576 }
+    ensures { IfOk result (λ count. count ≤ most) }
+{
+    let mut low = 0;
+    let mut high = most;
+    while low < high && high - low > 1 {
+        let middle = low + (high - low) / 2;
+        if lacks(alloc, part, middle)? {
+            high = middle;
+        } else {
+            low = middle;
+        }
+    }
+    Ok(high)
+}
+
+/// How wide an operand is.
+#[derive(Clone, Copy)]
+pub enum Extent {
+    Bits(u32),
+    /// It is an earlier sample of the recurrence that is being made.
+    Past,
+    /// It is made inside a function that is called.
+    Inside,
+}
+
+/// An equation without a width.
+#[derive(Drop)]
+pub struct Missing {
+    /// The token at which it is made.
+    pub token: usize,
+    /// What it makes of its operands, where that is known.
+    pub op: Option<Op>,
+    /// How wide each operand is, of a recurrence each operand of its body's last operator.
+    pub widths: Vec<Extent>,
+}
+
+/// An equation of which no more is known than the token at which it is made.
+fn unknown(alloc: Global, token: usize) -> Missing
+    ensures { result.token ≡ token }
+{
+    Missing {
+        token,
+        op: None,
+        widths: Vec::new(alloc),
+    }
+}
+
+/// How many equations both have in common, from the first on.
+fn common(one: &Flat, other: &Flat) -> usize
+    ensures { result ≤ vec_len one.now.equations }
+{
+    let mut count = 0;
+    for equation in &one.equations {
+        match other.equations.get(count) {
+            Some(found) if is_same(equation, found) => count += 1,
+            _ => return count,
+        }
+    }
+    count
+}
+
+fn is_same(one: &Equation, other: &Equation) -> bool {
+    one.op == other.op
+        && one.args.as_slice() == other.args.as_slice()
+        && one.declared == other.declared
+}
+
+/// How wide an operand is, where it is a number or one of the first equations.
+fn width_of(widths: &Widths, operand: Operand, known: usize) -> Extent {
+    match operand {
+        Operand::Const(number) => Extent::Bits(u32::from(bits_of(u128::from(number)).get())),
+        Operand::Past { rec: _, k: _ } => Extent::Past,
+        Operand::Eq(equation) => {
+            let equation = equation as usize;
+            match widths.of.get(equation) {
+                Some(bits) if equation < known => Extent::Bits(u32::from(*bits)),
+                _ => Extent::Inside,
+            }
+        }
+    }
+}
+
+fn widths_of(
+    alloc: Global,
+    widths: &Widths,
+    operands: &[Operand],
+    known: usize,
+) -> Result<Vec<Extent>, AllocError>
+    ensures { IfOk result (λ all. vec_len all ≡ length operands.now) }
+{
+    let mut all = Vec::new(alloc);
+    for operand in operands {
+        all.push(width_of(widths, *operand, known))?;
+    }
+    Ok(all)
+}
+
+/// How wide operands are, where the equations have widths.
+fn extents(
+    alloc: Global,
+    flat: &Flat,
+    operands: &[Operand],
+    known: usize,
+) -> Result<Vec<Extent>, AllocError> {
+    match solve(alloc, flat) {
+        Ok(widths) => widths_of(alloc, &widths, operands, known),
+        Err(WidthFault::NoWidth { equation: _ }) => Ok(Vec::new(alloc)),
+        Err(WidthFault::Memory(error)) => Err(error),
+    }
+}
+
+/// The equation whose operands tell most of why this one has no width: of a recurrence the last one of its body.
+fn telling<'a>(flat: &'a Flat, equation: &'a Equation) -> &'a Equation {
+    if let Op::Rec { init: _, first: _ } = equation.op {
+        if let Some(Operand::Eq(body)) = equation.args.first() {
+            if let Some(last) = flat.equations.get(*body as usize) {
+                return last;
+            }
+        }
+    }
+    equation
+}
+
+/// What is known of the equation of this number, by the equations of one point less, which have widths.
+fn told_by(
+    alloc: Global,
+    token: usize,
+    flat: &Flat,
+    number: u32,
+    before: &Flat,
+) -> Result<Missing, AllocError>
+    ensures { IfOk result (λ missing. missing.token ≡ token) }
+{
+    let Some(equation) = flat.equations.get(number as usize) else {
+        return Ok(unknown(alloc, token));
+    };
+    let told = telling(flat, equation);
+    let widths = extents(alloc, before, &told.args, common(flat, before))?;
+    Ok(Missing {
+        token,
+        op: Some(equation.op),
+        widths,
+    })
+}
+
+/// What is known of the first equation without a width, by the equations of one point less.
+fn missing_in(
+    alloc: Global,
+    token: usize,
+    flat: &Flat,
+    before: &Flat,
+) -> Result<Missing, AllocError>
+    ensures { IfOk result (λ missing. missing.token ≡ token) }
+{
+    match first_without(alloc, flat)? {
+        None => Ok(unknown(alloc, token)),
+        Some(equation) => told_by(alloc, token, flat, equation, before),
+    }
+}
+
+/// What is known of the first equation without a width, with so many points of the item's expressions.
+fn missing_at(alloc: Global, part: &Part, token: usize, values: u32) -> Result<Missing, AllocError>
+    requires { length part.now.source.text.now ≤ 1048576 }
+    ensures { IfOk result (λ missing. missing.token ≡ token) }
+{
+    let Made::Flat(flat) = made_with(alloc, part, values)? else {
+        return Ok(unknown(alloc, token));
+    };
+    let Made::Flat(before) = made_with(alloc, part, values.saturating_sub(1))? else {
+        return Ok(unknown(alloc, token));
+    };
+    missing_in(alloc, token, &flat, &before)
+}
+
+/// The same, at the first point with which an equation of the item has no width.
+fn missing_of(alloc: Global, part: &Part, first: usize) -> Result<Missing, AllocError>
+    requires { length part.now.source.text.now ≤ 1048576 }
+{
+    let points = points_of(alloc, short(first), part.item)?;
+    let values = first_count(alloc, part, short(points.values.len()))?;
+    let token = numbered(&points.values, values).unwrap_or(first);
+    missing_at(alloc, part, token, values)
+}
+
+/// Where the first equation without a width, which has this number, is made: the token of the first point with which it
+/// has none.
+pub fn find_missing(alloc: Global, source: &Source, equation: usize) -> Result<Missing, AllocError>
+    requires { length source.now.text.now ≤ 1048576 }
+{
+    let number = equations_item(alloc, source, equation)?;
+    let first = source.first(number);
+    let Some(item) = item_of(alloc, source, number)? else {
+        return Ok(unknown(alloc, first));
+    };
+    let part = Part {
+        source: *source,
+        number,
+        item: &item,
+    };
+    missing_of(alloc, &part, first)
+}
