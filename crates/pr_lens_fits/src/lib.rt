@@ -1,0 +1,14 @@
+//! Programs that are too large for a fabric: which of their units fits nowhere, and with which of their items a limit
+//! is passed.
+#![tactic(auto)]
+
+mod ends;
+mod groups;
+mod kept;
+mod ready;
+mod targets;
+mod units;
+
+pub use ends::{input_item, output_item};
+pub use groups::{Unfit, find_unfit};
+pub use units::units_item;
