@@ -1,0 +1,14 @@
+//! Why a text is refused, for people: the answer of the compiler, where it points to, and what to do about it.
+#![tactic(auto)]
+
+mod explaining;
+mod fits;
+mod limits;
+mod names;
+mod pieces;
+mod rules;
+mod syntax;
+mod telling;
+mod widths;
+
+pub use explaining::{Explanation, Verdict, explain};
