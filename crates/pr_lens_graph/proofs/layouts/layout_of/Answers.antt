@@ -1,0 +1,19 @@
+use Rattle.std.proofs.lemmas.Result.{err_from_is_err_and}
+use Rattle.pr_lens_graph.proofs.AnswerLemmas.{front_exit, net_exit}
+use Rattle.pr_lens_graph.proofs.layouts.layout_of.Goals as goal
+
+pub layout_front-requires-clause-equations : goal.layout_front-requires-clause-equations
+layout_front-requires-clause-equations g c = c.in_ok-front.ensures.passed.flat
+
+pub layout_front-requires-clause-widths : goal.layout_front-requires-clause-widths
+layout_front-requires-clause-widths g c = c.in_ok-front.ensures.passed.widths.are
+
+pub returns-in_err-front-clause-refused : goal.returns-in_err-front-clause-refused
+returns-in_err-front-clause-refused g c =
+    front_exit g.row.N g.row.P c.args.narrowed c.args.text.now c.from_residual.result _ (err_from_is_err_and c.from_residual.result c.from_residual.ensures.1) c.in_err-front.ensures.refused
+
+pub returns-in_err-layout-clause-refused : goal.returns-in_err-layout-clause-refused
+returns-in_err-layout-clause-refused g c =
+    let front = c.in_ok-front.front in
+    let r = c.from_residual-in_err-layout in
+    net_exit g.row.N g.row.P c.args.narrowed c.args.text.now r.result front.scoped.program front.widths _ (err_from_is_err_and r.result r.ensures.1) c.in_ok-front.ensures.passed.widths c.in_err-layout.ensures.refused
