@@ -1,0 +1,14 @@
+use Rattle.std.proofs.Common.{ap₂, ◌∙◌}
+use Rattle.std.proofs.lemmas.Result.{IfOk-weaker}
+use Rattle.clap.specs.Words.{with_rule}
+use Rattle.pr_lens_tool.specs.Orders.{app}
+use Rattle.pr_lens_tool.proofs.asking.command.Goals as goal
+
+pub returns : goal.returns
+unfolding app
+returns c =
+    let task = c.in_ok-task.ensures.shape c.place.ensures.local ∙ ap₂ with_rule c.new.ensures.app c.place.ensures.rule in
+    let file = c.in_ok-file.ensures.shape c.place-2.ensures.local ∙ ap₂ with_rule task c.place-2.ensures.rule in
+    let fabric = c.in_ok-fabric.ensures.shape c.option_or.ensures.local ∙ ap₂ with_rule file c.option_or.ensures.rule in
+    let narrow = c.in_ok-narrow.ensures.shape c.flag.ensures.local ∙ ap₂ with_rule fabric c.flag.ensures.rule in
+    IfOk-weaker c.arg-5.result _ _ (λ r h. h.shape c.option_or-2.ensures.local ∙ ap₂ with_rule narrow c.option_or-2.ensures.rule) c.arg-5.ensures

@@ -1,0 +1,14 @@
+use Rattle.std.proofs.Common.{◌≡◌, ◌∙◌}
+use Rattle.pr_lens_tool.specs.Outcomes.{bad_log_line}
+use Rattle.pr_lens_tool.proofs.outcomes.Reply.put_note.Goals as goal
+
+pub returns-in-Usage-clause-gains : goal.returns-in-Usage-clause-gains
+returns-in-Usage-clause-gains g c = rw c.in-Usage.is (rw c.as_bytes.ensures.value at c.put_bytes.ensures.gains)
+
+pub returns-in-BadLog-clause-gains : goal.returns-in-BadLog-clause-gains
+returns-in-BadLog-clause-gains g c =
+    let line : c.as_bytes-in-BadLog.result.now ≡ bad_log_line c.in-BadLog.line = c.as_bytes-in-BadLog.ensures.value ∙ (c.deref.ensures.0 ∙ c.bad_log-text.ensures) in
+    rw c.in-BadLog.is (rw line at c.put_bytes-in-BadLog.ensures.gains)
+
+pub returns-in-LongLog-clause-gains : goal.returns-in-LongLog-clause-gains
+returns-in-LongLog-clause-gains g c = rw c.in-LongLog.is (rw c.as_bytes-in-LongLog.ensures.value at c.put_bytes-in-LongLog.ensures.gains)

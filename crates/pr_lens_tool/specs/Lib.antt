@@ -1,0 +1,4 @@
+pub mod Tasks
+pub mod Orders
+pub mod Outcomes
+pub mod Calls

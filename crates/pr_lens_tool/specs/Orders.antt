@@ -1,0 +1,63 @@
+-- What the words of a command line ask for.
+use Rattle.std.specs.Prelude.{ℕ, Bool, List, [], ◌∷◌, Option, None, codes, map, string_bytes, true, String, option_map, option_and_then}
+use Rattle.std.specs.declared.alloc.Global.{Global}
+use Rattle.clap.specs.Words.{App, first_of, first_value, matches_of, new_app, with_rule}
+use Rattle.clap.specs.Faults.{fault_of}
+use Rattle.clap.specs.Kinds.{Kinds}
+use Rattle.clap.specs.Walk.{Row}
+use Rattle.clap.specs.declared.parser.matches.Found.{Found}
+use Rattle.pr_base.specs.declared.fabrics.Fabric.{Fabric}
+use Rattle.pr_tool_words.specs.Lawful.{Text, fabric_named, is_true, number_in}
+use Rattle.pr_tool_words.specs.Shape.{place, option_or, flag}
+use Rattle.pr_lens_tool.specs.declared.orders.Task.{Task}
+use Rattle.pr_lens_tool.specs.declared.orders.Order.{Order}
+use Rattle.pr_lens_tool.specs.Tasks.{task_named}
+
+-- pipelens TASK FILE [--fabric F] [--narrow] [--samples N]
+unfoldable pub app : App
+app =
+    with_rule (with_rule (with_rule (with_rule (with_rule (new_app (codes "pipelens")) (place (codes "task") true)) (place (codes "file") true))
+    (option_or (codes "fabric") (codes "base"))) (flag (codes "narrow"))) (option_or (codes "samples") (codes "1000"))
+
+pub record Asked : Type 0 where
+  pub task : Task
+  pub file : Text
+  pub fabric : Fabric
+  pub narrowed : Bool
+  pub samples : ℕ
+
+abbrev pub asked_in : Order → Asked
+asked_in order = record { task = order.task; file = order.file.now; fabric = order.fabric; narrowed = order.narrowed; samples = order.samples }
+
+-- by the values of the options and the places, where all are lawful
+abbrev pub asked_from : (task file fabric narrow samples : Option Text) → Option Asked
+asked_from task file fabric narrow samples =
+    option_and_then (λ t. option_and_then (λ f. option_and_then (λ b. option_map (λ n. record {
+      task = t;
+      file = f;
+      fabric = b;
+      narrowed = is_true narrow;
+      samples = n;
+    }) (option_and_then (number_in 0 4294967295) samples)) (option_and_then fabric_named fabric)) file) (option_and_then task_named task)
+
+abbrev pub asked_of : Found → Option Asked
+asked_of f = asked_from
+    (first_value f (codes "task")) (first_value f (codes "file")) (first_value f (codes "fabric")) (first_value f (codes "narrow"))
+    (first_value f (codes "samples"))
+
+abbrev pub asked_rows : List Row → Option Asked
+asked_rows rows = asked_from
+    (first_of (codes "task") rows) (first_of (codes "file") rows) (first_of (codes "fabric") rows) (first_of (codes "narrow") rows)
+    (first_of (codes "samples") rows)
+
+-- unless the command line has a fault with the words
+abbrev pub asked_without : Kinds → Option Asked → Option Asked
+asked_without [] asked = asked
+asked_without (kind ∷ kinds) asked = None
+
+-- all words, the program's name first
+unfoldable pub asked_words : List Text → Option Asked
+asked_words words = asked_without (fault_of app words) (asked_rows (matches_of app words))
+
+abbrev pub asked_by : List (String Global) → Option Asked
+asked_by words = asked_words (map string_bytes words)

@@ -1,0 +1,124 @@
+//! From words to an order.
+
+ghost use Rattle.std.specs.Prelude.{◌≡◌, IfOk, IsErrOf, Some, None, true, false, option_map};
+ghost use Rattle.clap.specs.Words.{app_of, rule_of, found_of};
+ghost use Rattle.pr_tool_words.specs.Lawful.{is_true};
+ghost use Rattle.pr_tool_words.specs.Shape.{place, option_or, flag};
+ghost use Rattle.pr_lens_tool.specs.Orders.{app, asked_in, asked_of, asked_by};
+
+use crate::orders::{Order, fabric_named, task_named};
+use clap::error::ErrorKind;
+use clap::{Arg, ArgAction, ArgMatches, Command};
+use pr_tool_words::number_in;
+use std::alloc::{AllocError, Global};
+use thiserror::Error;
+
+/// Why the words of a command line are no order.
+#[derive(Debug, Drop, Error)]
+pub enum OrderFault {
+    /// They ask for the help.
+    #[error("the help is asked for")]
+    Help,
+    /// They are no lawful command line.
+    #[error("the words are no lawful command line")]
+    Usage,
+    /// Memory was wanting.
+    #[error("out of memory")]
+    Memory(AllocError),
+}
+
+impl From<AllocError> for OrderFault {
+    ghost use Rattle.std.specs.Prelude.{◌≡◌};
+    ghost use Rattle.pr_lens_tool.specs.declared.asking.OrderFault.TheVariants.{Memory};
+
+    ghost from_gives = { λ a e. e ≡ Memory a };
+
+    fn from(error: AllocError) -> OrderFault {
+        OrderFault::Memory(error)
+    }
+}
+
+/// The fabric where none is given.
+const FABRIC: &str = "base";
+/// The samples of a run where no number is given.
+const SAMPLES: &str = "1000";
+
+/// A place for a word.
+fn place<'a>(alloc: Global, name: &'a str) -> Arg<'a>
+    ensures rule { rule_of result ≡ place name.entry.now true }
+    ensures local { result.global ≡ false }
+{
+    Arg::new(alloc, name).required(true)
+}
+
+/// An option with a value, and the value where it is not given.
+fn option_or<'a>(alloc: Global, name: &'a str, usual: &'a str) -> Arg<'a>
+    ensures rule { rule_of result ≡ option_or name.entry.now usual.entry.now }
+    ensures local { result.global ≡ false }
+{
+    Arg::new(alloc, name).long(name).default_value(usual)
+}
+
+/// An option without a value.
+fn flag<'a>(alloc: Global, name: &'a str) -> Arg<'a>
+    ensures rule { rule_of result ≡ flag name.entry.now }
+    ensures local { result.global ≡ false }
+{
+    Arg::new(alloc, name).long(name).action(ArgAction::SetTrue)
+}
+
+/// The command line.
+fn command<'a>(alloc: Global) -> Result<Command<'a>, AllocError>
+    ensures { IfOk result (λ c. app_of c ≡ app) }
+{
+    let task = Command::new(alloc, "pipelens").arg(place(alloc, "task"))?;
+    let file = task.arg(place(alloc, "file"))?;
+    let fabric = file.arg(option_or(alloc, "fabric", FABRIC))?;
+    let narrow = fabric.arg(flag(alloc, "narrow"))?;
+    narrow.arg(option_or(alloc, "samples", SAMPLES))
+}
+
+/// Whether the value of an option without one is `true`.
+fn is_true(value: Option<&str>) -> bool
+    ensures { result ≡ is_true (option_map (λ s. s.now) value.entry) }
+{
+    match value {
+        Some(text) => text == "true",
+        None => false,
+    }
+}
+
+/// The order among the matches, where its words are lawful.
+fn found<'a>(matches: &ArgMatches<'a>) -> Option<Order<'a>>
+    ensures { option_map asked_in result ≡ asked_of (found_of matches.now) }
+{
+    let task = task_named(matches.get_str("task")?)?;
+    let file = matches.get_str("file")?;
+    let fabric = fabric_named(matches.get_str("fabric")?)?;
+    let samples = number_in(matches.get_str("samples")?, 0, u32::MAX)?;
+    Some(Order {
+        task,
+        file,
+        fabric,
+        narrowed: is_true(matches.get_str("narrow")),
+        samples,
+    })
+}
+
+/// What the words ask for, the program's name first among them.
+pub fn read_order<'a>(alloc: Global, words: &'a [String]) -> Result<Order<'a>, OrderFault>
+    ensures order { IfOk result (λ o. asked_by words.entry.now ≡ Some (asked_in o)) }
+    ensures usage { IsErrOf result OrderFault.Usage → asked_by words.entry.now ≡ None }
+    ensures help { IsErrOf result OrderFault.Help → asked_by words.entry.now ≡ None }
+{
+    let command = command(alloc)?;
+    let matches = match command.try_get_matches_from(words) {
+        Ok(matches) => matches,
+        Err(e) => match e.kind() {
+            ErrorKind::OutOfMemory => return Err(OrderFault::Memory(AllocError)),
+            ErrorKind::DisplayHelp => return Err(OrderFault::Help),
+            _ => return Err(OrderFault::Usage),
+        },
+    };
+    found(&matches).ok_or(OrderFault::Usage)
+}

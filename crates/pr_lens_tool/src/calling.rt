@@ -1,0 +1,138 @@
+//! The call.
+
+ghost use Rattle.std.specs.Prelude.{◌≡◌, ◌≤◌, IfOk, IfErr};
+ghost use Rattle.pr_tool_answers.specs.declared.answers.Answer.{Answer};
+ghost use Rattle.pr_lens_tool.specs.declared.outcomes.Outcome.TheVariants.{Plain};
+ghost use Rattle.pr_lens_tool.specs.Orders.{asked_in, asked_by};
+ghost use Rattle.pr_lens_tool.specs.Outcomes.{IsToldOf, IsUntold, IsWritten};
+ghost use Rattle.pr_lens_tool.specs.Calls.{call, IsMade, IsUnmade, IsFollowed, IsCalled};
+
+use crate::asking::{OrderFault, read_order};
+use crate::logs::of_log;
+use crate::orders::{Order, Question, Task};
+use crate::outcomes::{Outcome, Output, Reply};
+use crate::programs::{bounds_of, of_program};
+use pr_base::{Cap, Fabric};
+use pr_edge::{Shelf, Sink, write_all};
+use pr_tool::{Answer, Bounds};
+use pr_tool_modes::read_file;
+use std::alloc::Global;
+
+/// The help.
+const HELP: &[u8] = b"\
+pipelens looks at programs and runs of piperench
+
+usage: pipelens TASK FILE [--fabric F] [--narrow] [--samples N]
+
+  why PROGRAM    where and why a program is refused, and what to do
+  cost PROGRAM   equations, units and stages, and cycles by stripes
+  graph PROGRAM  the units by stage with their wires, for Graphviz
+  wave LOG       the log of `piperench trace` as a waveform (VCD)
+  chart LOG      the log of `piperench trace` as a picture (SVG)
+
+  --fabric F     base has 16 columns and 8 registers, wide 32 and 16; base without it
+  --narrow       leaves out what no output shows
+  --samples N    how long the run is whose cycles `cost` tells; 1000 without it
+";
+
+/// What is asked of the program of a file; else the answer to it.
+fn of_file<S: Shelf>(
+    alloc: Global,
+    order: &Order,
+    question: Question,
+    shelf: &mut S,
+) -> Result<Output, Answer>
+    ensures told { IfOk result (λ o. IsToldOf question (S.told shelf.old) (asked_in order.now) o.outcome) }
+    ensures refused { IfErr result
+        (IsUntold (S.told shelf.old) (asked_in order.now) (S.faults shelf.old) (S.faults shelf.new)) }
+    ensures later { S.faults shelf.old ≤ S.faults shelf.new }
+    ensures same { S.told shelf.new ≡ S.told shelf.old }
+{
+    let most = Cap::MOST_PROGRAM_BYTES;
+    let text = read_file(alloc, shelf, order.file, most, Cap::ProgramBytes)?;
+    match order.fabric {
+        Fabric::Base => of_program::<16, 8>(alloc, order, question, &text),
+        Fabric::Wide => of_program::<32, 16>(alloc, order, question, &text),
+    }
+}
+
+/// What is asked for, made whole; else what the call comes to.
+fn made<S: Shelf>(alloc: Global, order: &Order, shelf: &mut S) -> Result<Output, Outcome>
+    ensures made { IfOk result (λ o. IsMade (S.told shelf.old) (asked_in order.now) o.outcome) }
+    ensures unmade { IfErr result
+        (IsUnmade (S.told shelf.old) (asked_in order.now) (S.faults shelf.old) (S.faults shelf.new)) }
+    ensures later { S.faults shelf.old ≤ S.faults shelf.new }
+    ensures same { S.told shelf.new ≡ S.told shelf.old }
+{
+    match order.task {
+        Task::Program(question) => match of_file(alloc, order, question, shelf) {
+            Ok(output) => Ok(output),
+            Err(answer) => Err(Outcome::Plain(answer)),
+        },
+        Task::Log(drawing) => of_log(alloc, drawing, shelf, order.file),
+    }
+}
+
+/// Writes a text whole; what the call comes to, where that is this outcome unless a write fails.
+fn written<K: Sink>(out: &mut K, text: &[u8], outcome: Outcome) -> Outcome
+    ensures written { IsWritten (K.told out.old) (K.told out.new) (K.faults out.old) (K.faults out.new)
+        text.now outcome result }
+    ensures later { K.faults out.old ≤ K.faults out.new }
+{
+    match write_all(out, text) {
+        Ok(()) => outcome,
+        Err(_) => Outcome::Plain(Answer::WriteFault),
+    }
+}
+
+/// Does what is asked for, and says what it comes to.
+fn follow<S: Shelf, K: Sink>(alloc: Global, order: &Order, shelf: &mut S, out: &mut K) -> Outcome
+    ensures followed { IsFollowed (asked_in order.now) (call
+        (S.told shelf.old) (S.faults shelf.old) (S.faults shelf.new)
+        (K.told out.old) (K.told out.new) (K.faults out.old) (K.faults out.new)) result }
+    ensures told { S.told shelf.new ≡ S.told shelf.old }
+    ensures shelf_later { S.faults shelf.old ≤ S.faults shelf.new }
+    ensures out_later { K.faults out.old ≤ K.faults out.new }
+{
+    match made(alloc, order, shelf) {
+        Ok(output) => written(out, &output.text, output.outcome),
+        Err(outcome) => outcome,
+    }
+}
+
+/// Does what the words ask for, the program's name first among them, and says what it comes to.
+///
+/// What is written is made whole before its first byte is written.
+pub fn pipelens<S: Shelf, K: Sink>(
+    alloc: Global,
+    words: &[String],
+    shelf: &mut S,
+    out: &mut K,
+) -> Reply
+    // Lawful words are followed, or memory is wanting; other words get the help or are refused.
+    ensures called { IsCalled (asked_by words.now) (call
+        (S.told shelf.old) (S.faults shelf.old) (S.faults shelf.new)
+        (K.told out.old) (K.told out.new) (K.faults out.old) (K.faults out.new)) result.outcome }
+    ensures told { S.told shelf.new ≡ S.told shelf.old }
+    ensures shelf_later { S.faults shelf.old ≤ S.faults shelf.new }
+    ensures out_later { K.faults out.old ≤ K.faults out.new }
+{
+    match read_order(alloc, words) {
+        Ok(order) => Reply {
+            outcome: follow(alloc, &order, shelf, out),
+            bounds: bounds_of(order.fabric),
+        },
+        Err(OrderFault::Help) => Reply {
+            outcome: written(out, HELP, Outcome::Plain(Answer::Ok)),
+            bounds: Bounds::BASE,
+        },
+        Err(OrderFault::Usage) => Reply {
+            outcome: Outcome::Usage,
+            bounds: Bounds::BASE,
+        },
+        Err(OrderFault::Memory(_)) => Reply {
+            outcome: Outcome::Plain(Answer::Memory),
+            bounds: Bounds::BASE,
+        },
+    }
+}

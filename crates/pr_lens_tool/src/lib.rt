@@ -1,0 +1,16 @@
+//! The companion, over files and sinks: words in, texts for people out.
+#![tactic(auto)]
+
+mod asking;
+mod calling;
+mod explanations;
+mod logs;
+mod orders;
+mod outcomes;
+mod programs;
+
+pub use asking::{OrderFault, read_order};
+pub use calling::pipelens;
+pub use explanations::put_explanation;
+pub use orders::{Drawing, Order, Question, Task};
+pub use outcomes::{Outcome, Reply};

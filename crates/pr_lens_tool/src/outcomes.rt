@@ -1,0 +1,116 @@
+//! What a call comes to.
+
+ghost use Rattle.std.specs.Prelude.{◌≡◌, ◌≤◌};
+ghost use Rattle.pr_tool.specs.Noted.{GainsNote};
+ghost use Rattle.pr_lens_tool.specs.Outcomes.{status_of, bad_log_line, line_of};
+
+use arrayvec::ArrayString;
+use itoa::Buffer;
+use pr_edge::{Sink, write_all};
+use pr_tool::{Answer, Bounds, put_note};
+use std::alloc::AllocError;
+
+/// What a call comes to.
+#[derive(Clone, Copy, PartialEq, Eq, Debug)]
+pub enum Outcome {
+    /// As `piperench` answers.
+    Plain(Answer),
+    /// The same, and what was written explains it.
+    Explained(Answer),
+    /// The words are no lawful command line.
+    Usage,
+    /// The line of a log, counted from 1, is none.
+    BadLog { line: usize },
+    /// A log has too many bytes.
+    LongLog,
+}
+
+/// A text that is made whole, and what the call comes to where it is written.
+#[derive(Drop)]
+pub struct Output {
+    pub text: Vec<u8>,
+    pub outcome: Outcome,
+}
+
+/// What a call comes to, and the limits that its line tells.
+#[derive(Clone, Copy, PartialEq, Eq, Debug)]
+pub struct Reply {
+    pub outcome: Outcome,
+    pub bounds: Bounds,
+}
+
+/// The line for words that are no lawful command line.
+const USAGE: &str =
+    "usage: pipelens TASK FILE [--fabric F] [--narrow] [--samples N]; pipelens --help says more\n";
+
+/// The line for a log with too many bytes.
+const LONG: &str = "limit: log-bytes 16777216\n";
+
+impl Outcome {
+    /// The status with which a process ends.
+    pub fn status(&self) -> u8
+        ensures { result ≡ status_of self.now }
+    {
+        match self {
+            Outcome::Plain(answer) | Outcome::Explained(answer) => answer.status(),
+            Outcome::Usage => 2,
+            Outcome::BadLog { .. } => 15,
+            Outcome::LongLog => 6,
+        }
+    }
+}
+
+/// The line for a line of a log that is none.
+fn bad_log(line: usize) -> ArrayString<64>
+    ensures { result.bytes ≡ bad_log_line line }
+{
+    let mut text = ArrayString::new();
+    text.push_str("bad log: line ");
+    let mut buffer = Buffer::new();
+    text.push_str(buffer.format(line));
+    text.push_str("\n");
+    text
+}
+
+/// Writes these bytes. A failure is of no account.
+fn put_bytes<E: Sink>(note: &mut E, bytes: &[u8])
+    ensures gains { GainsNote (E.told note.old) (E.told note.new) (E.faults note.old) (E.faults note.new) bytes.now }
+    ensures later { E.faults note.old ≤ E.faults note.new }
+{
+    match write_all(note, bytes) {
+        Ok(()) => {}
+        Err(_) => {}
+    }
+}
+
+impl Reply {
+    /// Writes the line that is told beside what is written, where there is one. A failure of it is of no account.
+    pub fn put_note<E: Sink>(&self, note: &mut E)
+        ensures gains { GainsNote (E.told note.old) (E.told note.new) (E.faults note.old) (E.faults note.new)
+            (line_of self.now) }
+        ensures later { E.faults note.old ≤ E.faults note.new }
+    {
+        match self.outcome {
+            Outcome::Plain(answer) => put_note(note, &self.bounds, &answer),
+            Outcome::Explained(_) => {}
+            Outcome::Usage => put_bytes(note, USAGE.as_bytes()),
+            Outcome::BadLog { line } => {
+                let text = bad_log(line);
+                put_bytes(note, text.as_bytes());
+            }
+            Outcome::LongLog => put_bytes(note, LONG.as_bytes()),
+        }
+    }
+}
+
+impl From<AllocError> for Outcome {
+    ghost use Rattle.std.specs.Prelude.{◌≡◌};
+    ghost use Rattle.pr_tool_answers.specs.declared.answers.Answer.{Answer};
+    ghost use Rattle.pr_lens_tool.specs.declared.outcomes.Outcome.TheVariants.{Plain};
+
+    ghost from_gives = { λ a e. e ≡ Plain Answer.Memory };
+
+    fn from(_error: AllocError) -> Outcome {
+        Outcome::Plain(Answer::Memory)
+    }
+}

@@ -1,0 +1,167 @@
+//! What is made of programs.
+
+ghost use Rattle.std.specs.Prelude.{◌≡◌, ◌≤◌, ◌⊎◌, length, IfOk, IfErr};
+ghost use Rattle.pr_tool_answers.specs.declared.answers.Answer.{Answer};
+ghost use Rattle.pr_tool_modes.specs.Programs.{compile_answer, IsUncompiled};
+ghost use Rattle.pr_lens_tool.specs.declared.orders.Question.TheVariants.{Why, Cost as AskCost, Graph};
+ghost use Rattle.pr_lens_tool.specs.Outcomes.{IsTold};
+
+use crate::explanations::put_explanation;
+use crate::orders::{Order, Question};
+use crate::outcomes::{Outcome, Output};
+use pr_base::Fabric;
+use pr_compile::CompileFault;
+use pr_lens_cost::{Cost, Savings, cost_of, put_cost};
+use pr_lens_graph::{graph, layout_of};
+use pr_lens_why::{Verdict, explain};
+use pr_tool::{Answer, Bounds};
+use std::alloc::Global;
+
+/// The answer that a fault of a text is.
+fn answer_of(fault: &CompileFault) -> Answer
+    ensures { result ≡ compile_answer fault.now }
+{
+    match *fault {
+        CompileFault::Syntax { token } => Answer::Syntax { token },
+        CompileFault::Scope { rule, item } => Answer::Scope { rule, item },
+        CompileFault::NoWidth { equation } => Answer::NoWidth { equation },
+        CompileFault::NoFit { unit } => Answer::NoFit { unit },
+        CompileFault::Limit(which) => Answer::Limit { which },
+        CompileFault::Memory(_) => Answer::Memory,
+    }
+}
+
+/// The limits for programs on a fabric.
+pub fn bounds_of(fabric: Fabric) -> Bounds
+    ensures { result.fabric ≡ fabric }
+{
+    Bounds {
+        fabric,
+        ..Bounds::BASE
+    }
+}
+
+/// Why a program is refused, or that it is accepted.
+fn why<const N: usize, const P: usize>(
+    alloc: Global,
+    order: &Order,
+    text: &[u8],
+) -> Result<Output, Answer>
+    requires short { length text.now ≤ 1048576 }
+    requires columns { 1 ≤ N }
+    requires most_columns { N ≤ 64 }
+    requires registers { 2 ≤ P }
+    requires most_registers { P ≤ 16 }
+    ensures told { IfOk result (λ o. IsTold Why N P order.now.narrowed text.now o.outcome) }
+    ensures refused { IfErr result (λ a. a ≡ Answer.Memory) }
+{
+    match explain::<N, P>(alloc, text, order.narrowed)? {
+        Verdict::Accepted => Ok(Output {
+            text: Vec::from_slice(alloc, b"accepted\n")?,
+            outcome: Outcome::Plain(Answer::Ok),
+        }),
+        Verdict::Refused(explanation) => {
+            let answer = answer_of(&explanation.fault);
+            let bounds = bounds_of(order.fabric);
+            Ok(Output {
+                text: put_explanation(alloc, order.file, text, &explanation, &answer, &bounds)?,
+                outcome: Outcome::Explained(answer),
+            })
+        }
+    }
+}
+
+/// The cost of a program that is compiled the other way, where that is accepted.
+fn savings_of<const N: usize, const P: usize>(
+    alloc: Global,
+    text: &[u8],
+    narrowed: bool,
+) -> Result<Option<Savings>, Answer>
+    requires short { length text.now ≤ 1048576 }
+    requires columns { 1 ≤ N }
+    requires most_columns { N ≤ 64 }
+    requires registers { 2 ≤ P }
+    requires most_registers { P ≤ 16 }
+    ensures { IfErr result (λ a. a ≡ Answer.Memory) }
+{
+    match cost_of::<N, P>(alloc, text, narrowed) {
+        Ok(Cost { units, stages, .. }) => Ok(Some(Savings {
+            narrowed,
+            units,
+            stages: stages.len(),
+        })),
+        Err(CompileFault::Memory(_)) => Err(Answer::Memory),
+        Err(_) => Ok(None),
+    }
+}
+
+/// What a program costs.
+fn cost<const N: usize, const P: usize>(
+    alloc: Global,
+    order: &Order,
+    text: &[u8],
+) -> Result<Output, Answer>
+    requires short { length text.now ≤ 1048576 }
+    requires columns { 1 ≤ N }
+    requires most_columns { N ≤ 64 }
+    requires registers { 2 ≤ P }
+    requires most_registers { P ≤ 16 }
+    ensures told { IfOk result (λ o. IsTold AskCost N P order.now.narrowed text.now o.outcome) }
+    ensures refused { IfErr result (λ a. IsUncompiled N P order.now.narrowed text.now a ⊎ (a ≡ Answer.Memory)) }
+{
+    match cost_of::<N, P>(alloc, text, order.narrowed) {
+        Ok(cost) => {
+            let savings = savings_of::<N, P>(alloc, text, !order.narrowed)?;
+            Ok(Output {
+                text: put_cost(alloc, &cost, savings, N, u64::from(order.samples))?,
+                outcome: Outcome::Plain(Answer::Ok),
+            })
+        }
+        Err(fault) => Err(answer_of(&fault)),
+    }
+}
+
+/// The units of a program by stage with their wires.
+fn units<const N: usize, const P: usize>(
+    alloc: Global,
+    order: &Order,
+    text: &[u8],
+) -> Result<Output, Answer>
+    requires short { length text.now ≤ 1048576 }
+    requires columns { 1 ≤ N }
+    requires most_columns { N ≤ 64 }
+    requires registers { 2 ≤ P }
+    requires most_registers { P ≤ 16 }
+    ensures told { IfOk result (λ o. IsTold Graph N P order.now.narrowed text.now o.outcome) }
+    ensures refused { IfErr result (λ a. IsUncompiled N P order.now.narrowed text.now a ⊎ (a ≡ Answer.Memory)) }
+{
+    match layout_of::<N, P>(alloc, text, order.narrowed) {
+        Ok(layout) => Ok(Output {
+            text: graph(alloc, &layout)?,
+            outcome: Outcome::Plain(Answer::Ok),
+        }),
+        Err(fault) => Err(answer_of(&fault)),
+    }
+}
+
+/// What is asked of a program.
+pub fn of_program<const N: usize, const P: usize>(
+    alloc: Global,
+    order: &Order,
+    question: Question,
+    text: &[u8],
+) -> Result<Output, Answer>
+    requires short { length text.now ≤ 1048576 }
+    requires columns { 1 ≤ N }
+    requires most_columns { N ≤ 64 }
+    requires registers { 2 ≤ P }
+    requires most_registers { P ≤ 16 }
+    ensures told { IfOk result (λ o. IsTold question N P order.now.narrowed text.now o.outcome) }
+    ensures refused { IfErr result (λ a. IsUncompiled N P order.now.narrowed text.now a ⊎ (a ≡ Answer.Memory)) }
+{
+    match question {
+        Question::Why => why::<N, P>(alloc, order, text),
+        Question::Cost => cost::<N, P>(alloc, order, text),
+        Question::Graph => units::<N, P>(alloc, order, text),
+    }
+}
