@@ -4,6 +4,7 @@
 ghost use Rattle.std.specs.Prelude.{◌≡◌, ◌≢◌, ◌+◌, ◌*◌, ◌<◌, ◌≤◌, ◌↔◌, ℕ, [], ◌∷◌, ◌++◌, length, IsErr, IfOk, OnOk, OnErr};
 ghost use Rattle.pr_queue.specs.Pieces.{Pieces, slot};
 
+use pr_lanes::copy_row;
 use std::alloc::{AllocError, Global};
 use std::marker::Model;
 use thiserror::Error;
@@ -50,7 +51,7 @@ fn fill_slot(slots: &mut [u8], at: usize, piece: &[u8])
     ensures others { (k : ℕ) → k ≢ at → slot (length piece.now) slots.new k ≡ slot (length piece.now) slots.old k }
 {
     let start = at * piece.len();
-    slots[start..start + piece.len()].copy_from_slice(piece);
+    copy_row(&mut slots[start..start + piece.len()], piece);
 }
 
 /// Fills a piece from a slot of as many bytes.
@@ -59,7 +60,7 @@ fn read_slot(into: &mut [u8], slots: &[u8], at: usize)
     ensures { into.new ≡ slot (length into.old) slots.now at }
 {
     let start = at * into.len();
-    into.copy_from_slice(&slots[start..start + into.len()]);
+    copy_row(into, &slots[start..start + into.len()]);
 }
 
 impl Queue {
