@@ -71,5 +71,5 @@ padded row k i = elim (cases_lt i (length row)) as (λ _. get_or row i 0 ≡ get
 ]
 
 -- a row of zeros whose front is written
-pub front_padded : (row new : List ℕ) → new ≡ row → new ++ drop (length row) (replicate 240 0) ≡ row ++ replicate (240 - length row) 0
-front_padded row new e = ap (λ xs. xs ++ drop (length row) (replicate 240 0)) e ∙ ap (λ xs. row ++ xs) (drop-replicate (length row) 240 0)
+pub front_padded : (n : ℕ) (row new : List ℕ) → new ≡ row → new ++ drop (length row) (replicate n 0) ≡ row ++ replicate (n - length row) 0
+front_padded n row new e = ap (λ xs. xs ++ drop (length row) (replicate n 0)) e ∙ ap (λ xs. row ++ xs) (drop-replicate (length row) n 0)

@@ -1,6 +1,6 @@
 //! Rows that are made of the elements of a stage.
 
-ghost use Rattle.std.specs.Prelude.{true, false, ◌≡◌, ◌+◌, ◌<◌, ◌≤◌, ◌^◌, ℕ, length, slice_index, slice_index_or, if◌then◌else◌, ◌==◌, nat_lt, ◌-◌, ◌%◌};
+ghost use Rattle.std.specs.Prelude.{true, false, ◌≡◌, ◌+◌, ◌<◌, ◌≤◌, ◌^◌, ℕ, length, slice_index, slice_index_or, if◌then◌else◌, ◌==◌, nat_lt, ◌-◌, ◌%◌, bit_xor};
 ghost use Rattle.pr_base.specs.Pe.{carry_in, next_state};
 ghost use Rattle.pr_conf.specs.declared.pes.Pe.{Pe};
 ghost use Rattle.pr_conf.specs.declared.pes.Source.{Source};
@@ -202,16 +202,52 @@ fn table_row(pes: &[Pe], c: u8, bit: u8) -> [u8; 16]
     row
 }
 
+/// The bits in which two rows differ.
+fn between(one: &[u8], other: &[u8]) -> [u8; 16]
+    requires one { length one.now ≡ 16 }
+    requires other { length other.now ≡ 16 }
+    ensures { (k : ℕ) → k < 16 → slice_index other.now k ≡ bit_xor (slice_index one.now k) (slice_index result k) }
+{
+    let mut row = [0; 16];
+    for k in 0..16 {
+        row[k] = one[k] ^ other[k];
+    }
+    row
+}
+
+/// Whether these are the bits in which two rows differ.
+fn are_between(one: &[u8; 16], other: &[u8; 16], bits: &[u8; 16]) -> bool
+    ensures { result ≡ true → (k : ℕ) → k < 16
+        → slice_index other.now k ≡ bit_xor (slice_index one.now k) (slice_index bits.now k) }
+{
+    for k in 0..16 {
+        if other[k] != one[k] ^ bits[k] {
+            return false;
+        }
+    }
+    true
+}
+
 /// The tables of all columns, for one value of C.
 pub(crate) fn tables(pes: &[Pe], c: u8) -> Table
     requires pes { length pes.now ≡ 16 }
     ensures { (k : ℕ) (d : Pe) → k < 16 → HasTable result k c (slice_index_or pes.now k d).table }
 {
+    let t1 = table_row(pes, c, 1);
+    let t2 = table_row(pes, c, 2);
+    let t4 = table_row(pes, c, 4);
+    let t8 = table_row(pes, c, 8);
+    let by_a = between(&t1, &t2);
+    let by_b = between(&t1, &t4);
+    let is_even = are_between(&t4, &t8, &by_a);
     Table {
-        t1: table_row(pes, c, 1),
-        t2: table_row(pes, c, 2),
-        t4: table_row(pes, c, 4),
-        t8: table_row(pes, c, 8),
+        t1,
+        t2,
+        t4,
+        t8,
+        by_a,
+        by_b,
+        is_even,
     }
 }
 

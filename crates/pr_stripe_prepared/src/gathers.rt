@@ -1,6 +1,6 @@
 //! Bytes that are gathered from a row and a state.
 
-ghost use Rattle.std.specs.Prelude.{◌≡◌, ◌+◌, ◌≤◌, ℕ, All, length, slice_index};
+ghost use Rattle.std.specs.Prelude.{◌≡◌, ◌+◌, ◌≤◌, ℕ, All, length, slice_index, bit_or};
 ghost use Rattle.pr_stripe_prepared.specs.Lanes.{HasLanes};
 ghost use Rattle.pr_stripe_prepared.specs.Gather.{begun_byte, gathered_byte, looked};
 
@@ -20,6 +20,20 @@ fn block_of(row: &[u8], term: &Term) -> u8x32
     )
 }
 
+/// What is gathered of bytes that are known, and of a state where a lane reads it.
+#[inline(always)]
+fn known(g: &Gather, state: u8x16) -> u8x32
+    requires { length state ≡ 16 }
+    ensures { HasLanes 32 result
+        (λ k. bit_or (slice_index g.now.known k) (looked (slice_index g.now.states k) 0 state)) }
+{
+    let known = u8x32::from_array(g.known);
+    if !g.reads_state {
+        return known;
+    }
+    either(known, look_up(state, u8x32::from_array(g.states)))
+}
+
 /// What is gathered of bytes that are known, of a state, and of the outputs of the columns.
 #[inline(always)]
 fn begun(g: &Gather, state: u8x16, made: u8x16) -> u8x32
@@ -27,10 +41,7 @@ fn begun(g: &Gather, state: u8x16, made: u8x16) -> u8x32
     requires made { length made ≡ 16 }
     ensures { HasLanes 32 result (begun_byte g.now state made) }
 {
-    let known = either(
-        u8x32::from_array(g.known),
-        look_up(state, u8x32::from_array(g.states)),
-    );
+    let known = known(g, state);
     if !g.has_here {
         return known;
     }

@@ -1,6 +1,6 @@
 //! Rows of 16 bytes, one or two at a time, lane by lane.
 
-ghost use Rattle.std.specs.Prelude.{true, ◌≡◌, ℕ, ◌+◌, ◌*◌, ◌/◌, ◌%◌, ◌^◌, ◌<◌, ◌≤◌, length, slice_index, ◌==◌, if◌then◌else◌, nat_le, bit_or, bit_and};
+ghost use Rattle.std.specs.Prelude.{true, ◌≡◌, ℕ, ◌+◌, ◌*◌, ◌/◌, ◌%◌, ◌^◌, ◌<◌, ◌≤◌, length, slice_index, ◌==◌, if◌then◌else◌, nat_le, nat_lt, bit_or, bit_and, bit_xor};
 ghost use Rattle.std.specs.Simd.Lanes.{number_l, digits_l};
 ghost use Rattle.pr_base.specs.Pe.{shifted};
 ghost use Rattle.pr_lanes.specs.Rows.{chosen, ones_where};
@@ -138,6 +138,32 @@ pub(crate) fn choose(off: u8x16, on: u8x16, by: u8x16) -> u8x16
     ensures bytes { (k : ℕ) → k < 16 → (slice_index off k < 256) × (slice_index on k < 256) }
 {
     (off & !by) | (on & by)
+}
+
+/// The bytes of `on` where that of `by` is above 127, and those of `off` elsewhere.
+#[inline(always)]
+pub(crate) fn blended(off: u8x16, on: u8x16, by: u8x16) -> u8x16
+    requires off { length off ≡ 16 }
+    requires on { length on ≡ 16 }
+    requires by { length by ≡ 16 }
+    ensures { HasLanes 16 result
+        (λ k. if nat_lt 127 (slice_index by k) then slice_index on k else slice_index off k) }
+{
+    u8x16::splat(127).simd_lt(by).select(on, off)
+}
+
+/// A row in which the bits that two others both have are turned round.
+#[inline(always)]
+pub(crate) fn turned(row: u8x16, by: u8x16, mask: u8x16) -> u8x16
+    requires row { length row ≡ 16 }
+    requires by { length by ≡ 16 }
+    requires mask { length mask ≡ 16 }
+    ensures lanes { HasLanes 16 result
+        (λ k. bit_xor (slice_index row k) (bit_and (slice_index by k) (slice_index mask k))) }
+    ensures bytes { (k : ℕ) → k < 16 →
+        (slice_index row k < 256) × (slice_index by k < 256) × (slice_index mask k < 256) }
+{
+    row ^ (by & mask)
 }
 
 /// The bits that one or the other has.

@@ -16,7 +16,7 @@ use crate::elements::{
 use crate::levels::{are_ordered, levels_of, rounds_of};
 use crate::places::{any_here, here_row, known_row, row_row, state_row};
 use crate::stages::{Gather, Prepared};
-use crate::terms::terms_of;
+use crate::terms::{is_any, terms_of};
 use pr_conf::{Pe, Source};
 use std::alloc::{AllocError, Global};
 
@@ -49,11 +49,14 @@ fn gather_of(alloc: Global, sources: &[Source; 32], registers: usize) -> Result<
     ensures inside { IfOk result (λ g. All (λ t. t.from + 16 ≤ registers * 16) g.terms.items) }
 {
     let terms = terms_of(alloc, &row_row(sources), registers)?;
+    let states = state_row(sources);
+    let reads_state = is_any(&states);
     Ok(Gather {
         known: known_row(sources),
-        states: state_row(sources),
+        states,
         heres: here_row(sources),
         terms,
+        reads_state,
         has_here: any_here(sources),
     })
 }

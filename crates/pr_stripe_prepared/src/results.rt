@@ -5,9 +5,23 @@ ghost use Rattle.pr_stripe_prepared.specs.Lanes.{HasLanes};
 ghost use Rattle.pr_stripe_prepared.specs.Operands.{carry_k, found, found_by, summed, result_k};
 ghost use Rattle.pr_lanes.specs.Rows.{row_by};
 
-use crate::lanes::{added, carries_of, choose, joined, masked, none_in, row_of};
+use crate::lanes::{added, carries_of, choose, joined, masked, none_in, row_of, turned};
 use crate::stages::{Prepared, Table};
 use std::simd::prelude::*;
+
+/// X of all columns, for one value of C, where each table has an even number of ones.
+#[inline(always)]
+fn look_up_even(table: &Table, a: u8x16, b: u8x16) -> u8x16
+    requires even { table.now.is_even ≡ true }
+    requires a { length a ≡ 16 }
+    requires b { length b ≡ 16 }
+    ensures { HasLanes 16 result (found_by table.now a b) }
+{
+    let constant = row_of(&table.t1);
+    let by_a = row_of(&table.by_a);
+    let by_b = row_of(&table.by_b);
+    turned(turned(constant, a, by_a), b, by_b)
+}
 
 /// X of all columns, for one value of C.
 #[inline(always)]
@@ -16,6 +30,9 @@ fn look_up_half(table: &Table, a: u8x16, b: u8x16) -> u8x16
     requires b { length b ≡ 16 }
     ensures { HasLanes 16 result (found_by table.now a b) }
 {
+    if table.is_even {
+        return look_up_even(table, a, b);
+    }
     let without_b = choose(row_of(&table.t1), row_of(&table.t2), a);
     let with_b = choose(row_of(&table.t4), row_of(&table.t8), a);
     choose(without_b, with_b, b)

@@ -42,6 +42,38 @@ fn round(q: &Prepared, row: &[u8], state: u8x16, before: Known) -> Known
     }
 }
 
+/// What is known before the first round.
+#[inline(always)]
+fn nothing() -> Known
+    ensures a { length result.a ≡ 16 }
+    ensures output { length result.output ≡ 16 }
+    ensures carries { length result.carries ≡ 16 }
+{
+    let none = u8x16::splat(0);
+    Known {
+        a: none,
+        output: none,
+        carries: none,
+    }
+}
+
+/// A and the outputs of all columns, after as many rounds as there are.
+#[inline(never)]
+fn columns_in_rounds(q: &Prepared, row: &[u8], state: u8x16) -> Known
+    requires row { q.now.reach ≤ length row.now }
+    requires state { length state ≡ 16 }
+    ensures a { length result.a ≡ 16 }
+    ensures output { length result.output ≡ 16 }
+    ensures columns { (pes : List Pe) (count k : ℕ) (d : Pe) → IsPrepared q.now pes count → k < 16
+        → IsColumn row.now state pes k (slice_index_or pes k d) (slice_index result.output k) (slice_index result.a k) }
+{
+    let mut made = nothing();
+    for _round in 0..q.rounds {
+        made = round(q, row, state, made);
+    }
+    made
+}
+
 /// A and the outputs of all columns.
 #[inline(always)]
 pub(crate) fn columns(q: &Prepared, row: &[u8], state: u8x16) -> Known
@@ -52,18 +84,9 @@ pub(crate) fn columns(q: &Prepared, row: &[u8], state: u8x16) -> Known
     ensures columns { (pes : List Pe) (count k : ℕ) (d : Pe) → IsPrepared q.now pes count → k < 16
         → IsColumn row.now state pes k (slice_index_or pes k d) (slice_index result.output k) (slice_index result.a k) }
 {
-    let none = u8x16::splat(0);
-    let mut made = Known {
-        a: none,
-        output: none,
-        carries: none,
-    };
     if q.rounds == 1 {
         // Most stages have one round: written out, it keeps no count and no rows for the next round.
-        return round(q, row, state, made);
+        return round(q, row, state, nothing());
     }
-    for _round in 0..q.rounds {
-        made = round(q, row, state, made);
-    }
-    made
+    columns_in_rounds(q, row, state)
 }

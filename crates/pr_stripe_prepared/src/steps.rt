@@ -8,10 +8,10 @@ ghost use Rattle.pr_stripe_columns.specs.Elements.{outputs_of};
 ghost use Rattle.pr_stripe_prepared.specs.Elements.{AreMarks};
 ghost use Rattle.pr_stripe_prepared.specs.Prepared.{IsPrepared};
 
-use crate::lanes::{choose, loaded, row_of, store};
+use crate::lanes::{blended, choose, loaded, row_of, store};
 use crate::rounds::columns;
 use crate::stages::Prepared;
-use pr_lanes::pass_row;
+use pr_lanes::copy_row;
 use std::simd::prelude::*;
 
 /// Makes a register of the one before, and of the outputs where they are marked.
@@ -25,7 +25,10 @@ fn pass_one(into: &mut [u8], before: &[u8], output: &[u8], marks: &[u8])
         → ((i : ℕ) (d : Pe) → i < 16 → slice_index marks.now i ≡ (if (slice_index_or pes i d).write == reg then 255 else 0))
         → output.now ≡ outputs_of made → into.new ≡ passed reg pes made before.now }
 {
-    pass_row(into, before, output, marks);
+    let old = loaded(before);
+    let fresh = loaded(output);
+    let by = loaded(marks);
+    store(into, blended(old, fresh, by));
 }
 
 /// Makes so many registers of those before, and of the outputs where they are marked.
@@ -107,14 +110,14 @@ fn wide_step(
     step(q, registers, state, wide, zeros, count);
 }
 
-/// A sample with zeros behind it, up to the bytes of the longest row.
-fn padded(bus: &[u8]) -> [u8; 240]
-    requires { length bus.now ≤ 240 }
-    ensures long { length result ≡ 240 }
-    ensures bytes { result ≡ bus.now ++ replicate (240 - length bus.now) 0 }
+/// A sample with zeros behind it, up to so many bytes.
+fn padded<const LONG: usize>(bus: &[u8]) -> [u8; LONG]
+    requires { length bus.now ≤ LONG }
+    ensures long { length result ≡ LONG }
+    ensures bytes { result ≡ bus.now ++ replicate (LONG - length bus.now) 0 }
 {
-    let mut wide = [0; 240];
-    wide[..bus.len()].copy_from_slice(bus);
+    let mut wide = [0; LONG];
+    copy_row(&mut wide[..bus.len()], bus);
     wide
 }
 
@@ -138,8 +141,13 @@ pub fn first_step(
         → registers.new ≡ registers_to count 16 true pes (made_from 16 bus.now state.old [] pes) bus.now }
     ensures state { (pes : List Pe) → IsPrepared q.now pes count → state.new ≡ state_map 16 pes state.old bus.now }
 {
+    // Of 112 bytes is a row of the base fabric, and of 240 the longest one.
+    if q.reach.max(bus.len()) <= 112 {
+        wide_step(q, registers, state, &padded::<112>(bus), zeros, count);
+        return;
+    }
     if bus.len() < 240 {
-        wide_step(q, registers, state, &padded(bus), zeros, count);
+        wide_step(q, registers, state, &padded::<240>(bus), zeros, count);
         return;
     }
     wide_step(q, registers, state, bus, zeros, count);

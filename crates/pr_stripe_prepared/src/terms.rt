@@ -23,7 +23,7 @@ fn picks_in(places: &[u16; 32], block: usize) -> [u8; 32]
 }
 
 /// Whether one of these is a place.
-fn is_any(picks: &[u8; 32]) -> bool
+pub(crate) fn is_any(picks: &[u8; 32]) -> bool
     ensures { result ≡ false → (k : ℕ) → k < 32 → 128 ≤ slice_index picks.now k }
 {
     let mut any = false;

@@ -1,17 +1,6 @@
 use Rattle.std.proofs.Common.{arith}
 use Rattle.pr_stripe_prepared.proofs.rounds.columns.Goals as goal
 
-pub loop-round-preserved : goal.loop-round-preserved
-loop-round-preserved c = record {
-  a = c.round-made.ensures.a;
-  output = c.round-made.ensures.output;
-  carries = c.round-made.ensures.carries;
-  right = λ pes count p. c.round-made.ensures.right pes count c.loop-round._round p (c.loop-round.invariant.right pes count p);
-}
-
-pub returns-clause-columns : goal.returns-clause-columns
-returns-clause-columns c = λ pes count k d p l. (c.loop-round.invariant.right pes count p).columns k d l (let o = (p.ordered k d l).before in omega arith)
-
 -- before the first round no column has to be right
 pub returns-then-q-eq1-clause-columns : goal.returns-then-q-eq1-clause-columns
 returns-then-q-eq1-clause-columns c = λ pes count k d p l.

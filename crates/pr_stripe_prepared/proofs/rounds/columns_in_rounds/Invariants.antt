@@ -2,7 +2,7 @@ use Rattle.std.proofs.Common.{◌≡◌, ℕ, List, length}
 use Rattle.pr_conf.specs.declared.pes.Pe.{Pe}
 use Rattle.pr_stripe_prepared.specs.Prepared.{IsPrepared}
 use Rattle.pr_stripe_prepared.specs.Rounds.{IsRight}
-use Rattle.pr_stripe_prepared.proofs.rounds.columns.Given as goal
+use Rattle.pr_stripe_prepared.proofs.rounds.columns_in_rounds.Given as goal
 
 abbrev pub invariant-loop-round : goal.invariant-loop-round
 invariant-loop-round l = record {
