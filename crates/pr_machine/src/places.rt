@@ -16,7 +16,7 @@ ghost use Rattle.pr_machine.specs.Ready.{AreReady};
 use crate::buffers::Buffers;
 use crate::results::read_result;
 use pr_conf::{Configuration, Stage};
-use pr_control::{Store, place_back, place_before};
+use pr_control::{Store, place_before};
 use pr_stripe::{Blank, Live, Row, Stripe};
 use std::mem;
 
@@ -226,9 +226,11 @@ fn step_ring<const N: usize, const P: usize>(
     ensures here { AreHere (vec_len conf.now.stages) places.new }
 {
     let n = places.len();
-    for d in 0..n - 1 {
-        let at = place_back(n, q, d);
-        step_at(places, conf, at, place_before(n, at), buffers, valid);
+    let mut at = place_before(n, q);
+    for _d in 0..n - 1 {
+        let from = place_before(n, at);
+        step_at(places, conf, at, from, buffers, valid);
+        at = from;
     }
 }
 
@@ -375,7 +377,7 @@ pub(crate) fn is_stalled<const N: usize, const P: usize>(
     ensures { result
         ≡ (leaving_by (length places.now) (spots_of places.now) (stages == 1) entering last && ready == 16) }
 {
-    will_leave(places, stages, entering, last) && ready == 16
+    ready == 16 && will_leave(places, stages, entering, last)
 }
 
 /// Reads the result that leaves, if one does.
