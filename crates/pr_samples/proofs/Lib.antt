@@ -1,6 +1,7 @@
 pub mod ScanLemmas
 pub mod WordLemmas
 pub mod DigitLemmas
+pub mod ItemLemmas
 pub mod FedLemmas
 pub mod ReadingLemmas
 pub mod WrongLines

@@ -1,15 +1,17 @@
 -- The line of a result, piece by piece.
-use Rattle.std.proofs.Common.{◌≡◌, ℕ, suc, ◌+◌, ◌<◌, Bool, true, false, nat_lt, List, [], ◌∷◌, ◌++◌, map, take, drop, length, get_or, add-one, drop-cons, drop-drop, append_assoc, append-nil, refl, ap, sym, ◌∙◌, arith, if◌then◌else◌}
-use Rattle.std.specs.Prelude.{decimal, min, Result, Ok, Err, OnOk, OnErr}
+use Rattle.std.proofs.Common.{◌≡◌, ℕ, suc, ◌+◌, ◌*◌, ◌^◌, ◌%◌, ◌<◌, ◌≤◌, Bool, true, false, nat_lt, List, [], ◌∷◌, ◌++◌, map, take, drop, length, get_or, add-one, drop-cons, drop-drop, append_assoc, append-nil, refl, ap, sym, ◌∙◌, arith, if◌then◌else◌, take_all, lit<, mod-eq_of_lt}
+use Rattle.std.specs.Prelude.{decimal, min, sum_by, Result, Ok, Err, OnOk, OnErr}
+use Rattle.std.proofs.Math.Nat.{pow-le-pow_right, mul-le-mul_left}
 use Rattle.std.specs.List.{flat_map, join_with_byte}
 use Rattle.std.proofs.lemmas.List.{take_min, take-append-le}
 use Rattle.std.proofs.lemmas.Bool.Decides.{nat_tests}
 use Rattle.std.proofs.Math.Seq.{take-append-add}
 use Rattle.pr_base.specs.Numbers.{slices_of, number_of}
-use Rattle.pr_base.specs.Rows.{row_numbers}
+use Rattle.pr_base.specs.Rows.{row_numbers, row_line}
+use Rattle.pr_base.proofs.BytesLemmas.{pow_bytes}
 use Rattle.pr_edge.specs.Tape.{Tape, Appends, AppendsFront}
 use Rattle.pr_edge.proofs.Appending.{Appends-append}
-use Rattle.pr_samples.specs.Results.{rest_line, IsPut}
+use Rattle.pr_samples.specs.Results.{result_line, rest_line, IsPut}
 
 -- nothing is put yet
 pub put_none : (old : Tape) (line : List ℕ) → Appends old old [] → IsPut old old [] line line
@@ -54,6 +56,23 @@ join-flat x (n ∷ numbers) = ap (λ xs. x ++ (32 ∷ xs)) (join-flat (decimal n
 pub rest_line-cons : (begun : Bool) (n : ℕ) (numbers : List ℕ) → rest_line begun (n ∷ numbers) ≡ (if begun then 32 ∷ decimal n else decimal n) ++ rest_line true numbers
 rest_line-cons true n numbers = append_assoc (32 ∷ decimal n) (flat_map (λ n. 32 ∷ decimal n) numbers) (10 ∷ [])
 rest_line-cons false n numbers = ap (λ xs. xs ++ 10 ∷ []) (join-flat (decimal n) numbers) ∙ append_assoc (decimal n) (flat_map (λ n. 32 ∷ decimal n) numbers) (10 ∷ [])
+
+-- the line of a result of one output
+pub short_line : (widths bytes : List ℕ) → length widths ≡ 1 → length bytes ≡ sum_by slices_of widths → result_line widths bytes ≡ row_line (number_of bytes ∷ [])
+short_line [] bytes one long = absurd (omega arith)
+short_line (w ∷ []) bytes one long = ap (λ bs. row_line (number_of bs ∷ [])) (take_all (slices_of w) bytes (omega arith))
+short_line (w ∷ v ∷ widths) bytes one long = absurd (omega arith)
+
+-- a byte of at most eight is moved up to its place, and added
+pub moved_short : (n i b : ℕ) → i < 8 → b < 256 → n < 256 ^ i → (b * 2 ^ (8 * i) % 2 ^ 64 ≡ 256 ^ i * b) × (n + 256 ^ i * b < 256 ^ (i + 1)) × (n + 256 ^ i * b < 2 ^ 64)
+moved_short n i b low byte small =
+    let more : 256 ^ (i + 1) ≡ 256 ^ i * 256 = rw add-one (omega arith) in
+    let b_le : b ≤ 255 = omega arith in
+    let product : 256 ^ i * b ≤ 256 ^ i * 255 = mul-le-mul_left (256 ^ i) b_le in
+    let i_le : i + 1 ≤ 8 = omega arith in
+    let fits : 256 ^ (i + 1) ≤ 256 ^ 8 = pow-le-pow_right (lit< tt) i_le in
+    let same : b * 2 ^ (8 * i) ≡ 256 ^ i * b = rw (← pow_bytes i) (omega arith) in
+    (ap (λ x. x % 2 ^ 64) same ∙ mod-eq_of_lt (omega arith), omega arith, omega arith)
 
 -- the number of the next output
 pub row_numbers-next : (widths bytes : List ℕ) (i at : ℕ) → i < length widths

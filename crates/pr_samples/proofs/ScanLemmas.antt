@@ -56,7 +56,7 @@ unfolding whole_end
 whole_end-number widths numbers cursor n is room =
     rw (is, take_more_set numbers cursor.done n room, drop-drop 1 cursor.done widths) refl
 
-first_line-end : (widths : List ℕ) (s : Scan) (passed : ℕ) (rest : List ℕ)
+pub first_line-end : (widths : List ℕ) (s : Scan) (passed : ℕ) (rest : List ℕ)
     → first_line widths s passed (10 ∷ rest) ≡ first_or (whole_end s) (passed + 1) rest (first_line widths (fresh widths) (passed + 1) rest)
 unfolding first_line
 first_line-end widths s passed rest = refl

@@ -3,6 +3,7 @@
 
 mod digits;
 mod feed;
+mod items;
 mod laws;
 mod lines;
 mod results;

@@ -1,13 +1,14 @@
 //! Lines of results.
 ghost use Rattle.std.specs.Prelude.{◌≡◌, ◌<◌, ◌+◌, ◌≤◌, ◌++◌, ◌∷◌, ◌==◌, List, ℕ, [], All, length, drop, sum_by, decimal, not, OnOk, OnErr, if◌then◌else◌};
 ghost use Rattle.arrayvec.specs.ArrayString.{array_string_len};
-ghost use Rattle.pr_base.specs.Numbers.{slices_of};
+ghost use Rattle.pr_base.specs.Numbers.{slices_of, number_of};
+ghost use Rattle.pr_base.specs.Rows.{row_line};
 ghost use Rattle.pr_edge.specs.Count.{Rose};
 ghost use Rattle.pr_edge.specs.Tape.{Tape, Appends, AppendsFront};
 ghost use Rattle.pr_samples.specs.Results.{rest_line, result_line, IsPut};
 
 use arrayvec::ArrayString;
-use itoa::Buffer;
+use itoa::{Buffer, write_digits};
 use pr_base::{Num, number, slices};
 use pr_edge::{Sink, WriteFault, write_all};
 
@@ -84,6 +85,31 @@ fn put_line<K: Sink, const ROOM: usize>(
     write_all(sink, text.as_str().as_bytes())
 }
 
+/// The number of at most eight bytes, the least first.
+#[inline(always)]
+fn short_number(bytes: &[u8]) -> u64
+    requires { length bytes.now ≤ 8 }
+    ensures { result ≡ number_of bytes.now }
+{
+    let mut n = 0;
+    for i in 0..bytes.len() {
+        n += u64::from(bytes[i]) << (8 * i);
+    }
+    n
+}
+
+/// Writes the line of one number, which is put into its buffer from the end on.
+fn put_short<K: Sink>(sink: &mut K, n: u64) -> Result<(), WriteFault>
+    ensures all { OnOk result (Appends (K.told sink.old) (K.told sink.new) (row_line (n ∷ []))) }
+    ensures front { OnErr result (AppendsFront (K.told sink.old) (K.told sink.new) (row_line (n ∷ []))) }
+    ensures cause { OnErr result (Rose (K.faults sink.old) (K.faults sink.new)) }
+    ensures later { K.faults sink.old ≤ K.faults sink.new }
+{
+    let mut text = [b'\n'; 21];
+    let start = write_digits(n, &mut text, 20);
+    write_all(sink, &text[start..])
+}
+
 /// Writes the line of one result: for each output in order the number of its bytes, in decimal, with a blank between
 /// two, and LF.
 ///
@@ -97,6 +123,9 @@ pub fn put_result<K: Sink>(sink: &mut K, widths: &[u8], bytes: &[u8]) -> Result<
     ensures cause { OnErr result (Rose (K.faults sink.old) (K.faults sink.new)) }
     ensures later { K.faults sink.old ≤ K.faults sink.new }
 {
+    if widths.len() == 1 && bytes.len() <= 8 {
+        return put_short(sink, short_number(bytes));
+    }
     // As little room as the line may take, since all of a buffer is filled with zeros first.
     match widths.len() {
         0..=3 => put_line::<K, 128>(sink, widths, bytes),

@@ -1,6 +1,6 @@
 use Rattle.std.proofs.Common.{◌≡◌, ℕ, ◌+◌, ◌-◌, ◌≤◌, List, ◌++◌, drop, length}
 use Rattle.pr_samples.specs.Scan.{scan_of, first_line, begun}
-use Rattle.pr_samples.proofs.scan.read_part.Given as goal
+use Rattle.pr_samples.proofs.scan.read_lines.Given as goal
 
 abbrev pub invariant-loop-used : goal.invariant-loop-used
 invariant-loop-used l = record {
