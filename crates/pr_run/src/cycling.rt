@@ -1,6 +1,8 @@
 //! The last step of a turn: one cycle, and its line in the log.
 ghost use Rattle.std.specs.Prelude.{ℕ, ◌≡◌, ◌≤◌, ◌<◌, ◌+◌, ◌^◌, ◌++◌, ◌∷◌, [], length, Some, OnOk, OnErr};
 ghost use Rattle.pr_edge.specs.Count.{Rose};
+ghost use Rattle.pr_edge.specs.Tape.{Appends, AppendsFront};
+ghost use Rattle.pr_log.specs.Lines.{line_of};
 ghost use Rattle.pr_control.specs.Residents.{Resides};
 ghost use Rattle.pr_conf_pipeline.specs.Rows.{state_after};
 ghost use Rattle.pr_machine_account.specs.Account.{Cycle, done};
@@ -12,7 +14,7 @@ ghost use Rattle.pr_run.specs.Turns.{HasDone, HasBegun};
 
 use pr_edge::{Sink, WriteFault, write_all};
 use pr_log::line;
-use pr_machine::{Machine, Running};
+use pr_machine::{Machine, Running, Turn};
 
 /// The state row of a stage that was saved, and nothing where none was.
 fn saved_row<const N: usize, const P: usize>(
@@ -34,6 +36,19 @@ fn saved_row<const N: usize, const P: usize>(
             Some(row) => row,
         },
     }
+}
+
+/// Writes the line of a cycle. It stands apart, because the room for its text is filled with zeros where it begins.
+#[inline(never)]
+fn write_line<K: Sink>(out: &mut K, turn: &Turn, time: u64, state: &[u8]) -> Result<(), WriteFault>
+    requires { length state.now ≤ 64 }
+    ensures all { OnOk result (Appends (K.told out.old) (K.told out.new) (line_of turn.now time state.now)) }
+    ensures front { OnErr result (AppendsFront (K.told out.old) (K.told out.new) (line_of turn.now time state.now)) }
+    ensures cause { OnErr result (Rose (K.faults out.old) (K.faults out.new)) }
+    ensures later { K.faults out.old ≤ K.faults out.new }
+{
+    let text = line(turn, time, state);
+    write_all(out, text.as_bytes())
 }
 
 /// Asks the machine for one cycle, and writes its line where the log is asked for.
@@ -60,6 +75,5 @@ pub fn cycle_step<const N: usize, const P: usize, K: Sink>(
     if !log {
         return Ok(());
     }
-    let text = line(&turn, time, saved_row(machine, turn.saved));
-    write_all(out, text.as_bytes())
+    write_line(out, &turn, time, saved_row(machine, turn.saved))
 }

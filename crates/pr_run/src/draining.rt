@@ -101,6 +101,9 @@ pub fn drain_step<const N: usize, const P: usize, K: Sink>(
     if held {
         return Ok(());
     }
+    if machine.waiting_out() == 0 {
+        return Ok(());
+    }
     let size = machine.conf().result_bytes();
     drain(machine, out, widths, &mut bytes[..size])
 }

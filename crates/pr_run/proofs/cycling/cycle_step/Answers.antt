@@ -19,8 +19,8 @@ returns-clause-done g c = λ s h set is done.
     let told = cycle_line g.row.N g.row.P s.conf s.stripes h c.cycle-turn.result c.time-time.result c.saved_row.result.now set.some (omega (arith, set.two))
     (c.cycle-turn.ensures.turn s.conf s.stripes h done.stands) (c.time-time.ensures.told s.conf s.stripes h done.stands)
     (λ stage e inside away. c.saved_row.ensures.row s.conf s.stripes (h ++ Cycle ∷ []) stage stands e inside away) in
-    on_ok c.write_all.result _ _ (λ more. done_cycle s c.args.machine.now c.cycle-turn.new.self _ _ h line done stands (ap (λ b. cond b line []) (is ∙ c.if-not-log.false))
-    (rw (c.as_bytes.ensures.value, c.deref.ensures.0, c.line-text.ensures, told) at more)) c.write_all.ensures.all
+    on_ok c.write_line.result _ _ (λ more. done_cycle s c.args.machine.now c.cycle-turn.new.self _ _ h line done stands (ap (λ b. cond b line []) (is ∙ c.if-not-log.false))
+    (rw told at more)) c.write_line.ensures.all
 
 pub returns-clause-begun : goal.returns-clause-begun
 returns-clause-begun g c = λ s h set is done.
@@ -29,5 +29,5 @@ returns-clause-begun g c = λ s h set is done.
     let told = cycle_line g.row.N g.row.P s.conf s.stripes h c.cycle-turn.result c.time-time.result c.saved_row.result.now set.some (omega (arith, set.two))
     (c.cycle-turn.ensures.turn s.conf s.stripes h done.stands) (c.time-time.ensures.told s.conf s.stripes h done.stands)
     (λ stage e inside away. c.saved_row.ensures.row s.conf s.stripes (h ++ Cycle ∷ []) stage stands e inside away) in
-    on_err c.write_all.result _ _ (λ more. begun_cycle s c.args.machine.now c.cycle-turn.new.self _ _ h line done stands (ap (λ b. cond b line []) (is ∙ c.if-not-log.false))
-    (rw (c.as_bytes.ensures.value, c.deref.ensures.0, c.line-text.ensures, told) at more)) c.write_all.ensures.front
+    on_err c.write_line.result _ _ (λ more. begun_cycle s c.args.machine.now c.cycle-turn.new.self _ _ h line done stands (ap (λ b. cond b line []) (is ∙ c.if-not-log.false))
+    (rw told at more)) c.write_line.ensures.front
