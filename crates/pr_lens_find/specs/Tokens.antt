@@ -1,5 +1,5 @@
 -- Where the tokens and the items of a text stand.
-use Rattle.std.specs.Prelude.{ℕ, ◌-◌, List, length, min, take, slice_range}
+use Rattle.std.specs.Prelude.{ℕ, ◌-◌, List, length, max, min, take, slice_range}
 use Rattle.std.specs.List.{slice_get}
 use Rattle.std.specs.Option.{option_map_or}
 use Rattle.pr_lang.specs.declared.tokens.Kind.{Kind}
@@ -30,6 +30,10 @@ text_before text tokens k = take (start_of text tokens k) text
 -- the token at which an item begins, and the last token behind the last item
 abbrev pub first_of : List Token → List Span → ℕ → ℕ
 first_of tokens spans item = option_map_or (λ (s : Span). s.first) (slice_get spans item) (length tokens - 1)
+
+-- the token at which it ends, but none before its first; the last token behind the last item
+abbrev pub last_of : List Token → List Span → ℕ → ℕ
+last_of tokens spans item = option_map_or (λ (s : Span). max s.first s.last) (slice_get spans item) (length tokens - 1)
 
 -- the text of the items before this one
 abbrev pub front_text : List ℕ → List Token → List Span → ℕ → List ℕ

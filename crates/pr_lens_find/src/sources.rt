@@ -1,8 +1,8 @@
 //! A text, its tokens, and where its items stand.
 
-ghost use Rattle.std.specs.Prelude.{◌≡◌, ◌≤◌, length, IfOk, All};
-ghost use Rattle.pr_lens_find.specs.Tokens.{kind_of, start_of, end_of, bytes_of, text_before, first_of, front_text};
-ghost use Rattle.pr_lens_find.specs.Spans.{IsSpanWithin};
+ghost use Rattle.std.specs.Prelude.{◌≡◌, ◌≤◌, ◌⊎◌, ℕ, Some, length, nat_le, position, IfOk, All};
+ghost use Rattle.pr_lens_find.specs.Tokens.{kind_of, start_of, end_of, bytes_of, text_before, first_of, last_of, front_text};
+ghost use Rattle.pr_lens_find.specs.Spans.{IsSpanWithin, IsItemAt, StandsIn};
 
 use pr_lang::{Keyword, Kind, Symbol, Token};
 use std::alloc::{AllocError, Global};
@@ -87,12 +87,44 @@ impl<'a> Source<'a> {
         }
     }
 
-    /// The item in which a token stands, and the number of items behind them all.
-    pub fn item_at(&self, token: usize) -> usize {
-        self.spans
-            .iter()
-            .position(|span| token <= span.last)
-            .unwrap_or(self.spans.len())
+    /// The last token of an item, but none before its first; the last of all tokens behind the last item.
+    pub fn last(&self, item: usize) -> usize
+        ensures value { result ≡ last_of self.now.tokens.now self.now.spans.now item }
+        ensures order { first_of self.now.tokens.now self.now.spans.now item ≤ result }
+    {
+        match self.spans.get(item) {
+            None => self.tokens.len().saturating_sub(1),
+            Some(span) => span.first.max(span.last),
+        }
+    }
+
+    /// The token that was found, where it stands in the item; else the item's first token.
+    pub fn held(&self, item: usize, found: Option<usize>) -> usize
+        ensures stands { StandsIn self.now.tokens.now self.now.spans.now item result }
+        ensures taken { (token : ℕ) → found ≡ Some token →
+            StandsIn self.now.tokens.now self.now.spans.now item token → result ≡ token }
+        ensures other { (result ≡ first_of self.now.tokens.now self.now.spans.now item) ⊎ (found ≡ Some result) }
+    {
+        let first = self.first(item);
+        let last = self.last(item);
+        match found {
+            None => {
+                return first;
+            }
+            Some(token) => {
+                if first <= token && token <= last {
+                    return token;
+                }
+                return first;
+            }
+        }
+    }
+
+    /// The item in which a token stands: the first that does not end before it; the number of items behind them all.
+    pub fn item_at(&self, token: usize) -> usize
+        ensures { IsItemAt self.now.spans.now token result }
+    {
+        first_ending(self.spans, token).unwrap_or(self.spans.len())
     }
 
     /// The text of the items before this one.
@@ -102,6 +134,13 @@ impl<'a> Source<'a> {
     {
         self.before(self.first(item))
     }
+}
+
+/// The first item that does not end before a token.
+fn first_ending(spans: &[Span], token: usize) -> Option<usize>
+    ensures { result ≡ position (λ span. nat_le token span.last) spans.now }
+{
+    spans.iter().position(|span| token <= span.last)
 }
 
 /// How deep brackets are open after a token.
