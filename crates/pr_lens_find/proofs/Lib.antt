@@ -1,3 +1,6 @@
 pub mod Items
+pub mod Lookups
+pub mod MadeLemmas
+pub mod OffenceLemmas
 pub mod Possible
 pub mod SpanLemmas

@@ -1,6 +1,8 @@
 //! The equations of programs that end earlier.
 
-ghost use Rattle.std.specs.Prelude.{◌≤◌, ◌-◌, length, IfOk};
+ghost use Rattle.std.specs.Prelude.{◌≤◌, length, min, IfOk, IsFalse, IsTrue};
+ghost use Rattle.pr_lens_find.specs.Tokens.{front_text};
+ghost use Rattle.pr_lens_find.specs.Made.{IsMadeOf, IsMade, IsMadeIn, IsMadeCut, HasMoreIn, HasNoMoreIn, IsManyWith};
 
 use crate::fronts::{Part, cut_front, front_of, with_ends};
 use crate::sources::Source;
@@ -20,7 +22,9 @@ pub enum Made {
 }
 
 /// The equations of a program that keeps the rules of scope.
-fn made_of(alloc: Global, scoped: &Scoped) -> Result<Made, AllocError> {
+fn made_of(alloc: Global, scoped: &Scoped) -> Result<Made, AllocError>
+    ensures { IfOk result (IsMadeOf scoped.now.program) }
+{
     match expand(alloc, scoped) {
         Ok(flat) => Ok(Made::Flat(flat)),
         Err(ExpandFault::Limit(_)) => Ok(Made::TooMany),
@@ -28,19 +32,24 @@ fn made_of(alloc: Global, scoped: &Scoped) -> Result<Made, AllocError> {
     }
 }
 
-/// The equations of a program, and of an input behind them where it has none.
-fn equations_of(alloc: Global, program: Program) -> Result<Made, AllocError> {
-    let program = with_ends(alloc, program)?;
-    match check(alloc, program) {
+/// The equations of a program with an input and an output behind its items, where it has none.
+fn equations_of(alloc: Global, program: Program) -> Result<Made, AllocError>
+    ensures { IfOk result (IsMade program) }
+{
+    let ended = with_ends(alloc, program)?;
+    match check(alloc, ended) {
         Ok(scoped) => made_of(alloc, &scoped),
+        Err(ScopeFault::Scope { rule: _, item: _ }) => Ok(Made::Refused),
+        Err(ScopeFault::Limit(_)) => Ok(Made::Refused),
         Err(ScopeFault::Memory(error)) => Err(error),
-        Err(_) => Ok(Made::Refused),
     }
 }
 
 /// The equations of the items before this one.
 fn made_before(alloc: Global, source: &Source, item: usize) -> Result<Made, AllocError>
     requires { length source.now.text.now ≤ 1048576 }
+    ensures { let front = front_text source.now.text.now source.now.tokens.now source.now.spans.now item in
+        IfOk result (IsMadeIn front) }
 {
     match front_of(alloc, source, item)? {
         None => Ok(Made::Refused),
@@ -51,6 +60,8 @@ fn made_before(alloc: Global, source: &Source, item: usize) -> Result<Made, Allo
 /// The equations of the items before this one and of so many points of its expressions.
 pub fn made_with(alloc: Global, part: &Part, values: u32) -> Result<Made, AllocError>
     requires { length part.now.source.text.now ≤ 1048576 }
+    ensures { let source = part.now.source in IfOk result
+        (IsMadeCut source.text.now source.tokens.now source.spans.now part.now.number part.now.item.now) }
 {
     let cut = Cut {
         values,
@@ -63,9 +74,13 @@ pub fn made_with(alloc: Global, part: &Part, values: u32) -> Result<Made, AllocE
     }
 }
 
-/// Whether the items before this one have more than so many equations.
+/// Whether the items before this one have more than so many equations, or than are allowed.
 fn has_more(alloc: Global, source: &Source, item: usize, count: usize) -> Result<bool, AllocError>
     requires { length source.now.text.now ≤ 1048576 }
+    ensures more { let front = front_text source.now.text.now source.now.tokens.now source.now.spans.now item in
+        IfOk result (λ more. IsTrue more → HasMoreIn front (min count 16384)) }
+    ensures few { let front = front_text source.now.text.now source.now.tokens.now source.now.spans.now item in
+        IfOk result (λ more. IsFalse more → HasNoMoreIn front count) }
 {
     match made_before(alloc, source, item)? {
         Made::Flat(flat) => Ok(flat.equations.len() > count),
@@ -77,7 +92,7 @@ fn has_more(alloc: Global, source: &Source, item: usize, count: usize) -> Result
 /// The item that makes the equation of this number.
 pub fn equations_item(alloc: Global, source: &Source, equation: usize) -> Result<usize, AllocError>
     requires { length source.now.text.now ≤ 1048576 }
-    ensures { IfOk result (λ item. item ≤ length source.now.spans.now - 1) }
+    ensures { IfOk result (IsManyWith source.now.text.now source.now.tokens.now source.now.spans.now equation) }
 {
     let mut low = 0;
     let mut high = source.spans.len();

@@ -1,9 +1,12 @@
 //! Programs that end earlier.
 
-ghost use Rattle.std.specs.Prelude.{◌≡◌, ◌≤◌, length, IfOk, IfSome};
+ghost use Rattle.std.specs.Prelude.{◌≡◌, ◌≤◌, length, IfOk, IfNone, IfSome};
+ghost use Rattle.std.specs.List.{list_any};
 ghost use Rattle.pr_compile_front.specs.Refusals.{IsRead};
 ghost use Rattle.pr_lens_find.specs.Tokens.{front_text};
-ghost use Rattle.pr_lens_find.specs.Fronts.{IsSeen};
+ghost use Rattle.pr_lens_find.specs.Fronts.{IsSeen, IsUnread, IsCutFront};
+ghost use Rattle.pr_lens_find.specs.Offences.{IsItemOf};
+ghost use Rattle.pr_lens_find.specs.Made.{is_input, is_output, with_input, with_output, with_ends};
 
 use crate::sources::Source;
 use pr_lang::{Expr, Item, Name, Program};
@@ -15,21 +18,25 @@ use std::alloc::{AllocError, Global};
 /// The program of a text, where it is one.
 fn program_of(alloc: Global, text: &[u8]) -> Result<Option<Program>, AllocError>
     requires { length text.now ≤ 1048576 }
-    ensures { IfOk result (λ found. IfSome found (IsRead text.now)) }
+    ensures read { IfOk result (λ found. IfSome found (IsRead text.now)) }
+    ensures none { IfOk result (λ found. IfNone found (IsUnread text.now)) }
 {
     let found = tokens(alloc, text)?;
     match parse(alloc, text, &found) {
         Ok(program) => Ok(Some(program)),
+        Err(ParseFault::Syntax { token: _ }) => Ok(None),
+        Err(ParseFault::Limit(_)) => Ok(None),
         Err(ParseFault::Memory(error)) => Err(error),
-        Err(_) => Ok(None),
     }
 }
 
 /// The program of the items before this one.
 pub fn front_of(alloc: Global, source: &Source, item: usize) -> Result<Option<Program>, AllocError>
     requires { length source.now.text.now ≤ 1048576 }
-    ensures { let front = front_text source.now.text.now source.now.tokens.now source.now.spans.now item in
+    ensures read { let front = front_text source.now.text.now source.now.tokens.now source.now.spans.now item in
         IfOk result (λ found. IfSome found (IsRead front)) }
+    ensures none { let front = front_text source.now.text.now source.now.tokens.now source.now.spans.now item in
+        IfOk result (λ found. IfNone found (IsUnread front)) }
 {
     program_of(alloc, source.front(item))
 }
@@ -37,6 +44,8 @@ pub fn front_of(alloc: Global, source: &Source, item: usize) -> Result<Option<Pr
 /// The tree of an item.
 pub fn item_of(alloc: Global, source: &Source, item: usize) -> Result<Option<Item>, AllocError>
     requires { length source.now.text.now ≤ 1048576 }
+    ensures { IfOk result (λ found.
+        IfSome found (IsItemOf source.now.text.now source.now.tokens.now source.now.spans.now item)) }
 {
     match front_of(alloc, source, item.saturating_add(1))? {
         None => Ok(None),
@@ -55,11 +64,14 @@ pub struct Part<'a> {
 /// The program of the items before this one and as much of it as is kept.
 pub fn cut_front(alloc: Global, part: &Part, cut: Cut) -> Result<Option<Program>, AllocError>
     requires { length part.now.source.text.now ≤ 1048576 }
+    ensures { let source = part.now.source in IfOk result (λ found. IfSome found
+        (IsCutFront source.text.now source.tokens.now source.spans.now part.now.number part.now.item.now)) }
 {
     match front_of(alloc, &part.source, part.number)? {
         None => Ok(None),
         Some(mut program) => {
-            program.items.push(cut_item(alloc, cut, part.item)?)?;
+            let kept = cut_item(alloc, cut, part.item)?;
+            program.items.push(kept)?;
             Ok(Some(program))
         }
     }
@@ -86,43 +98,56 @@ pub fn see(alloc: Global, program: Program) -> Result<Seen, AllocError>
 }
 
 /// A name that no text has.
-fn unwritten(alloc: Global, bytes: &[u8]) -> Result<Name, AllocError> {
+fn unwritten(alloc: Global, bytes: &[u8]) -> Result<Name, AllocError>
+    ensures { IfOk result (λ name. name ≡ bytes.now) }
+{
     Ok(Name::new(Vec::from_slice(alloc, bytes)?))
 }
 
-/// Adds an input under a name that no text has.
-fn add_input(alloc: Global, program: &mut Program) -> Result<(), AllocError> {
-    let name = unwritten(alloc, b"?in")?;
-    program.items.push(Item::Input { name, width: 1 })?;
-    Ok(())
+fn has_input(items: &[Item]) -> bool
+    ensures { result ≡ list_any is_input items.now }
+{
+    items.iter().any(|item| matches!(item, Item::Input { .. }))
 }
 
-/// Adds an output under a name that no text has.
-fn add_output(alloc: Global, program: &mut Program) -> Result<(), AllocError> {
+fn has_output(items: &[Item]) -> bool
+    ensures { result ≡ list_any is_output items.now }
+{
+    items.iter().any(|item| matches!(item, Item::Output { .. }))
+}
+
+/// The program with an input more, where it has none.
+fn with_input(alloc: Global, mut program: Program) -> Result<Program, AllocError>
+    ensures { IfOk result (λ ended. ended.items.items ≡ with_input program.items.items) }
+{
+    if has_input(&program.items) {
+        return Ok(program);
+    }
+    let name = unwritten(alloc, b"?in")?;
+    program.items.push(Item::Input { name, width: 1 })?;
+    Ok(program)
+}
+
+/// The program with an output more, where it has none.
+fn with_output(alloc: Global, mut program: Program) -> Result<Program, AllocError>
+    ensures { IfOk result (λ ended. ended.items.items ≡ with_output program.items.items) }
+{
+    if has_output(&program.items) {
+        return Ok(program);
+    }
     let name = unwritten(alloc, b"?out")?;
     program.items.push(Item::Output {
         name,
         width: None,
         value: Expr::Number(0),
     })?;
-    Ok(())
-}
-
-fn has_input(items: &[Item]) -> bool {
-    items.iter().any(|item| matches!(item, Item::Input { .. }))
-}
-
-fn has_output(items: &[Item]) -> bool {
-    items.iter().any(|item| matches!(item, Item::Output { .. }))
+    Ok(program)
 }
 
 /// The program with an input and an output more behind all that it has, where it has none.
-pub fn with_ends(alloc: Global, mut program: Program) -> Result<Program, AllocError> {
-    if !has_input(&program.items) {
-        add_input(alloc, &mut program)?;
-    }
-    if !has_output(&program.items) {
-        add_output(alloc, &mut program)?;
-    }
-    Ok(program)
+pub fn with_ends(alloc: Global, program: Program) -> Result<Program, AllocError>
+    ensures { IfOk result (λ ended. ended.items.items ≡ with_ends program.items.items) }
+{
+    let begun = with_input(alloc, program)?;
+    with_output(alloc, begun)
 }

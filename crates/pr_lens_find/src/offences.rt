@@ -1,10 +1,13 @@
 //! Broken rules of scope.
 
-ghost use Rattle.std.specs.Prelude.{◌≤◌, length, IfOk, IsTrue};
+ghost use Rattle.std.specs.Prelude.{◌≤◌, length, IfOk, IfSome, IsFalse, IsTrue};
 ghost use Rattle.pr_scope.specs.Walk.{too_long};
 ghost use Rattle.pr_compile_front.specs.Refusals.{HasOffence};
 ghost use Rattle.pr_lens_find.specs.Tokens.{front_text};
-ghost use Rattle.pr_lens_find.specs.Fronts.{IsLongWith};
+ghost use Rattle.pr_lens_find.specs.Spans.{StandsIn};
+ghost use Rattle.pr_lens_find.specs.Fronts.{IsNotLong, IsLongWith};
+ghost use Rattle.pr_lens_find.specs.Offences.{IsAmong, IsWrongWidth, StandsBefore, IsAgain, IsOfFrame, IsOfItem, IsOfTree, IsFoundIn, IsTold};
+ghost use Rattle.pr_lens_items.specs.Steps.{entry_of, entries_of};
 
 use crate::counts::{numbered, short};
 use crate::fronts::{Part, Seen, cut_front, front_of, item_of, see};
@@ -91,26 +94,57 @@ fn first_count(alloc: Global, broken: &Broken, by: By, most: u32) -> Result<u32,
     Ok(high)
 }
 
+/// Whether a token is a width that is none.
+fn is_wrong_width(source: &Source, token: u32) -> bool
+    ensures { IsTrue result → IsWrongWidth source.now.tokens.now token }
+{
+    match source.kind(token as usize) {
+        Kind::Number(bits) => {
+            return bits < 1 || 128 < bits;
+        }
+        _ => {
+            return false;
+        }
+    }
+}
+
 /// The width that is none.
-fn wrong_width(source: &Source, frame: &Frame) -> Option<usize> {
-    for token in &frame.widths {
-        if let Kind::Number(bits) = source.kind(*token as usize) {
-            if bits < 1 || 128 < bits {
-                return Some(*token as usize);
-            }
+fn wrong_width(source: &Source, widths: &[u32]) -> Option<usize>
+    ensures among { IfSome result (IsAmong widths.now) }
+    ensures wrong { IfSome result (IsWrongWidth source.now.tokens.now) }
+{
+    for token in widths {
+        if is_wrong_width(source, *token) {
+            return Some(*token as usize);
         }
     }
     None
 }
 
+/// Whether a name was introduced before.
+fn is_again(source: &Source, token: u32) -> bool
+    ensures { IsTrue result → StandsBefore source.now.text.now source.now.tokens.now token }
+{
+    match introduced_before(source, token as usize) {
+        None => {
+            return false;
+        }
+        Some(_earlier) => {
+            return true;
+        }
+    }
+}
+
 /// The name that was introduced before, or else the first.
-fn name_again(source: &Source, frame: &Frame) -> Option<usize> {
-    for token in &frame.names {
-        if introduced_before(source, *token as usize).is_some() {
+fn name_again(source: &Source, names: &[u32]) -> Option<usize>
+    ensures { IfSome result (IsAgain source.now.text.now source.now.tokens.now names.now) }
+{
+    for token in names {
+        if is_again(source, *token) {
             return Some(*token as usize);
         }
     }
-    numbered(&frame.names, 1)
+    numbered(names, 1)
 }
 
 /// The token in a frame, the last of so many, that breaks the rule.
@@ -121,15 +155,23 @@ fn in_frame(
     frames: u32,
 ) -> Result<Option<usize>, AllocError>
     requires { length broken.now.part.source.text.now ≤ 1048576 }
+    ensures { let source = broken.now.part.source in
+        IfOk result (λ o. IfSome o (IsOfFrame source.text.now source.tokens.now broken.now.rule (entry_of frame.now))) }
 {
     let most = short(frame.fixeds.len());
     match broken.rule {
-        1 => Ok(name_again(&broken.part.source, frame)),
-        8 => Ok(wrong_width(&broken.part.source, frame)),
-        9 => Ok(numbered(&frame.fixeds, most)),
+        1 => {
+            return Ok(name_again(&broken.part.source, &frame.names));
+        }
+        8 => {
+            return Ok(wrong_width(&broken.part.source, &frame.widths));
+        }
+        9 => {
+            return Ok(numbered(&frame.fixeds, most));
+        }
         _ => {
             let number = first_count(alloc, broken, By::Fixeds(frames), most)?;
-            Ok(numbered(&frame.fixeds, number))
+            return Ok(numbered(&frame.fixeds, number));
         }
     }
 }
@@ -142,6 +184,7 @@ fn in_values(
     frames: u32,
 ) -> Result<Option<usize>, AllocError>
     requires { length broken.now.part.source.text.now ≤ 1048576 }
+    ensures { IfOk result (λ o. IfSome o (IsAmong points.now.values.items)) }
 {
     let most = short(points.values.len());
     let number = first_count(alloc, broken, By::Values(frames), most)?;
@@ -156,6 +199,8 @@ fn among_frames(
     points: &Points,
 ) -> Result<Option<usize>, AllocError>
     requires { length broken.now.part.source.text.now ≤ 1048576 }
+    ensures { let source = broken.now.part.source in IfOk result (λ o. IfSome o (IsOfItem source.text.now
+        source.tokens.now broken.now.rule points.now.values.items (entries_of points.now.frames.items))) }
 {
     let most = short(points.frames.len());
     let frames = first_count(alloc, broken, By::Frames, most)?;
@@ -164,8 +209,12 @@ fn among_frames(
         return in_values(alloc, broken, points, before);
     }
     match points.frames.get(before as usize) {
-        None => Ok(None),
-        Some(frame) => in_frame(alloc, broken, frame, frames),
+        None => {
+            return Ok(None);
+        }
+        Some(frame) => {
+            return in_frame(alloc, broken, frame, frames);
+        }
     }
 }
 
@@ -175,6 +224,8 @@ fn among_points(
     points: &Points,
 ) -> Result<Option<usize>, AllocError>
     requires { length broken.now.part.source.text.now ≤ 1048576 }
+    ensures { let source = broken.now.part.source in IfOk result (λ o. IfSome o (IsOfItem source.text.now
+        source.tokens.now broken.now.rule points.now.values.items (entries_of points.now.frames.items))) }
 {
     if breaks(alloc, broken, cut_by(By::Frames, u32::MAX))? {
         return among_frames(alloc, broken, points);
@@ -182,13 +233,40 @@ fn among_points(
     in_values(alloc, broken, points, u32::MAX)
 }
 
-/// The token at which an item, which begins at this one, breaks a rule of scope; the first where none is found.
-fn token_of(alloc: Global, broken: &Broken, first: usize) -> Result<usize, AllocError>
+/// The token at which an item breaks the rule.
+fn token_of(alloc: Global, broken: &Broken) -> Result<Option<usize>, AllocError>
     requires { length broken.now.part.source.text.now ≤ 1048576 }
+    ensures { let part = broken.now.part in IfOk result (λ o. IfSome o (IsOfTree part.source.text.now
+        part.source.tokens.now part.source.spans.now broken.now.rule part.number part.item.now)) }
 {
-    let points = points_of(alloc, short(first), broken.part.item)?;
-    let found = among_points(alloc, broken, &points)?;
-    Ok(found.unwrap_or(first))
+    let first = short(broken.part.source.first(broken.part.number));
+    let points = points_of(alloc, first, broken.part.item)?;
+    among_points(alloc, broken, &points)
+}
+
+/// The token at which the item of this number breaks a rule of scope.
+fn offending(
+    alloc: Global,
+    source: &Source,
+    rule: u8,
+    number: usize,
+) -> Result<Option<usize>, AllocError>
+    requires { length source.now.text.now ≤ 1048576 }
+    ensures { IfOk result (λ o.
+        IfSome o (IsFoundIn source.now.text.now source.now.tokens.now source.now.spans.now rule number)) }
+{
+    if number >= source.spans.len() {
+        return Ok(None);
+    }
+    let Some(item) = item_of(alloc, source, number)? else {
+        return Ok(None);
+    };
+    let part = Part {
+        source: *source,
+        number,
+        item: &item,
+    };
+    token_of(alloc, &Broken { rule, part })
 }
 
 /// The token at which an item breaks a rule of scope; the item's first token where none is found.
@@ -202,33 +280,28 @@ pub fn find_offence(
     number: usize,
 ) -> Result<usize, AllocError>
     requires { length source.now.text.now ≤ 1048576 }
+    ensures stands { IfOk result (StandsIn source.now.tokens.now source.now.spans.now number) }
+    ensures found { IfOk result
+        (IsTold source.now.text.now source.now.tokens.now source.now.spans.now rule number) }
 {
-    let first = source.first(number);
-    if number >= source.spans.len() {
-        return Ok(first);
-    }
-    let Some(item) = item_of(alloc, source, number)? else {
-        return Ok(first);
-    };
-    let part = Part {
-        source: *source,
-        number,
-        item: &item,
-    };
-    token_of(alloc, &Broken { rule, part }, first)
+    let found = offending(alloc, source, rule, number)?;
+    Ok(source.held(number, found))
 }
 
 /// Whether the walk over the items before this one is too long.
 fn is_too_long(alloc: Global, source: &Source, item: usize) -> Result<bool, AllocError>
     requires { length source.now.text.now ≤ 1048576 }
-    ensures { let front = front_text source.now.text.now source.now.tokens.now source.now.spans.now item in
+    ensures long { let front = front_text source.now.text.now source.now.tokens.now source.now.spans.now item in
         IfOk result (λ long. IsTrue long → HasOffence front too_long) }
+    ensures short { let front = front_text source.now.text.now source.now.tokens.now source.now.spans.now item in
+        IfOk result (λ long. IsFalse long → IsNotLong front) }
 {
     match front_of(alloc, source, item)? {
         None => Ok(false),
         Some(program) => match see(alloc, program)? {
             Seen::TooLong => Ok(true),
-            Seen::Kept | Seen::Broken { rule: _, item: _ } => Ok(false),
+            Seen::Kept => Ok(false),
+            Seen::Broken { rule: _, item: _ } => Ok(false),
         },
     }
 }

@@ -1,0 +1,5 @@
+use Rattle.std.proofs.lemmas.Option.{slice_get-get_or}
+use Rattle.pr_lens_find.proofs.offences.wrong_width.Goals as goal
+
+pub returns-then-is_wrong_width-clause-among : goal.returns-then-is_wrong_width-clause-among
+returns-then-is_wrong_width-clause-among c = record { place = c.loop-token.token-index; there = slice_get-get_or c.args.widths.now c.loop-token.token-index 0 c.loop-token-test.true }

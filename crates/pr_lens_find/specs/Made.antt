@@ -1,0 +1,141 @@
+-- What is made of a program with an input and an output behind its items, where it has none.
+use Rattle.std.specs.Prelude.{ℕ, ◌≡◌, ◌≢◌, ◌⊎◌, ◌<◌, ◌≤◌, ◌+◌, ◌-◌, ◌++◌, ◌∷◌, [], Bool, true, false, List, None, codes, if◌then◌else◌, length, min, ⊤}
+use Rattle.std.specs.List.{list_any}
+use Rattle.pr_lang.specs.declared.tokens.Token.{Token}
+use Rattle.pr_lang.specs.declared.trees.Expr.TheVariants as expr
+use Rattle.pr_lang.specs.declared.trees.Item.{Item}
+use Rattle.pr_lang.specs.declared.trees.Item.TheVariants as item
+use Rattle.pr_lang.specs.declared.trees.Program.{Program}
+use Rattle.pr_scope.specs.Walk.{offence}
+use Rattle.pr_flat.specs.declared.flat.Flat.{Flat}
+use Rattle.pr_flat.specs.Flats as flats
+use Rattle.pr_expand_spec.specs.Programs.{equations_of}
+use Rattle.pr_compile_front.specs.Refusals.{IsRead}
+use Rattle.pr_lens_find.specs.declared.equations.Made.{Made}
+use Rattle.pr_lens_find.specs.declared.equations.Made.TheVariants as made
+use Rattle.pr_lens_find.specs.declared.sources.Span.{Span}
+use Rattle.pr_lens_find.specs.Fronts.{IsCutFront, IsUnread}
+use Rattle.pr_lens_find.specs.Spans.{StandsIn}
+use Rattle.pr_lens_find.specs.Tokens.{front_text}
+
+abbrev pub is_input : Item → Bool
+is_input (item.Input name width) = true
+is_input (item.Output name width value) = false
+is_input (item.Const name value) = false
+is_input (item.Table name values) = false
+is_input (item.Function name params width body result) = false
+is_input (item.Step statement) = false
+
+abbrev pub is_output : Item → Bool
+is_output (item.Input name width) = false
+is_output (item.Output name width value) = true
+is_output (item.Const name value) = false
+is_output (item.Table name values) = false
+is_output (item.Function name params width body result) = false
+is_output (item.Step statement) = false
+
+-- under names that no text has
+abbrev pub own_input : Item
+own_input = item.Input (codes "?in") 1
+
+abbrev pub own_output : Item
+own_output = item.Output (codes "?out") None (expr.Number 0)
+
+abbrev pub with_input : List Item → List Item
+with_input items = if list_any is_input items then items else items ++ own_input ∷ []
+
+abbrev pub with_output : List Item → List Item
+with_output items = if list_any is_output items then items else items ++ own_output ∷ []
+
+-- items with ends: an input and an output behind them, where there is none
+abbrev pub with_ends : List Item → List Item
+with_ends items = with_output (with_input items)
+
+-- ---- a program that keeps the rules of scope
+abbrev pub IsMadeOf : Program → Made → Type 0
+IsMadeOf program (made.Flat flat) = flats.equations_of flat ≡ (equations_of program).equations
+IsMadeOf program made.TooMany = 16384 < length (equations_of program).equations
+IsMadeOf program made.Refused = ⊥
+
+-- ---- a program, with ends
+-- it keeps the rules of scope, and these are its equations
+pub record HasFlat (program : Program) (flat : Flat) : Type 0 where
+  pub ended : Program
+  pub ends : ended.items.items ≡ with_ends program.items.items
+  pub lawful : offence ended ≡ None
+  pub equations : flats.equations_of flat ≡ (equations_of ended).equations
+
+-- it keeps the rules of scope, and has more equations than this
+pub record HasMore (program : Program) (count : ℕ) : Type 0 where
+  pub ended : Program
+  pub ends : ended.items.items ≡ with_ends program.items.items
+  pub lawful : offence ended ≡ None
+  pub more : count < length (equations_of ended).equations
+
+-- it breaks a rule of scope
+pub record IsUnlawful (program : Program) : Type 0 where
+  pub ended : Program
+  pub ends : ended.items.items ≡ with_ends program.items.items
+  pub unlawful : offence ended ≢ None
+
+abbrev pub IsMade : Program → Made → Type 0
+IsMade program (made.Flat flat) = HasFlat program flat
+IsMade program made.TooMany = HasMore program 16384
+IsMade program made.Refused = IsUnlawful program
+
+-- ---- the program of a text, with ends
+pub record HasFlatIn (text : List ℕ) (flat : Flat) : Type 0 where
+  pub program : Program
+  pub read : IsRead text program
+  pub has : HasFlat program flat
+
+pub record HasMoreIn (text : List ℕ) (count : ℕ) : Type 0 where
+  pub program : Program
+  pub read : IsRead text program
+  pub has : HasMore program count
+
+pub record HasUnlawful (text : List ℕ) : Type 0 where
+  pub program : Program
+  pub read : IsRead text program
+  pub has : IsUnlawful program
+
+abbrev pub IsMadeIn : List ℕ → Made → Type 0
+IsMadeIn text (made.Flat flat) = HasFlatIn text flat
+IsMadeIn text made.TooMany = HasMoreIn text 16384
+IsMadeIn text made.Refused = IsUnread text ⊎ HasUnlawful text
+
+-- it has no more equations than this, where it keeps the rules of scope
+pub record HasFewIn (text : List ℕ) (count : ℕ) : Type 0 where
+  pub program : Program
+  pub read : IsRead text program
+  pub ended : Program
+  pub ends : ended.items.items ≡ with_ends program.items.items
+  pub few : offence ended ≡ None → length (equations_of ended).equations ≤ count
+
+abbrev pub HasNoMoreIn : List ℕ → ℕ → Type 0
+HasNoMoreIn text count = IsUnread text ⊎ HasFewIn text count
+
+-- ---- the items before one and a part of it, with ends
+pub record HasFlatCut (text : List ℕ) (tokens : List Token) (spans : List Span) (number : ℕ) (item : Item) (flat : Flat) : Type 0 where
+  pub program : Program
+  pub cut : IsCutFront text tokens spans number item program
+  pub has : HasFlat program flat
+
+abbrev pub IsMadeCut : List ℕ → List Token → List Span → ℕ → Item → Made → Type 0
+IsMadeCut text tokens spans number item (made.Flat flat) = HasFlatCut text tokens spans number item flat
+IsMadeCut text tokens spans number item made.TooMany = ⊤
+IsMadeCut text tokens spans number item made.Refused = ⊤
+
+-- ---- the item that makes an equation
+-- it is an item, or 0 where there is none; unless it is the last, the items up to it have more equations than this number, or
+-- than are allowed; those before it have no more
+pub record IsManyWith (text : List ℕ) (tokens : List Token) (spans : List Span) (equation item : ℕ) : Type 0 where
+  pub within : item ≤ length spans - 1
+  pub many : item + 1 < length spans → HasMoreIn (front_text text tokens spans (item + 1)) (min equation 16384)
+  pub few : 0 < item → HasNoMoreIn (front_text text tokens spans item) equation
+
+-- a token of that item
+pub record IsMadeAt (text : List ℕ) (tokens : List Token) (spans : List Span) (equation token : ℕ) : Type 0 where
+  pub item : ℕ
+  pub made : IsManyWith text tokens spans equation item
+  pub stands : StandsIn tokens spans item token
