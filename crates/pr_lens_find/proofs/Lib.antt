@@ -1,6 +1,7 @@
 pub mod Items
 pub mod Lookups
 pub mod MadeLemmas
+pub mod MissingLemmas
 pub mod OffenceLemmas
 pub mod Possible
 pub mod SpanLemmas

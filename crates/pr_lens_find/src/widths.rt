@@ -1,9 +1,12 @@
 //! Equations without widths.
 
-ghost use Rattle.std.specs.Prelude.{◌≡◌, ◌≤◌, length, vec_len, IfOk, MatchOption, Some};
+ghost use Rattle.std.specs.Prelude.{◌≡◌, ◌≤◌, ◌⊎◌, [], length, vec_len, IfOk, MatchOption};
 ghost use Rattle.pr_flat.specs.Flats.{equations_of};
-ghost use Rattle.pr_flat.specs.Widths.{AreWidths, IsFirstWithout};
-ghost use Rattle.pr_lens_find.specs.Widths.{HaveWidths};
+ghost use Rattle.pr_flat.specs.Shape.{equation_shape};
+ghost use Rattle.pr_flat.specs.Widths.{IsFirstWithout};
+ghost use Rattle.pr_lens_find.specs.Widths.{HaveWidths, IsEquation, IsUnknown, IsToldOf, IsToldCut, IsToldIn};
+ghost use Rattle.pr_lens_find.specs.Spans.{StandsIn};
+ghost use Rattle.pr_lens_find.specs.Made.{IsMadeAt};
 
 use crate::counts::{numbered, short};
 use crate::equations::{Made, equations_item, made_with};
@@ -85,7 +88,8 @@ pub struct Missing {
 
 /// An equation of which no more is known than the token at which it is made.
 fn unknown(alloc: Global, token: usize) -> Missing
-    ensures { result.token ≡ token }
+    ensures token { result.token ≡ token }
+    ensures unknown { IsUnknown result }
 {
     Missing {
         token,
@@ -150,7 +154,9 @@ fn extents(
     flat: &Flat,
     operands: &[Operand],
     known: usize,
-) -> Result<Vec<Extent>, AllocError> {
+) -> Result<Vec<Extent>, AllocError>
+    ensures { IfOk result (λ all. (all.items ≡ []) ⊎ (length all.items ≡ length operands.now)) }
+{
     match solve(alloc, flat) {
         Ok(widths) => widths_of(alloc, &widths, operands, known),
         Err(WidthFault::NoWidth { equation: _ }) => Ok(Vec::new(alloc)),
@@ -159,7 +165,10 @@ fn extents(
 }
 
 /// The equation whose operands tell most of why this one has no width: of a recurrence the last one of its body.
-fn telling<'a>(flat: &'a Flat, equation: &'a Equation) -> &'a Equation {
+fn telling<'a>(flat: &'a Flat, equation: &'a Equation) -> &'a Equation
+    requires { IsEquation (equations_of flat.now) (equation_shape equation.now) }
+    ensures { IsEquation (equations_of flat.now) (equation_shape result.now) }
+{
     if let Op::Rec { init: _, first: _ } = equation.op {
         if let Some(Operand::Eq(body)) = equation.args.first() {
             if let Some(last) = flat.equations.get(*body as usize) {
@@ -178,7 +187,9 @@ fn told_by(
     number: u32,
     before: &Flat,
 ) -> Result<Missing, AllocError>
-    ensures { IfOk result (λ missing. missing.token ≡ token) }
+    requires { IsFirstWithout (equations_of flat.now) number }
+    ensures token { IfOk result (λ missing. missing.token ≡ token) }
+    ensures told { IfOk result (IsToldOf (equations_of flat.now)) }
 {
     let Some(equation) = flat.equations.get(number as usize) else {
         return Ok(unknown(alloc, token));
@@ -199,7 +210,8 @@ fn missing_in(
     flat: &Flat,
     before: &Flat,
 ) -> Result<Missing, AllocError>
-    ensures { IfOk result (λ missing. missing.token ≡ token) }
+    ensures token { IfOk result (λ missing. missing.token ≡ token) }
+    ensures told { IfOk result (IsToldOf (equations_of flat.now)) }
 {
     match first_without(alloc, flat)? {
         None => Ok(unknown(alloc, token)),
@@ -210,7 +222,9 @@ fn missing_in(
 /// What is known of the first equation without a width, with so many points of the item's expressions.
 fn missing_at(alloc: Global, part: &Part, token: usize, values: u32) -> Result<Missing, AllocError>
     requires { length part.now.source.text.now ≤ 1048576 }
-    ensures { IfOk result (λ missing. missing.token ≡ token) }
+    ensures token { IfOk result (λ missing. missing.token ≡ token) }
+    ensures told { let source = part.now.source in IfOk result
+        (IsToldCut source.text.now source.tokens.now source.spans.now part.now.number part.now.item.now) }
 {
     let Made::Flat(flat) = made_with(alloc, part, values)? else {
         return Ok(unknown(alloc, token));
@@ -224,10 +238,16 @@ fn missing_at(alloc: Global, part: &Part, token: usize, values: u32) -> Result<M
 /// The same, at the first point with which an equation of the item has no width.
 fn missing_of(alloc: Global, part: &Part, first: usize) -> Result<Missing, AllocError>
     requires { length part.now.source.text.now ≤ 1048576 }
+    ensures stands { let source = part.now.source in
+        IfOk result (λ missing. StandsIn source.tokens.now source.spans.now part.now.number missing.token) }
+    ensures told { let source = part.now.source in IfOk result
+        (IsToldCut source.text.now source.tokens.now source.spans.now part.now.number part.now.item.now) }
 {
     let points = points_of(alloc, short(first), part.item)?;
     let values = first_count(alloc, part, short(points.values.len()))?;
-    let token = numbered(&points.values, values).unwrap_or(first);
+    let token = part
+        .source
+        .held(part.number, numbered(&points.values, values));
     missing_at(alloc, part, token, values)
 }
 
@@ -235,9 +255,13 @@ fn missing_of(alloc: Global, part: &Part, first: usize) -> Result<Missing, Alloc
 /// has none.
 pub fn find_missing(alloc: Global, source: &Source, equation: usize) -> Result<Missing, AllocError>
     requires { length source.now.text.now ≤ 1048576 }
+    ensures made { IfOk result (λ missing.
+        IsMadeAt source.now.text.now source.now.tokens.now source.now.spans.now equation missing.token) }
+    ensures told { IfOk result
+        (IsToldIn source.now.text.now source.now.tokens.now source.now.spans.now equation) }
 {
     let number = equations_item(alloc, source, equation)?;
-    let first = source.first(number);
+    let first = source.held(number, None);
     let Some(item) = item_of(alloc, source, number)? else {
         return Ok(unknown(alloc, first));
     };
