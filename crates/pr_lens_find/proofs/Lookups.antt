@@ -1,5 +1,5 @@
 -- Elements that were asked for.
-use Rattle.std.proofs.Common.{◌≡◌, ◌<◌, ℕ, Bool, true, Some, List, length, get_or, ltb, refl, sym, subst}
+use Rattle.std.proofs.Common.{◌≡◌, ℕ, true, Some, List, length, get_or, ltb, refl, sym, subst}
 use Rattle.std.specs.List.{slice_get}
 use Rattle.std.proofs.lemmas.Bool.{ltb-true}
 use Rattle.std.proofs.lemmas.Option.{slice_get_read}

@@ -1,5 +1,5 @@
 -- What is made of a program with ends.
-use Rattle.std.proofs.Common.{◌≡◌, ◌∙◌, ◌<◌, ◌≤◌, ◌+◌, ◌-◌, ◌⊎◌, ℕ, None, Some, List, length, map, min, sym, ap, inl, inr, arith}
+use Rattle.std.proofs.Common.{◌≡◌, ◌∙◌, ◌<◌, ◌≤◌, ◌⊎◌, ℕ, None, Some, List, length, min, sym, ap, inl, inr, arith}
 use Rattle.std.specs.Vec.{vec_len}
 use Rattle.std.proofs.lemmas.List.{length-map}
 use Rattle.pr_lang.specs.declared.tokens.Token.{Token}

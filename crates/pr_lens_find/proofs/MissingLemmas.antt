@@ -1,5 +1,5 @@
 -- What is told of an equation without a width, and where it is made.
-use Rattle.std.proofs.Common.{◌≡◌, ◌∙◌, ◌⊎◌, ℕ, List, [], Option, Some, Result, Ok, Err, IfOk, length, option_map, subst, sym, ap, inl, inr}
+use Rattle.std.proofs.Common.{◌≡◌, ◌∙◌, ◌⊎◌, ℕ, List, [], Option, Some, Result, Ok, Err, IfOk, length, option_map, ap, inl, inr}
 use Rattle.std.specs.declared.alloc.AllocError.{AllocError}
 use Rattle.std.specs.List.{slice_get}
 use Rattle.std.proofs.lemmas.Option.{slice_get-map}
@@ -8,7 +8,7 @@ use Rattle.pr_lang.specs.declared.trees.Item.{Item}
 use Rattle.pr_flat.specs.declared.equations.Equation.{Equation}
 use Rattle.pr_flat.specs.declared.flat.Flat.{Flat}
 use Rattle.pr_flat.specs.Flats.{equations_of}
-use Rattle.pr_flat.specs.Shape.{EquationShape, equation_shape}
+use Rattle.pr_flat.specs.Shape.{equation_shape}
 use Rattle.pr_flat.specs.Widths.{IsFirstWithout}
 use Rattle.pr_lens_find.specs.declared.sources.Span.{Span}
 use Rattle.pr_lens_find.specs.declared.widths.Extent.{Extent}

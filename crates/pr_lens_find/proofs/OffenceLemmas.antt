@@ -1,5 +1,5 @@
 -- Which tokens of an item are told of a rule that it breaks.
-use Rattle.std.proofs.Common.{◌≡◌, ◌∙◌, ◌⊎◌, ◌+◌, ◌-◌, ◌^◌, ◌++◌, ℕ, None, Some, List, Option, min, option_map, option_to_list, ap, sym, inl, inr, refl, subst}
+use Rattle.std.proofs.Common.{◌≡◌, ◌∙◌, ◌⊎◌, ◌+◌, ◌-◌, ◌^◌, ◌++◌, ℕ, None, Some, List, Option, min, option_map, option_to_list, ap, sym, inl, inr, subst}
 use Rattle.std.specs.Prelude.{IfSome}
 use Rattle.std.specs.List.{slice_get}
 use Rattle.std.proofs.lemmas.Option.{slice_get-map}
@@ -11,7 +11,7 @@ use Rattle.pr_lens_items.specs.declared.points.Frame.{Frame}
 use Rattle.pr_lens_items.specs.Steps.{Entry, entry_of, entries_of}
 use Rattle.pr_lens_find.specs.declared.sources.Span.{Span}
 use Rattle.pr_lens_find.specs.Tokens.{first_of, front_text}
-use Rattle.pr_lens_find.specs.Offences.{IsAmong, IsAgain, StandsBefore, IsOfFrame, Constant, IsOfItem, Framed, Value, IsItemOf, IsFoundIn, IsTold}
+use Rattle.pr_lens_find.specs.Offences.{IsAmong, IsAgain, IsOfFrame, Constant, IsOfItem, Framed, IsItemOf, IsFoundIn, IsTold}
 
 pub item_popped : (text : List ℕ) (tokens : List Token) (spans : List Span) (number : ℕ) (program : Program) (rest : List Item) (o : Option Item)
     → IsRead (front_text text tokens spans (min (number + 1) (2 ^ 64 - 1))) program → program.items.items ≡ rest ++ option_to_list o → IfSome o (IsItemOf text tokens spans number)

@@ -1,5 +1,5 @@
 -- Which tokens of an item are told of a rule that it breaks.
-use Rattle.std.specs.Prelude.{ℕ, ◌≡◌, ◌<◌, ◌+◌, ◌-◌, ◌^◌, ◌⊎◌, ◌++◌, ◌∷◌, [], List, Some, length, min}
+use Rattle.std.specs.Prelude.{ℕ, ◌≡◌, ◌<◌, ◌+◌, ◌-◌, ◌^◌, ◌⊎◌, ◌++◌, ◌∷◌, [], List, Some, min}
 use Rattle.std.specs.List.{slice_get}
 use Rattle.pr_lang.specs.declared.tokens.Kind.TheVariants.{Number}
 use Rattle.pr_lang.specs.declared.tokens.Token.{Token}

@@ -1,4 +1,4 @@
-use Rattle.std.proofs.Common.{inl, inr, ◌≡◌, ◌∙◌, sym}
+use Rattle.std.proofs.Common.{inl}
 use Rattle.pr_lens_find.proofs.Items.{kept_short, broken_short}
 use Rattle.pr_lens_find.proofs.offences.is_too_long.Goals as goal
 
