@@ -1,0 +1,3 @@
+pub mod NeededLemmas
+pub mod TargetLemmas
+pub mod UnfitLemmas

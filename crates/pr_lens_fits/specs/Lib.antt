@@ -1,1 +1,4 @@
 pub mod Ends
+pub mod Needed
+pub mod Targets
+pub mod Unfits

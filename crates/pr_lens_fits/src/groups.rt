@@ -1,8 +1,15 @@
 //! Groups of units that fit in no stripe.
 
-ghost use Rattle.std.specs.Prelude.{◌≤◌, ◌-◌, length, IfOk};
+ghost use Rattle.std.specs.Prelude.{◌≡◌, ◌≤◌, ◌-◌, Err, Some, length, IfOk};
+ghost use Rattle.pr_base.specs.declared.caps.Cap.{Cap};
 ghost use Rattle.pr_flat.specs.Flats.{equations_of};
 ghost use Rattle.pr_flat.specs.Widths.{AreWidths};
+ghost use Rattle.pr_net.specs.Shape.{cells_of};
+ghost use Rattle.pr_net.specs.Whole.{shape_of};
+ghost use Rattle.pr_cut_units.specs.Flats.{flat_net};
+ghost use Rattle.pr_cut_units.specs.Nets.{limit_passed};
+ghost use Rattle.pr_cut_plan.specs.declared.faults.CutFault.{CutFault};
+ghost use Rattle.pr_lens_fits.specs.Unfits.{cell_count, ends_with, group_ending, IsUnfit, IsFound};
 
 use crate::kept::kept_before;
 use crate::ready::ready;
@@ -44,21 +51,43 @@ fn unit_equation(flat: &Flat, widths: &Widths, plan: &Plan, unit: u32) -> usize 
     found
 }
 
+/// How many cells a unit has.
+fn cells_of(net: &Net, unit: u32) -> usize
+    ensures { result ≡ length (cells_of (shape_of net.now) unit) }
+{
+    match net.units.get(unit as usize) {
+        None => 0,
+        Some(found) => found.cells.len(),
+    }
+}
+
 /// How many cells these units have.
-fn cells_in(net: &Net, units: &[u32]) -> usize {
+fn cells_in(net: &Net, units: &[u32]) -> usize
+    ensures { result ≡ cell_count (shape_of net.now) units.now }
+{
     let mut cells: usize = 0;
     for unit in units {
-        if let Some(found) = net.units.get(*unit as usize) {
-            cells = cells.saturating_add(found.cells.len());
-        }
+        cells = cells.saturating_add(cells_of(net, *unit));
     }
     cells
 }
 
+/// Whether this is the last of some units.
+fn ends_with(units: &[u32], unit: u32) -> bool
+    ensures { result ≡ ends_with unit units.now }
+{
+    match units.get(units.len().saturating_sub(1)) {
+        None => false,
+        Some(last) => *last == unit,
+    }
+}
+
 /// How many columns the group has whose last unit this is; 0 where there is none.
-fn group_columns(net: &Net, unit: u32) -> usize {
+fn group_columns(net: &Net, unit: u32) -> usize
+    ensures { result ≡ cell_count (shape_of net.now) (group_ending (shape_of net.now) unit) }
+{
     for group in &net.groups {
-        if group.units.last().copied() == Some(unit) {
+        if ends_with(&group.units, unit) {
             return cells_in(net, &group.units);
         }
     }
@@ -86,18 +115,23 @@ fn group_of(
 ) -> Result<(usize, Unfit), CutFault>
     requires widths { AreWidths (equations_of flat.now) widths.now }
     requires columns { (1 ≤ columns) × (columns ≤ 64) }
+    ensures found { IfOk result (λ r. IsUnfit (flat_net flat.now widths.now) unit r.1) }
+    ensures limit { (cap : Cap) → result ≡ Err (CutFault.Limit cap) →
+        limit_passed columns (flat_net flat.now widths.now) ≡ Some cap }
 {
     let plan = plan_of(alloc, flat, widths, columns)?;
     let net = cut(alloc, flat, widths, columns)?;
+    let kept = kept_before(alloc, &net, unit)?;
     let found = Unfit {
         item: 0,
         columns: group_columns(&net, unit),
-        kept: kept_before(alloc, &net, unit)?,
+        kept,
     };
     Ok((unit_equation(flat, widths, &plan, unit), found))
 }
 
-/// What is known of the group that fits in no stripe of so many columns, and whose last unit this is.
+/// What is known of the group that fits in no stripe of so many columns, and whose last unit this is; nothing where the
+/// text has no net.
 pub fn find_unfit(
     alloc: Global,
     source: &Source,
@@ -107,7 +141,8 @@ pub fn find_unfit(
 ) -> Result<Unfit, AllocError>
     requires short { length source.now.text.now ≤ 1048576 }
     requires columns { (1 ≤ columns) × (columns ≤ 64) }
-    ensures { IfOk result (λ found. found.item ≤ length source.now.spans.now - 1) }
+    ensures item { IfOk result (λ found. found.item ≤ length source.now.spans.now - 1) }
+    ensures found { IfOk result (IsFound columns narrowed source.now.text.now unit) }
 {
     let nothing = Unfit {
         item: 0,
@@ -118,11 +153,19 @@ pub fn find_unfit(
         return Ok(nothing);
     };
     match group_of(alloc, &flat, &widths, columns, unit) {
-        Err(CutFault::Memory(error)) => Err(error),
-        Err(CutFault::Limit(_)) => Ok(nothing),
-        Ok((equation, found)) => Ok(Unfit {
-            item: equations_item(alloc, source, equation)?,
-            ..found
-        }),
+        Err(CutFault::Memory(error)) => {
+            return Err(error);
+        }
+        Err(CutFault::Limit(_cap)) => {
+            return Ok(nothing);
+        }
+        Ok((equation, found)) => {
+            let item = equations_item(alloc, source, equation)?;
+            return Ok(Unfit {
+                item,
+                columns: found.columns,
+                kept: found.kept,
+            });
+        }
     }
 }

@@ -1,6 +1,8 @@
 //! The equations of which a net is made.
 
-ghost use Rattle.std.specs.Prelude.{◌≡◌, ◌≤◌, length, IfOk, IfSome, IsTrue, IsFalse};
+ghost use Rattle.std.specs.Prelude.{◌≡◌, ◌≤◌, ℕ, List, length, IfOk, IfNone, IfSome, OnOk, IsTrue, IsFalse};
+ghost use Rattle.pr_compile_front.specs.Refusals.{IsAnswer, IsRefusal};
+ghost use Rattle.pr_lens_fits.specs.Unfits.{HasRefusal, IsReadyOf};
 ghost use Rattle.pr_flat.specs.Flats.{equations_of};
 ghost use Rattle.pr_flat.specs.Widths.{AreWidths};
 ghost use Rattle.pr_narrow.specs.Narrowed.{AreNarrowed};
@@ -18,6 +20,7 @@ fn ready_of(alloc: Global, front: Front, narrowed: bool) -> Result<(Flat, Widths
     ensures narrowed { IsTrue narrowed → IfOk result (λ r. AreNarrowed
         (equations_of front.flat) front.flat.outputs.items front.widths (equations_of r.0) r.1) }
     ensures whole { IsFalse narrowed → IfOk result (λ r. (r.0 ≡ front.flat) × (r.1 ≡ front.widths)) }
+    ensures outputs { IfOk result (λ r. r.0.outputs.items ≡ front.flat.outputs.items) }
 {
     let Front {
         scoped: _scoped,
@@ -31,21 +34,48 @@ fn ready_of(alloc: Global, front: Front, narrowed: bool) -> Result<(Flat, Widths
     }
 }
 
-/// The same of the program of a text, where it has widths.
+/// Passes want of memory on.
+fn refused(fault: FrontFault) -> Result<(), AllocError>
+    ensures { (text : List ℕ) → IsAnswer text fault → OnOk result (IsRefusal text fault) }
+{
+    match fault {
+        FrontFault::Syntax { token: _ } => {
+            return Ok(());
+        }
+        FrontFault::Scope { rule: _, item: _ } => {
+            return Ok(());
+        }
+        FrontFault::NoWidth { equation: _ } => {
+            return Ok(());
+        }
+        FrontFault::Limit(_) => {
+            return Ok(());
+        }
+        FrontFault::Memory(error) => {
+            return Err(error);
+        }
+    }
+}
+
+/// The same of the program of a text; none where it is refused before it has widths.
 pub fn ready(
     alloc: Global,
     text: &[u8],
     narrowed: bool,
 ) -> Result<Option<(Flat, Widths)>, AllocError>
     requires { length text.now ≤ 1048576 }
-    ensures { IfOk result (λ o. IfSome o (λ r. AreWidths (equations_of r.0) r.1)) }
+    ensures widths { IfOk result (λ o. IfSome o (λ r. AreWidths (equations_of r.0) r.1)) }
+    ensures told { IfOk result (λ o. IfSome o (λ r. IsReadyOf narrowed text.now r.0 r.1)) }
+    ensures none { IfOk result (λ o. IfNone o (HasRefusal text.now)) }
 {
     match read_program(alloc, text) {
         Ok(front) => {
             let made = ready_of(alloc, front, narrowed)?;
             Ok(Some(made))
         }
-        Err(FrontFault::Memory(error)) => Err(error),
-        Err(_) => Ok(None),
+        Err(fault) => {
+            refused(fault)?;
+            Ok(None)
+        }
     }
 }

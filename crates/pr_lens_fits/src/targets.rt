@@ -1,13 +1,17 @@
 //! Texts that end earlier, with what their last item assigns as an output.
 
-ghost use Rattle.std.specs.Prelude.{◌≤◌, length};
+ghost use Rattle.std.specs.Prelude.{IfOk, All};
+ghost use Rattle.pr_lens_find.specs.Tokens.{front_text};
+ghost use Rattle.pr_lens_fits.specs.Targets.{IsShort, IsPart, IsWithOutput};
 
 use pr_lang::{Keyword, Kind, Symbol};
 use pr_lens_find::Source;
 use std::alloc::{AllocError, Global};
 
 /// The bytes of the longest token of a text.
-fn longest_token(source: &Source) -> usize {
+fn longest_token(source: &Source) -> usize
+    ensures { All (IsShort result) source.now.tokens.now }
+{
     let mut longest = 0;
     for token in source.tokens {
         longest = longest.max((token.end as usize).saturating_sub(token.start as usize));
@@ -23,7 +27,9 @@ fn ends_target(kind: Kind) -> bool {
 }
 
 /// The text of the target of an assignment or a recurrence; none of another item.
-fn target_of<'a>(source: &Source<'a>, item: usize) -> &'a [u8] {
+fn target_of<'a>(source: &Source<'a>, item: usize) -> &'a [u8]
+    ensures { IsPart source.now.text.now result.now }
+{
     let first = source.first(item);
     if !matches!(
         source.kind(first),
@@ -44,18 +50,21 @@ fn target_of<'a>(source: &Source<'a>, item: usize) -> &'a [u8] {
     }
 }
 
-/// The text of the items up to this one, with what it assigns as an output more.
-pub fn with_output(alloc: Global, source: &Source, item: usize) -> Result<Vec<u8>, AllocError> {
+/// The text of so many items, with what the last of them assigns as an output more, under a name that is longer than
+/// each token.
+pub fn with_output(alloc: Global, source: &Source, items: usize) -> Result<Vec<u8>, AllocError>
+    ensures { let front = front_text source.now.text.now source.now.tokens.now source.now.spans.now items in
+        IfOk result (λ whole. IsWithOutput source.now.text.now source.now.tokens.now front whole.items) }
+{
     let mut text = Vec::new(alloc);
-    text.extend_from_slice(source.front(item.saturating_add(1)))?;
-    let target = target_of(source, item);
+    text.extend_from_slice(source.front(items))?;
+    let target = target_of(source, items.saturating_sub(1));
     if target.is_empty() {
         return Ok(text);
     }
+    let letters = vec![in alloc; b'p'; longest_token(source)]?;
     text.extend_from_slice(b"\noutput ")?;
-    for _ in 0..longest_token(source) {
-        text.push(b'p')?;
-    }
+    text.extend_from_slice(&letters)?;
     text.extend_from_slice(b"p = ")?;
     text.extend_from_slice(target)?;
     text.push(b';')?;
