@@ -1,5 +1,20 @@
-//! Refused programs and their explanations. There are tests alone in this crate.
+//! Calls of the companion: refused programs with their explanations, costs, logs and answers, all counted and chosen by
+//! hand. There are tests alone in this crate.
 #![tactic(auto)]
 
 #[cfg(test)]
-mod tests;
+mod answers;
+#[cfg(test)]
+mod calls;
+#[cfg(test)]
+mod costs;
+#[cfg(test)]
+mod fits;
+#[cfg(test)]
+mod logs;
+#[cfg(test)]
+mod scope;
+#[cfg(test)]
+mod syntax;
+#[cfg(test)]
+mod widths;
