@@ -13,7 +13,7 @@ pub fn graph(alloc: Global, layout: &Layout) -> Result<Vec<u8>, AllocError> {
         &mut text,
         "digraph units {\n  rankdir=LR;\n  node [shape=box, fontname=\"sans-serif\"];\n",
     )?;
-    put_stages(&mut text, &layout.net, &layout.stages)?;
+    put_stages(alloc, &mut text, &layout.net.units, &layout.stages)?;
     put_wires(alloc, &mut text, &layout.net)?;
     put_outputs(alloc, &mut text, &layout.net)?;
     put(&mut text, "}\n")?;
