@@ -1,9 +1,9 @@
 //! Explanations of refusals.
 
-ghost use Rattle.std.specs.Prelude.{◌≡◌, ◌≤◌, ℕ, Bool, List, length, IfOk, IsTrue};
+ghost use Rattle.std.specs.Prelude.{◌≡◌, ◌≤◌, length, min, IfOk};
 ghost use Rattle.pr_lang.specs.Tokens.{tokens_of};
 ghost use Rattle.pr_compile.specs.Refusals.{IsCompileAnswer, IsRefused};
-ghost use Rattle.pr_lens_why.specs.Verdicts.{IsVerdict, IsPointing, PointsRight};
+ghost use Rattle.pr_lens_why.specs.Verdicts.{IsVerdict, IsExplained, IsPointing};
 
 use crate::telling::tell;
 use pr_compile::{CompileFault, compile_counted};
@@ -33,13 +33,14 @@ pub enum Verdict {
     Refused(Explanation),
 }
 
-/// The explanation of a refusal, which points at a token.
+/// The explanation of a refusal, which points at a token, or at the end of the text behind all tokens.
 fn pointing(source: &Source, token: usize, fault: CompileFault, message: Vec<u8>) -> Explanation
     requires { source.now.tokens.now ≡ tokens_of source.now.text.now }
     ensures fault { result.fault ≡ fault }
-    ensures token { result.token ≡ token }
+    ensures token { result.token ≡ min token (length (tokens_of source.now.text.now)) }
     ensures place { IsPointing source.now.text.now result }
 {
+    let token = token.min(source.tokens.len());
     let start = source.start(token);
     Explanation {
         fault,
@@ -62,9 +63,8 @@ fn explained<const N: usize, const P: usize>(
     requires most_columns { N ≤ 64 }
     requires registers { 2 ≤ P }
     requires most_registers { P ≤ 16 }
-    ensures fault { IfOk result (λ e. e.fault ≡ fault) }
-    ensures token { IfOk result (λ e. PointsRight fault e.token) }
-    ensures place { IfOk result (IsPointing text.now) }
+    requires refused { IsRefused N P narrowed text.now fault }
+    ensures { IfOk result (IsExplained N P narrowed text.now) }
 {
     let found = tokens(alloc, text)?;
     let spans = spans_of(alloc, &found)?;
@@ -76,33 +76,6 @@ fn explained<const N: usize, const P: usize>(
     let mut message = Vec::new(alloc);
     let token = tell::<N, P>(alloc, &mut message, &source, narrowed, &fault)?;
     Ok(pointing(&source, token, fault, message))
-}
-
-/// Whether a fault is one of the text, and not want of memory.
-fn is_refusal(fault: &CompileFault) -> bool
-    ensures { (columns registers : ℕ) (narrow : Bool) (text : List ℕ) → IsTrue result →
-        IsCompileAnswer columns registers narrow text fault.now → IsRefused columns registers narrow text fault.now }
-{
-    match fault {
-        CompileFault::Syntax { token: _ } => {
-            return true;
-        }
-        CompileFault::Scope { rule: _, item: _ } => {
-            return true;
-        }
-        CompileFault::NoWidth { equation: _ } => {
-            return true;
-        }
-        CompileFault::NoFit { unit: _ } => {
-            return true;
-        }
-        CompileFault::Limit(_) => {
-            return true;
-        }
-        CompileFault::Memory(_) => {
-            return false;
-        }
-    }
 }
 
 /// The verdict on a text that is refused; want of memory is none.
@@ -120,11 +93,13 @@ fn refused<const N: usize, const P: usize>(
     requires answer { IsCompileAnswer N P narrowed text.now fault }
     ensures { IfOk result (IsVerdict N P narrowed text.now) }
 {
-    if !is_refusal(&fault) {
-        return Err(AllocError);
+    match fault {
+        CompileFault::Memory(error) => Err(error),
+        other => {
+            let explanation = explained::<N, P>(alloc, text, narrowed, other)?;
+            Ok(Verdict::Refused(explanation))
+        }
     }
-    let explanation = explained::<N, P>(alloc, text, narrowed, fault)?;
-    Ok(Verdict::Refused(explanation))
 }
 
 /// What the compiler says of a text on N columns and P registers, with narrowed equations or without, and an

@@ -14,7 +14,7 @@ fn tell_columns(message: &mut Vec<u8>, needed: usize, columns: usize) -> Result<
     put_counted(message, " columns, where a stage has ", columns)?;
     put(
         message,
-        ".\nDeclare a smaller width, move what does not need its own past out of the body, or split the recurrence into two of half the width.\n",
+        ".\nDeclare a smaller width, put together what does not read the recurrence, as in `s@1 + (a + b)`, or, where no bit looks at another, make it two of half the width.\n",
     )
 }
 
@@ -51,6 +51,6 @@ pub fn tell(
     )?;
     put(
         message,
-        "Use values soon after they are made: add up as the samples come in, as in `rec s:16 = 0 by s@1 + x`, in place of keeping all and adding at the end.\n",
+        "Work one after the other: `x ^ (late & 0)` is x, but only after `late` is there, and so what reads it is made later.\n",
     )
 }

@@ -1,5 +1,8 @@
 //! What names stand for, as their introductions say.
 
+ghost use Rattle.std.specs.Prelude.{IfSome};
+ghost use Rattle.pr_lens_find.specs.Names.{IsEarlierName};
+
 use crate::pieces::{put_place, put_quoted};
 use pr_lang::{Keyword, Kind, Symbol};
 use pr_lens_find::{Source, introduced_before};
@@ -30,6 +33,13 @@ impl Sort {
     }
 }
 
+/// Where a name is introduced, and what it stands for.
+#[derive(Clone, Copy)]
+pub struct Introduction {
+    pub token: usize,
+    pub sort: Sort,
+}
+
 /// What a name stands for that is introduced at this token, by the word before it.
 fn sort_at(source: &Source, introduced: usize) -> Sort {
     match source.kind(introduced.saturating_sub(1)) {
@@ -44,51 +54,43 @@ fn sort_at(source: &Source, introduced: usize) -> Sort {
     }
 }
 
-/// Adds what the name of a token is and where it was introduced, and says what it is; nothing where it was not.
+/// The first introduction of the name of a token before it, where that is visible still.
+pub fn introduction_of(source: &Source, token: usize) -> Option<Introduction>
+    ensures { IfSome result (λ i. IsEarlierName source.now.text.now source.now.tokens.now token i.token) }
+{
+    match introduced_before(source, token) {
+        None => None,
+        Some(introduced) => Some(Introduction {
+            token: introduced,
+            sort: sort_at(source, introduced),
+        }),
+    }
+}
+
+/// Adds what the name of a token is and where it is introduced.
+pub fn put_introduction(
+    message: &mut Vec<u8>,
+    source: &Source,
+    token: usize,
+    introduction: Introduction,
+) -> Result<(), AllocError> {
+    put_quoted(message, source, token)?;
+    put(message, " is ")?;
+    put(message, introduction.sort.as_str())?;
+    put(message, ", introduced at ")?;
+    put_place(message, source, introduction.token)?;
+    put(message, ".\n")
+}
+
+/// The same, where it is introduced before, and says what it is.
 pub fn put_introduced(
     message: &mut Vec<u8>,
     source: &Source,
     token: usize,
-) -> Result<Option<Sort>, AllocError> {
-    let Some(introduced) = introduced_before(source, token) else {
-        return Ok(None);
-    };
-    let sort = sort_at(source, introduced);
-    put_quoted(message, source, token)?;
-    put(message, " is ")?;
-    put(message, sort.as_str())?;
-    put(message, ", introduced at ")?;
-    put_place(message, source, introduced)?;
-    put(message, ".\n")?;
-    Ok(Some(sort))
-}
-
-/// How deep brackets are open after a token.
-fn depth_after(depth: usize, kind: Kind) -> usize {
-    match kind {
-        Kind::Mark(Symbol::OpenRound) | Kind::Mark(Symbol::OpenSquare) => depth.saturating_add(1),
-        Kind::Mark(Symbol::CloseRound) | Kind::Mark(Symbol::CloseSquare) => depth.saturating_sub(1),
-        _ => depth,
+) -> Result<Option<Introduction>, AllocError> {
+    let introduced = introduction_of(source, token);
+    if let Some(introduction) = introduced {
+        put_introduction(message, source, token, introduction)?;
     }
-}
-
-/// How many parts, told apart by commas, stand in the brackets that open at a token.
-pub fn parts_in(source: &Source, open: usize) -> usize {
-    let mut commas: usize = 0;
-    let mut depth = 0;
-    for at in open..source.tokens.len() {
-        let kind = source.kind(at);
-        depth = depth_after(depth, kind);
-        if depth == 0 {
-            return if at <= open.saturating_add(1) {
-                0
-            } else {
-                commas.saturating_add(1)
-            };
-        }
-        if depth == 1 && kind == Kind::Mark(Symbol::Comma) {
-            commas = commas.saturating_add(1);
-        }
-    }
-    commas.saturating_add(1)
+    Ok(introduced)
 }

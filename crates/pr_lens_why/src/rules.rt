@@ -1,9 +1,12 @@
 //! Broken rules of scope.
 
-use crate::names::{Sort, parts_in, put_introduced};
+use crate::brackets::parts_in;
+use crate::instances::{last_number, put_instance};
+use crate::names::put_introduced;
 use crate::pieces::put_quoted;
+use crate::uses::{introduced_again, of_another_kind, used_too_early};
 use pr_lang::{Keyword, Kind, Symbol};
-use pr_lens_find::{Source, introduced_before};
+use pr_lens_find::Source;
 use pr_lens_text::{put, put_counted};
 use std::alloc::AllocError;
 
@@ -28,103 +31,6 @@ fn rule_text(rule: u8) -> &'static str {
     }
 }
 
-fn introduced_again(
-    message: &mut Vec<u8>,
-    source: &Source,
-    token: usize,
-) -> Result<(), AllocError> {
-    put_quoted(message, source, token)?;
-    put(message, " is introduced a second time.\n")?;
-    if put_introduced(message, source, token)?.is_some() {
-        return put(
-            message,
-            "Give one of the two another name, or tell them apart by an index.\n",
-        );
-    }
-    if source.bytes(token) == b"signed".as_slice() {
-        return put(
-            message,
-            "`signed` is a function that is there from the beginning: choose another name.\n",
-        );
-    }
-    put(
-        message,
-        "It is so in every turn of the loop around it: tell the instances apart by the loop's index, as in `a[i]`.\n",
-    )
-}
-
-/// The name token of the recurrence in whose body a token stands.
-fn recurrence_around(source: &Source, token: usize) -> Option<usize> {
-    let mut at = token;
-    while 0 < at {
-        at -= 1;
-        match source.kind(at) {
-            Kind::Word(Keyword::Rec) => return at.checked_add(1),
-            Kind::Mark(Symbol::Semi) => return None,
-            _ => {}
-        }
-    }
-    None
-}
-
-/// Whether a token in the body of a recurrence is the recurrence's own name.
-fn is_own_name(source: &Source, token: usize) -> bool {
-    match recurrence_around(source, token) {
-        None => false,
-        Some(own) => source.bytes(own) == source.bytes(token),
-    }
-}
-
-fn used_too_early(message: &mut Vec<u8>, source: &Source, token: usize) -> Result<(), AllocError> {
-    put_quoted(message, source, token)?;
-    put(message, " is used before it is assigned.\n")?;
-    if is_own_name(source, token) {
-        return put(
-            message,
-            "In the body of its recurrence it is what earlier samples made of it: write `@1` behind it for the sample before.\n",
-        );
-    }
-    if put_introduced(message, source, token)?.is_some() {
-        return put(
-            message,
-            "This instance of it is not assigned there: with another index, or without one, it is another stream; a function sees no stream from outside.\n",
-        );
-    }
-    put(
-        message,
-        "Assign it in an item before this one, or see whether another name is meant.\n",
-    )
-}
-
-/// How a name of this sort is used, before this token.
-fn usage(sort: Option<Sort>, next: Kind) -> &'static str {
-    if next == Kind::Mark(Symbol::OpenRound) {
-        return "It is called, but no function of that name is visible here.\n";
-    }
-    if next == Kind::Mark(Symbol::At) {
-        return "Only a stream has earlier samples, so only a stream stands before `@`.\n";
-    }
-    match sort {
-        None =>
-            "It is to be a constant, a table, an index or a function, and none of that name is visible here.\n",
-        Some(Sort::Table) => "A table has an index behind it, as in `c[0]`.\n",
-        Some(Sort::Function) => "A function is called, with its arguments in brackets.\n",
-        Some(Sort::Constant) | Some(Sort::Index) =>
-            "A constant or an index has no index behind it.\n",
-        Some(Sort::Stream) | Some(Sort::Parameter) =>
-            "Delays, places of bits, bounds of loops, tables and indices are built from numbers, constants, entries of tables and indices alone.\n",
-    }
-}
-
-fn of_another_kind(message: &mut Vec<u8>, source: &Source, token: usize) -> Result<(), AllocError> {
-    let sort = put_introduced(message, source, token)?;
-    if sort.is_none() {
-        put_quoted(message, source, token)?;
-        put(message, " is not introduced before.\n")?;
-    }
-    put(message, usage(sort, source.kind(token.saturating_add(1))))
-}
-
 /// Tells how many parameters a function has, and how many arguments a call gives.
 fn tell_counts(message: &mut Vec<u8>, params: usize, given: usize) -> Result<(), AllocError> {
     if params == given {
@@ -133,18 +39,25 @@ fn tell_counts(message: &mut Vec<u8>, params: usize, given: usize) -> Result<(),
             "It leads through more than 32 functions: write the inner ones out, or use a loop.\n",
         );
     }
-    put_counted(message, "Its parameters are ", params)?;
-    put_counted(message, ", and the arguments of this call are ", given)?;
+    put_counted(message, "It has ", params)?;
+    put(
+        message,
+        if params == 1 {
+            " parameter"
+        } else {
+            " parameters"
+        },
+    )?;
+    put_counted(message, ", and this call gives ", given)?;
     put(message, ".\n")
 }
 
 fn wrong_call(message: &mut Vec<u8>, source: &Source, token: usize) -> Result<(), AllocError> {
     let given = parts_in(source, token.saturating_add(1));
-    put_introduced(message, source, token)?;
-    match introduced_before(source, token) {
-        Some(introduced) => tell_counts(
+    match put_introduced(message, source, token)? {
+        Some(introduction) => tell_counts(
             message,
-            parts_in(source, introduced.saturating_add(1)),
+            parts_in(source, introduction.token.saturating_add(1)),
             given,
         ),
         None => {
@@ -161,7 +74,7 @@ fn wrong_step(message: &mut Vec<u8>, source: &Source, token: usize) -> Result<()
     if source.kind(token) == Kind::Mark(Symbol::Minus) {
         return put(
             message,
-            "Constants are never below 0: write the greater one first, or subtract in the stream.\n",
+            "Constants are never below 0: write a negative one modulo a power of two, as in `256 - 2`, which is -2 in 8 bits.\n",
         );
     }
     put(
@@ -170,15 +83,27 @@ fn wrong_step(message: &mut Vec<u8>, source: &Source, token: usize) -> Result<()
     )
 }
 
+/// Tells how many entries a table has.
+fn tell_entries(message: &mut Vec<u8>, entries: usize) -> Result<(), AllocError> {
+    if entries <= 1 {
+        return put(message, "It has one entry, with the index 0.\n");
+    }
+    put_counted(message, "It has ", entries)?;
+    put_counted(message, " entries, 0 to ", entries - 1)?;
+    put(message, ".\n")
+}
+
 fn wrong_entry(message: &mut Vec<u8>, source: &Source, token: usize) -> Result<(), AllocError> {
-    put_introduced(message, source, token)?;
-    if let Some(introduced) = introduced_before(source, token) {
-        let entries = parts_in(source, introduced.saturating_add(2));
-        put_counted(message, "Its entries are ", entries)?;
-        put(
+    put_instance(message, source, token)?;
+    put(message, " is none of the table's entries.\n")?;
+    if let Some(introduction) = put_introduced(message, source, token)? {
+        tell_entries(
             message,
-            ", counted from 0, and this index is not among them.\n",
+            parts_in(source, introduction.token.saturating_add(2)),
         )?;
+    }
+    if last_number(source, token.saturating_add(2)).is_some() {
+        return Ok(());
     }
     put(
         message,
@@ -199,12 +124,18 @@ fn bounds_text(kind: Kind) -> &'static str {
     }
 }
 
+/// Whether a function is called at a token.
+fn is_call(source: &Source, token: usize) -> bool {
+    source.kind(token) == Kind::Name
+        && source.kind(token.saturating_add(1)) == Kind::Mark(Symbol::OpenRound)
+}
+
 fn wrong_recurrence(
     message: &mut Vec<u8>,
     source: &Source,
     token: usize,
 ) -> Result<(), AllocError> {
-    if source.kind(token.saturating_add(1)) == Kind::Mark(Symbol::OpenRound) {
+    if is_call(source, token) {
         put_introduced(message, source, token)?;
         return put(
             message,
@@ -213,7 +144,7 @@ fn wrong_recurrence(
     }
     put(
         message,
-        "The initial value does not fit the declared width.\nDeclare a wider recurrence, or take the value modulo its width.\n",
+        "The initial value does not fit the declared width.\nDeclare a greater width, or take the value modulo 2 to its width.\n",
     )
 }
 

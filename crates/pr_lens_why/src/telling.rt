@@ -1,9 +1,9 @@
 //! What is told of a refusal, and at which token.
 
-ghost use Rattle.std.specs.Prelude.{◌≡◌, ◌≤◌, ℕ, true, length, IfOk, IsTrue};
-ghost use Rattle.pr_compile.specs.declared.faults.CompileFault.{CompileFault};
-ghost use Rattle.pr_lens_why.specs.Verdicts.{HasConfiguration};
+ghost use Rattle.std.specs.Prelude.{◌≤◌, true, length, IfOk, OnOk, IsTrue};
+ghost use Rattle.pr_lens_why.specs.Verdicts.{HasConfiguration, TellsOf, PointsRight};
 
+use crate::brackets::name_before;
 use crate::{fits, limits, rules, syntax, widths};
 use pr_base::Cap;
 use pr_compile::{CompileFault, compile_counted};
@@ -13,27 +13,28 @@ use pr_lens_text::put;
 use pr_parse_lex::first_deep;
 use std::alloc::{AllocError, Global};
 
-/// Whether the program of a text fits with narrowed equations.
-fn fits_narrowed<const N: usize, const P: usize>(
+/// Whether the program of a text fits on N columns and P registers, with narrowed equations or without.
+fn fits_on<const N: usize, const P: usize>(
     alloc: Global,
     text: &[u8],
+    narrowed: bool,
 ) -> Result<bool, AllocError>
     requires short { length text.now ≤ 1048576 }
     requires columns { 1 ≤ N }
     requires most_columns { N ≤ 64 }
     requires registers { 2 ≤ P }
     requires most_registers { P ≤ 16 }
-    ensures { IfOk result (λ fits. IsTrue fits → HasConfiguration N P true text.now) }
+    ensures { IfOk result (λ fits. IsTrue fits → HasConfiguration N P narrowed text.now) }
 {
-    match compile_counted::<N, P>(alloc, text, true) {
+    match compile_counted::<N, P>(alloc, text, narrowed) {
         Ok(_compiled) => Ok(true),
         Err(CompileFault::Memory(error)) => Err(error),
         Err(_) => Ok(false),
     }
 }
 
-/// Tells whether narrowing helps, or else the wide fabric may.
-fn tell_others<const N: usize, const P: usize>(
+/// Tells that the program fits with narrowed equations, where it does.
+fn tell_narrow<const N: usize, const P: usize>(
     alloc: Global,
     message: &mut Vec<u8>,
     text: &[u8],
@@ -44,15 +45,27 @@ fn tell_others<const N: usize, const P: usize>(
     requires most_columns { N ≤ 64 }
     requires registers { 2 ≤ P }
     requires most_registers { P ≤ 16 }
+    ensures { OnOk result (TellsOf N P true text.now message.old.items message.new.items) }
 {
-    if !narrowed && fits_narrowed::<N, P>(alloc, text)? {
+    if !narrowed && fits_on::<N, P>(alloc, text, true)? {
         return put(message, "With `--narrow` the program fits.\n");
     }
-    if N < 32 {
-        return put(
-            message,
-            "Or use `--fabric wide`, with 32 columns and 16 registers.\n",
-        );
+    Ok(())
+}
+
+/// Tells that the program fits on the wide fabric, where it does and this one has fewer columns.
+fn tell_wide(
+    alloc: Global,
+    message: &mut Vec<u8>,
+    text: &[u8],
+    narrowed: bool,
+    columns: usize,
+) -> Result<(), AllocError>
+    requires { length text.now ≤ 1048576 }
+    ensures { OnOk result (TellsOf 32 16 narrowed text.now message.old.items message.new.items) }
+{
+    if columns < 32 && fits_on::<32, 16>(alloc, text, narrowed)? {
+        return put(message, "On `--fabric wide` the program fits.\n");
     }
     Ok(())
 }
@@ -77,7 +90,7 @@ fn limit_token(
     }
 }
 
-/// Tells why a group fits in no stripe; the token to look at.
+/// Tells why a group fits in no stripe, and what helps; the token to look at.
 fn tell_fit<const N: usize, const P: usize>(
     alloc: Global,
     message: &mut Vec<u8>,
@@ -93,11 +106,12 @@ fn tell_fit<const N: usize, const P: usize>(
 {
     let unfit = find_unfit(alloc, source, narrowed, N, unit)?;
     fits::tell(message, &unfit, N, P)?;
-    tell_others::<N, P>(alloc, message, source.text, narrowed)?;
+    tell_narrow::<N, P>(alloc, message, source.text, narrowed)?;
+    tell_wide(alloc, message, source.text, narrowed, N)?;
     Ok(source.first(unfit.item))
 }
 
-/// Tells which limit is passed; the token to look at.
+/// Tells which limit is passed, and what helps; the token to look at.
 fn tell_limit<const N: usize, const P: usize>(
     alloc: Global,
     message: &mut Vec<u8>,
@@ -112,8 +126,10 @@ fn tell_limit<const N: usize, const P: usize>(
     requires most_registers { P ≤ 16 }
 {
     limits::tell(message, cap)?;
-    if cap == Cap::Units {
-        tell_others::<N, P>(alloc, message, source.text, narrowed)?;
+    match cap {
+        Cap::Units => tell_narrow::<N, P>(alloc, message, source.text, narrowed)?,
+        Cap::InputBytes => tell_wide(alloc, message, source.text, narrowed, N)?,
+        _ => {}
     }
     limit_token(alloc, source, narrowed, N, cap)
 }
@@ -128,7 +144,12 @@ fn tell_scope(
 ) -> Result<usize, AllocError>
     requires { length source.now.text.now ≤ 1048576 }
 {
-    let token = find_offence(alloc, source, rule, item)?;
+    let found = find_offence(alloc, source, rule, item)?;
+    let token = if rule == 2 {
+        name_before(source, found)
+    } else {
+        found
+    };
     rules::tell(message, source, rule, token)?;
     Ok(token)
 }
@@ -160,7 +181,7 @@ pub fn tell<const N: usize, const P: usize>(
     requires most_columns { N ≤ 64 }
     requires registers { 2 ≤ P }
     requires most_registers { P ≤ 16 }
-    ensures token { (k : ℕ) → fault.now ≡ CompileFault.Syntax k → IfOk result (λ token. token ≡ k) }
+    ensures token { IfOk result (PointsRight fault.now) }
 {
     match fault {
         CompileFault::Syntax { token } => {
