@@ -6,5 +6,5 @@ mod pieces;
 mod places;
 
 pub use lines::{Line, end_of, line_at};
-pub use pieces::{put, put_counted, put_number};
+pub use pieces::{put, put_counted, put_many, put_number};
 pub use places::{Place, place_at, token_place};

@@ -1,6 +1,6 @@
 //! Words and numbers, added to a text.
 
-ghost use Rattle.std.specs.Prelude.{◌≡◌, ◌++◌, OnOk, decimal};
+ghost use Rattle.std.specs.Prelude.{◌≡◌, ◌++◌, OnOk, decimal, replicate};
 
 use itoa::Buffer;
 use std::alloc::AllocError;
@@ -18,6 +18,17 @@ pub fn put_number(text: &mut Vec<u8>, number: usize) -> Result<(), AllocError>
 {
     let mut buffer = Buffer::new();
     text.extend_from_slice(buffer.format(number).as_bytes())
+}
+
+/// Adds a byte so many times.
+#[tactic(auto, using(std::proofs::lemmas::List::replicate_more))]
+pub fn put_many(text: &mut Vec<u8>, byte: u8, count: usize) -> Result<(), AllocError>
+    ensures { OnOk result (text.new.items ≡ text.old.items ++ replicate count byte) }
+{
+    for _ in 0..count {
+        text.push(byte)?;
+    }
+    Ok(())
 }
 
 /// Adds words and a number.
