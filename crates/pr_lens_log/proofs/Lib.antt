@@ -1,2 +1,4 @@
+pub mod CycleLaws
 pub mod LineLaws
 pub mod WaveLaws
+pub mod WordLaws

@@ -1,47 +1,90 @@
--- Lines of cycles and other lines.
-use Rattle.std.proofs.Common.{◌≡◌, ◌⊎◌, ◌≤◌, ◌∙◌, ℕ, Bool, true, false, if◌then◌else◌, List, [], ◌∷◌, ◌++◌, length, take, slice_index, inl, inr, refl, sym, ap, subst, codes, arith}
-use Rattle.std.proofs.lemmas.List.{length-take-le, take_all}
-use Rattle.pr_conf.specs.declared.turns.Turn.{Turn}
-use Rattle.pr_log.specs.Lines.{line_of, cycle_line_of, stall_line_of}
+-- Lines of cycles and other lines, and what is told after them.
+use Rattle.std.proofs.Common.{◌≡◌, ◌≢◌, ◌⊎◌, ◌∙◌, ℕ, true, false, List, [], ◌∷◌, ◌++◌, take, get_or, map, max, Option, inl, inr, sym, ap, subst, codes, arith, eqb-true, true≢false}
+use Rattle.std.specs.Prelude.{nat_eq, fold, slice_get}
+use Rattle.std.specs.Cmp.Lexicographic.{pointwise}
+use Rattle.std.specs.List.{starts_with}
+use Rattle.std.proofs.lemmas.Bool.{and_parts, cases_Bool}
+use Rattle.std.proofs.lemmas.List.{map_push}
+use Rattle.std.proofs.lemmas.List.Sums.{fold-append}
 use Rattle.pr_lens_log.specs.declared.lines.Logged.{Logged}
-use Rattle.pr_lens_log.specs.Lines.{IsCycleLine, IsFront, IsResultLine, IsEndLine}
-use Rattle.pr_lens_log.specs.Logs.{IsOther, TakesLine, adds}
+use Rattle.pr_lens_log.specs.declared.lines.LogLine.TheVariants.{Cycle, Result, End}
+use Rattle.pr_lens_log.specs.declared.logs.Log.{Log}
+use Rattle.pr_lens_log.specs.Lines.{HasNoCycle, IsCycleLine, IsEndLine, IsNoLine, IsNoOther, IsResultLine, is_end, is_word_end}
+use Rattle.pr_lens_log.specs.Logs.{HasSizes, IsAdded, IsOther, TakesLine, Tale, adds, most, stages_to, stripes_to, tale_of}
+use Rattle.pr_lens_log.proofs.CycleLaws.{cycle_is, stall_is}
+
+-- ---- the first byte of a line
+cycle_first : (line : List ℕ) (logged : Logged) → IsCycleLine line logged → logged.turn.advanced ≡ true → get_or line 0 0 ≡ 99
+cycle_first line logged h advanced = ap (λ l. get_or l 0 0) (cycle_is line logged h advanced)
+
+stall_first : (line : List ℕ) (logged : Logged) → IsCycleLine line logged → logged.turn.advanced ≡ false → get_or line 0 0 ≡ 115
+stall_first line logged h stalled = ap (λ l. get_or l 0 0) (stall_is line logged h stalled)
 
 -- a cycle's line begins with c or s
-first_of_line : (turn : Turn) (time : ℕ) (state : List ℕ) → (slice_index (line_of turn time state) 0 ≡ 99) ⊎ (slice_index (line_of turn time state) 0 ≡ 115)
-first_of_line turn time state = go turn.advanced
-  where
-    go : (b : Bool) → (slice_index (if b then cycle_line_of turn time state else stall_line_of time) 0 ≡ 99) ⊎ (slice_index (if b then cycle_line_of turn time state else stall_line_of time) 0 ≡ 115)
-    go true = inl refl
-    go false = inr refl
+first_of_cycle : (line : List ℕ) (logged : Logged) → IsCycleLine line logged → (get_or line 0 0 ≡ 99) ⊎ (get_or line 0 0 ≡ 115)
+first_of_cycle line logged h = elim (cases_Bool logged.turn.advanced) [ inl e ↦ inl (cycle_first line logged h e) | inr e ↦ inr (stall_first line logged h e) ]
 
-first_of_cycle : (line : List ℕ) (logged : Logged) → IsCycleLine line logged → (slice_index line 0 ≡ 99) ⊎ (slice_index line 0 ≡ 115)
-first_of_cycle line logged h = subst (λ l. (slice_index l 0 ≡ 99) ⊎ (slice_index l 0 ≡ 115)) (sym h.is) (first_of_line logged.turn logged.time h.state)
+first_word_end : (line : List ℕ) → is_end line ≡ true → get_or line 0 0 ≡ 101
+first_word_end [] e = absurd (true≢false (sym e))
+first_word_end (b ∷ bs) e =
+    let word = and_parts (starts_with nat_eq (b ∷ bs) (codes "end")) (is_word_end (slice_get (b ∷ bs) 3)) e in
+    let first = and_parts (nat_eq 101 b) (pointwise nat_eq (110 ∷ 100 ∷ []) (take 2 bs)) word.0 in
+    sym (eqb-true 101 b first.0)
 
+-- an end begins with neither
+first_of_end : (line : List ℕ) → IsEndLine line → (get_or line 0 0 ≢ 99) × (get_or line 0 0 ≢ 115)
+first_of_end line (inl blank) = let first : get_or line 0 0 ≡ 0 = ap (λ l. get_or l 0 0) blank in ((λ is. omega (arith, first, is)), (λ is. omega (arith, first, is)))
+first_of_end line (inr (inl feed)) = ((λ is. omega (arith, feed, is)), (λ is. omega (arith, feed, is)))
+first_of_end line (inr (inr end)) = let first = first_word_end line end in ((λ is. omega (arith, first, is)), (λ is. omega (arith, first, is)))
+
+-- ---- other lines
 pub result_is_other : (line : List ℕ) → IsResultLine line → IsOther line
 result_is_other line r logged h = elim (first_of_cycle line logged h) [ inl e ↦ omega (arith, e, r.high) | inr e ↦ omega (arith, e, r.high) ]
 
-first_of_end : (line : List ℕ) → IsFront (codes "end") line → slice_index line 0 ≡ 101
-first_of_end [] f = absurd (cc f.is)
-first_of_end (b ∷ bs) f = sym (ap (λ l. slice_index l 0) f.is)
-
 pub end_is_other : (line : List ℕ) → IsEndLine line → IsOther line
-end_is_other line e logged h = apart e (first_of_cycle line logged h)
-  where
-    apart : IsEndLine line → (slice_index line 0 ≡ 99) ⊎ (slice_index line 0 ≡ 115) → ⊥
-    apart (inl blank) (inl c) = absurd (cc (ap (λ l. slice_index l 0) blank, c))
-    apart (inl blank) (inr s) = absurd (cc (ap (λ l. slice_index l 0) blank, s))
-    apart (inr (inl feed)) (inl c) = omega (arith, feed, c)
-    apart (inr (inl feed)) (inr s) = omega (arith, feed, s)
-    apart (inr (inr front)) (inl c) = omega (arith, first_of_end line front, c)
-    apart (inr (inr front)) (inr s) = omega (arith, first_of_end line front, s)
+end_is_other line e logged h = elim (first_of_cycle line logged h) [ inl c ↦ (first_of_end line e).0 c | inr s ↦ (first_of_end line e).1 s ]
 
-pub added : {line : List ℕ} {before after : List Logged} {logged : Logged} → IsCycleLine line logged → after ≡ before ++ logged ∷ [] → TakesLine line before after
-added {line} {before} h e = subst (λ cycles. TakesLine line before cycles) (sym e) (adds h)
+-- ---- lines that tell nothing, by their first byte
+pub no_cycle : (line : List ℕ) → get_or line 0 0 ≡ 99 → HasNoCycle true line → IsNoLine line
+no_cycle line first none (Cycle logged) told = elim (cases_Bool logged.turn.advanced) [
+  | inl e ↦ none logged told e
+  | inr e ↦ (let other = stall_first line logged told e in omega (arith, first, other))
+]
+no_cycle line first none Result told = omega (arith, first, told.high)
+no_cycle line first none End told = (first_of_end line told).0 first
 
--- fronts
-pub taken_is_front : (part whole : List ℕ) (n : ℕ) → part ≡ take n whole → n ≤ length whole → IsFront part whole
-taken_is_front part whole n e h = record { is = e ∙ ap (λ k. take k whole) (sym (ap length e ∙ length-take-le n whole h)) }
+pub no_stall : (line : List ℕ) → get_or line 0 0 ≡ 115 → HasNoCycle false line → IsNoLine line
+no_stall line first none (Cycle logged) told = elim (cases_Bool logged.turn.advanced) [
+  | inl e ↦ (let other = cycle_first line logged told e in omega (arith, first, other))
+  | inr e ↦ none logged told e
+]
+no_stall line first none Result told = omega (arith, first, told.high)
+no_stall line first none End told = (first_of_end line told).1 first
 
-pub whole_is_front : (whole : List ℕ) → IsFront whole whole
-whole_is_front whole = record { is = sym (take_all (length whole) whole (omega arith)) }
+pub no_other : (line : List ℕ) → get_or line 0 0 ≢ 99 → get_or line 0 0 ≢ 115 → IsNoOther line → IsNoLine line
+no_other line cycle stall none (Cycle logged) told = elim (first_of_cycle line logged told) [ inl c ↦ cycle c | inr s ↦ stall s ]
+no_other line cycle stall none Result told = none.result told
+no_other line cycle stall none End told = none.end told
+
+-- ---- what is told after a cycle
+pub added : {line : List ℕ} {old new : Log} {results : ℕ} {logged : Logged} → IsCycleLine line logged → IsAdded old new results logged → TakesLine line (tale_of old results) (tale_of new results)
+added {line} {old} {new} {results} {logged} h a =
+    subst (λ (t : Tale). TakesLine line (tale_of old results) t) (λ i. record { cycles = (sym a.cycles) i; written = (sym a.written) i; results = results }) (adds h a.drawn)
+
+most_more : (count : Option (ℕ × ℕ) → ℕ) (cycles : List Logged) (logged : Logged) → most count (cycles ++ logged ∷ []) ≡ max (most count cycles) (count logged.turn.configured)
+most_more count cycles logged =
+    ap (fold max 0) (map_push (λ (c : Logged). count c.turn.configured) cycles logged)
+    ∙ fold-append max 0 (map (λ (c : Logged). count c.turn.configured) cycles) (count logged.turn.configured ∷ [])
+
+pub sizes_added : {old new : Log} {results : ℕ} {logged : Logged} → IsAdded old new results logged → HasSizes old → HasSizes new
+sizes_added {old} {new} {results} {logged} a sizes = record {
+  stages =
+      a.stages ∙ (ap (λ n. max n (stages_to logged.turn.configured)) sizes.stages
+      ∙ (sym (most_more stages_to old.cycles.items logged) ∙ ap (most stages_to) (sym a.cycles)));
+  stripes =
+      a.stripes ∙ (ap (λ n. max n (stripes_to logged.turn.configured)) sizes.stripes
+      ∙ (sym (most_more stripes_to old.cycles.items logged) ∙ ap (most stripes_to) (sym a.cycles)));
+}
+
+pub sizes_none : (log : Log) → log.cycles.items ≡ [] → log.stages ≡ 0 → log.stripes ≡ 0 → HasSizes log
+sizes_none log none stages stripes = record { stages = stages ∙ ap (most stages_to) (sym none); stripes = stripes ∙ ap (most stripes_to) (sym none) }

@@ -1,17 +1,50 @@
 -- What the lines of a log tell.
-use Rattle.std.specs.Prelude.{◌≡◌, ◌⊎◌, ◌-◌, ◌<◌, ◌≤◌, ◌++◌, ◌∷◌, [], ℕ, List, length, slice_index, slice_range}
+use Rattle.std.specs.Prelude.{◌≡◌, ◌⊎◌, ◌+◌, ◌-◌, ◌<◌, ◌≤◌, ◌++◌, ◌∷◌, [], ⊤, ℕ, max, List, Option, Some, None, IfSome, fold, map, length, slice_index, slice_range}
 use Rattle.pr_lens_text.specs.Places.{HasNoEnd}
 use Rattle.pr_lens_log.specs.declared.lines.Logged.{Logged}
-use Rattle.pr_lens_log.specs.Lines.{IsCycleLine}
+use Rattle.pr_lens_log.specs.declared.logs.Log.{Log}
+use Rattle.pr_lens_log.specs.declared.logs.LogFault.{LogFault}
+use Rattle.pr_lens_log.specs.declared.logs.LogFault.TheVariants.{BadLine, Memory}
+use Rattle.pr_lens_log.specs.Lines.{IsCycleLine, IsResultLine, IsEndLine, IsNoLine}
+
+-- the stage and the stripe are among those that are drawn
+abbrev pub AreDrawn : Option (ℕ × ℕ) → Type 0
+AreDrawn configured = IfSome configured (λ c. (c.0 < 32768) × (c.1 < 256))
 
 -- no cycle has this line
 abbrev pub IsOther : List ℕ → Type 0
 IsOther line = (logged : Logged) → IsCycleLine line logged → ⊥
 
--- the cycles after a line
-pub data TakesLine : List ℕ → List Logged → List Logged → Type 0 where
-  adds : {line : List ℕ} {cycles : List Logged} {logged : Logged} → IsCycleLine line logged → TakesLine line cycles (cycles ++ logged ∷ [])
-  keeps : {line : List ℕ} {cycles : List Logged} → IsOther line → TakesLine line cycles cycles
+-- what lines tell: the cycles, how many results were written before each, and how many in all
+pub record Tale : Type 0 where
+  pub cycles : List Logged
+  pub written : List ℕ
+  pub results : ℕ
+
+abbrev pub tale_of : Log → ℕ → Tale
+tale_of log results = record { cycles = log.cycles.items; written = log.written.items; results = results }
+
+abbrev pub with_cycle : Tale → Logged → Tale
+with_cycle t logged = record { cycles = t.cycles ++ logged ∷ []; written = t.written ++ t.results ∷ []; results = t.results }
+
+abbrev pub with_result : Tale → Tale
+with_result t = record { cycles = t.cycles; written = t.written; results = t.results + 1 }
+
+-- what is told after a line
+pub data TakesLine : List ℕ → Tale → Tale → Type 0 where
+  adds : {line : List ℕ} {t : Tale} {logged : Logged} → IsCycleLine line logged → AreDrawn logged.turn.configured → TakesLine line t (with_cycle t logged)
+  counts : {line : List ℕ} {t : Tale} → IsResultLine line → IsOther line → TakesLine line t (with_result t)
+  keeps : {line : List ℕ} {t : Tale} → IsEndLine line → IsOther line → TakesLine line t t
+
+-- the line of a cycle whose stage or stripe is not drawn
+pub record IsUndrawn (line : List ℕ) : Type 0 where
+  pub logged : Logged
+  pub is : IsCycleLine line logged
+  pub undrawn : AreDrawn logged.turn.configured → ⊥
+
+-- no line of a log that is drawn
+abbrev pub IsUnlawful : List ℕ → Type 0
+IsUnlawful line = IsNoLine line ⊎ IsUndrawn line
 
 -- a line of a text, its line feed included where it has one
 pub record IsLineOf (text : List ℕ) (from to : ℕ) : Type 0 where
@@ -20,8 +53,59 @@ pub record IsLineOf (text : List ℕ) (from to : ℕ) : Type 0 where
   pub none : HasNoEnd text from (to - 1)
   pub ends : (to ≡ length text) ⊎ (slice_index text (to - 1) ≡ 10)
 
--- the lines of so many bytes of a text tell these cycles, in order, and no others
-pub data TellsTo : List ℕ → ℕ → List Logged → Type 0 where
-  nothing : {text : List ℕ} → TellsTo text 0 []
-  one_more : {text : List ℕ} {from to : ℕ} {before after : List Logged} → TellsTo text from before → IsLineOf text from to
-      → TakesLine (slice_range text from to) before after → TellsTo text to after
+abbrev pub nothing_told : Tale
+nothing_told = record { cycles = []; written = []; results = 0 }
+
+-- so many lines, which are so many bytes of a text, tell this, in order, and nothing else
+pub data TellsTo : List ℕ → ℕ → ℕ → Tale → Type 0 where
+  nothing : {text : List ℕ} → TellsTo text 0 0 nothing_told
+  one_more : {text : List ℕ} {lines from to : ℕ} {before after : Tale} → TellsTo text lines from before → IsLineOf text from to
+      → TakesLine (slice_range text from to) before after → TellsTo text (lines + 1) to after
+
+-- ---- how many stages are named, and how many stripes
+abbrev pub stages_to : Option (ℕ × ℕ) → ℕ
+stages_to None = 0
+stages_to (Some (stage, stripe)) = stage + 1
+
+abbrev pub stripes_to : Option (ℕ × ℕ) → ℕ
+stripes_to None = 0
+stripes_to (Some (stage, stripe)) = stripe + 1
+
+abbrev pub most : (Option (ℕ × ℕ) → ℕ) → List Logged → ℕ
+most count cycles = fold max 0 (map (λ c. count c.turn.configured) cycles)
+
+pub record HasSizes (log : Log) : Type 0 where
+  pub stages : log.stages ≡ most stages_to log.cycles.items
+  pub stripes : log.stripes ≡ most stripes_to log.cycles.items
+
+-- a cycle came into a log, with so many results before it
+pub record IsAdded (old new : Log) (results : ℕ) (logged : Logged) : Type 0 where
+  pub drawn : AreDrawn logged.turn.configured
+  pub cycles : new.cycles.items ≡ old.cycles.items ++ logged ∷ []
+  pub written : new.written.items ≡ old.written.items ++ results ∷ []
+  pub stages : new.stages ≡ max old.stages (stages_to logged.turn.configured)
+  pub stripes : new.stripes ≡ max old.stripes (stripes_to logged.turn.configured)
+
+-- ---- whole logs
+-- the lines of the text tell the log
+pub record IsLogOf (text : List ℕ) (log : Log) : Type 0 where
+  pub lines : ℕ
+  pub results : ℕ
+  pub tells : TellsTo text lines (length text) (tale_of log results)
+  pub sizes : HasSizes log
+
+-- the lines before this one, counted from 1, are those of a log, and this one is not
+pub record IsBadAt (text : List ℕ) (line : ℕ) : Type 0 where
+  pub before : ℕ
+  pub from : ℕ
+  pub to : ℕ
+  pub told : Tale
+  pub tells : TellsTo text before from told
+  pub here : IsLineOf text from to
+  pub wrong : IsUnlawful (slice_range text from to)
+  pub number : line ≡ before + 1
+
+-- why a text is no log, but that memory may want
+abbrev pub IsLogAnswer : List ℕ → LogFault → Type 0
+IsLogAnswer text (BadLine line) = IsBadAt text line
+IsLogAnswer text (Memory e) = ⊤

@@ -1,9 +1,10 @@
 //! Lines of a log.
 
-ghost use Rattle.std.specs.Prelude.{◌≡◌, ◌↔◌, ◌≤◌, IsTrue, IfSome};
-ghost use Rattle.pr_lens_log.specs.Lines.{IsLogged, IsCycleLine, IsFront};
+ghost use Rattle.std.specs.Prelude.{◌≡◌, ◌≢◌, ◌↔◌, ◌≤◌, ◌<◌, true, false, Option, IsTrue, IfSome, IfNone, length, slice_index};
+ghost use Rattle.pr_log.specs.Lines.{line_of};
+ghost use Rattle.pr_lens_log.specs.Lines.{is_word_end, is_end, CanBe, IsCycleLine, HasNoCycle, IsLogged, IsNoOther, IsNoLine};
 
-use crate::words::{Words, configured, entry, number, short, state};
+use crate::words::{configured, cut, entry, number, saved, second, state};
 use pr_conf::Turn;
 use pr_log::line;
 
@@ -41,11 +42,11 @@ pub enum LogLine {
 
 /// The cycle, where this is its line: what was read is printed again and compared.
 fn confirmed(bytes: &[u8], turn: Turn, time: u64, row: &[u8]) -> Option<Logged>
-    ensures { IfSome result (IsCycleLine bytes.now) }
+    requires can { CanBe turn }
+    requires short { length row.now ≤ 64 }
+    ensures told { IfSome result (IsCycleLine bytes.now) }
+    ensures none { IfNone result (bytes.now ≢ line_of turn time row.now) }
 {
-    if row.len() > 64 {
-        return None;
-    }
     let printed = line(&turn, time, row);
     if printed.as_str().as_bytes() != bytes {
         return None;
@@ -53,42 +54,36 @@ fn confirmed(bytes: &[u8], turn: Turn, time: u64, row: &[u8]) -> Option<Logged>
     Some(Logged { turn, time })
 }
 
-/// What was saved, and the words behind it.
-fn saved<'a>(words: Words<'a>) -> Option<(Option<u32>, &'a [u8], Words<'a>)> {
-    let (word, rest) = words.next();
-    if word == b"-".as_slice() {
-        return Some((None, &[], rest));
-    }
-    let stage = short(word)?;
-    let (row, rest) = rest.next();
-    Some((Some(stage), row, rest))
-}
-
-/// The cycle of a line that begins with `cycle`, its line feed included.
-fn read_cycle(bytes: &[u8], words: Words) -> Option<Logged>
-    ensures { IfSome result (IsCycleLine bytes.now) }
+/// The cycle of a line that begins with `c`, its line feed included.
+fn read_cycle(bytes: &[u8]) -> Option<Logged>
+    ensures told { IfSome result (IsCycleLine bytes.now) }
+    ensures none { IfNone result (HasNoCycle true bytes.now) }
 {
-    let (time, words) = words.next();
-    let (stage, words) = words.skip("conf")?.next();
-    let (saved, row, words) = saved(words.skip("save")?)?;
-    let (entered, words) = words.skip("in")?.next();
-    let (left, _) = words.skip("out")?.next();
+    let (time, words) = second(bytes);
+    let (stage, words) = second(words);
+    let (_, words) = cut(words, b' ');
+    let (saved, row, words) = saved(words);
+    let (entered, words) = second(words);
+    let (_, words) = cut(words, b' ');
+    let (left, _) = cut(words, b'\n');
     let turn = Turn {
         advanced: true,
-        configured: configured(stage)?,
+        configured: configured(stage),
         saved,
-        entered: entry(entered)?,
-        left: entry(left)?,
+        entered: entry(entered),
+        left: entry(left),
     };
     let (row, count) = state(row);
-    confirmed(bytes, turn, number(time)?, &row[..count])
+    confirmed(bytes, turn, number(time), &row[..count])
 }
 
-/// The cycle of a line that begins with `stall`, its line feed included.
-fn read_stall(bytes: &[u8], words: Words) -> Option<Logged>
-    ensures { IfSome result (IsCycleLine bytes.now) }
+/// The cycle of a line that begins with `s`, its line feed included.
+fn read_stall(bytes: &[u8]) -> Option<Logged>
+    ensures told { IfSome result (IsCycleLine bytes.now) }
+    ensures none { IfNone result (HasNoCycle false bytes.now) }
 {
-    let (time, _) = words.next();
+    let (_, words) = cut(bytes, b' ');
+    let (time, _) = cut(words, b'\n');
     let turn = Turn {
         advanced: false,
         configured: None,
@@ -96,7 +91,7 @@ fn read_stall(bytes: &[u8], words: Words) -> Option<Logged>
         entered: None,
         left: None,
     };
-    confirmed(bytes, turn, number(time)?, &[])
+    confirmed(bytes, turn, number(time), &[])
 }
 
 /// Whether a result begins with this byte.
@@ -106,23 +101,29 @@ fn begins_result(byte: u8) -> bool
     b'0' <= byte && byte <= b'9'
 }
 
-/// A line without its line feed.
-fn bare(line: &[u8]) -> &[u8]
-    ensures { IsFront result.now line.now }
+/// Whether a word ends before this byte, or with the line.
+fn is_word_end(byte: Option<u8>) -> bool
+    ensures { result ≡ is_word_end byte }
 {
-    if !line.is_empty() && line[line.len() - 1] == b'\n' {
-        &line[..line.len() - 1]
-    } else {
-        line
+    match byte {
+        None => true,
+        Some(byte) => byte == b' ' || byte == b'\n',
     }
 }
 
-/// A line whose first word tells no cycle.
-fn read_other(bytes: &[u8], word: &[u8]) -> Option<LogLine>
-    requires { IsFront word.now bytes.now }
-    ensures { IfSome result (IsLogged bytes.now) }
+/// Whether the first word of a line is `end`.
+fn is_end(bytes: &[u8]) -> bool
+    ensures { result ≡ is_end bytes.now }
 {
-    if bytes.is_empty() || bytes[0] == b'\n' || word == b"end".as_slice() {
+    bytes.starts_with(b"end") && is_word_end(bytes.get(3).copied())
+}
+
+/// A line that tells no cycle.
+fn read_other(bytes: &[u8]) -> Option<LogLine>
+    ensures told { IfSome result (IsLogged bytes.now) }
+    ensures none { IfNone result (IsNoOther bytes.now) }
+{
+    if bytes.is_empty() || bytes[0] == b'\n' || is_end(bytes) {
         return Some(LogLine::End);
     }
     if begins_result(bytes[0]) {
@@ -132,17 +133,24 @@ fn read_other(bytes: &[u8], word: &[u8]) -> Option<LogLine>
     }
 }
 
+/// The first byte of a line, or 0.
+fn first_of(bytes: &[u8]) -> u8
+    ensures { result ≡ slice_index bytes.now 0 }
+{
+    if bytes.is_empty() { 0 } else { bytes[0] }
+}
+
 /// A line of a log, its line feed included where it has one; none where it is no line of a log.
 pub fn read_line(bytes: &[u8]) -> Option<LogLine>
-    ensures { IfSome result (IsLogged bytes.now) }
+    ensures told { IfSome result (IsLogged bytes.now) }
+    ensures none { IfNone result (IsNoLine bytes.now) }
 {
-    let line = bare(bytes);
-    let (word, words) = Words { rest: line }.next();
-    if word == b"cycle".as_slice() {
-        return read_cycle(bytes, words).map(LogLine::Cycle);
+    let first = first_of(bytes);
+    if first == b'c' {
+        return read_cycle(bytes).map(LogLine::Cycle);
     }
-    if word == b"stall".as_slice() {
-        return read_stall(bytes, words).map(LogLine::Cycle);
+    if first == b's' {
+        return read_stall(bytes).map(LogLine::Cycle);
     }
-    read_other(bytes, word)
+    read_other(bytes)
 }
