@@ -1,3 +1,4 @@
 mod AnswerLemmas
 mod CostLemmas
 mod RateLemmas
+mod TextLemmas

@@ -1,2 +1,3 @@
 pub mod Rates
 pub mod Costs
+pub mod Texts
