@@ -1,4 +1,5 @@
 pub mod Tasks
 pub mod Orders
+pub mod Explanations
 pub mod Outcomes
 pub mod Calls

@@ -42,7 +42,7 @@ fn of_file<S: Shelf>(
     question: Question,
     shelf: &mut S,
 ) -> Result<Output, Answer>
-    ensures told { IfOk result (λ o. IsToldOf question (S.told shelf.old) (asked_in order.now) o.outcome) }
+    ensures told { IfOk result (λ o. IsToldOf question (S.told shelf.old) (asked_in order.now) o.outcome o.text.items) }
     ensures refused { IfErr result
         (IsUntold (S.told shelf.old) (asked_in order.now) (S.faults shelf.old) (S.faults shelf.new)) }
     ensures later { S.faults shelf.old ≤ S.faults shelf.new }
@@ -58,7 +58,7 @@ fn of_file<S: Shelf>(
 
 /// What is asked for, made whole; else what the call comes to.
 fn made<S: Shelf>(alloc: Global, order: &Order, shelf: &mut S) -> Result<Output, Outcome>
-    ensures made { IfOk result (λ o. IsMade (S.told shelf.old) (asked_in order.now) o.outcome) }
+    ensures made { IfOk result (λ o. IsMade (S.told shelf.old) (asked_in order.now) o.outcome o.text.items) }
     ensures unmade { IfErr result
         (IsUnmade (S.told shelf.old) (asked_in order.now) (S.faults shelf.old) (S.faults shelf.new)) }
     ensures later { S.faults shelf.old ≤ S.faults shelf.new }

@@ -3,7 +3,7 @@
 ghost use Rattle.std.specs.Prelude.{◌≡◌, ◌≤◌, IfOk, IfErr};
 ghost use Rattle.pr_tool_answers.specs.declared.answers.Answer.{Answer};
 ghost use Rattle.pr_lens_tool.specs.declared.outcomes.Outcome.TheVariants.{Plain};
-ghost use Rattle.pr_lens_tool.specs.Outcomes.{IsNoLog};
+ghost use Rattle.pr_lens_tool.specs.Outcomes.{HasLog, IsDrawing, IsNoLog};
 
 use crate::orders::Drawing;
 use crate::outcomes::{Outcome, Output};
@@ -17,6 +17,7 @@ const LOG: usize = 16_777_216;
 
 /// The log of a file; else what the call comes to.
 fn log_of<S: Shelf>(alloc: Global, shelf: &mut S, name: &str) -> Result<Log, Outcome>
+    ensures read { IfOk result (λ log. HasLog (S.told shelf.old) name.now log) }
     ensures refused { IfErr result
         (IsNoLog (S.told shelf.old) name.now (S.faults shelf.old) (S.faults shelf.new)) }
     ensures later { S.faults shelf.old ≤ S.faults shelf.new }
@@ -42,7 +43,8 @@ pub fn of_log<S: Shelf>(
     shelf: &mut S,
     name: &str,
 ) -> Result<Output, Outcome>
-    ensures told { IfOk result (λ o. o.outcome ≡ Plain Answer.Ok) }
+    ensures well { IfOk result (λ o. o.outcome ≡ Plain Answer.Ok) }
+    ensures drawn { IfOk result (λ o. IsDrawing drawing (S.told shelf.old) name.now o.text.items) }
     ensures refused { IfErr result
         (IsNoLog (S.told shelf.old) name.now (S.faults shelf.old) (S.faults shelf.new)) }
     ensures later { S.faults shelf.old ≤ S.faults shelf.new }
