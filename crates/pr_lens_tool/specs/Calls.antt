@@ -8,7 +8,7 @@ use Rattle.pr_lens_tool.specs.declared.orders.Task.TheVariants.{Program, Log}
 use Rattle.pr_lens_tool.specs.declared.outcomes.Outcome.{Outcome}
 use Rattle.pr_lens_tool.specs.declared.outcomes.Outcome.TheVariants.{Plain, Usage}
 use Rattle.pr_lens_tool.specs.Orders.{Asked}
-use Rattle.pr_lens_tool.specs.Outcomes.{IsToldOf, IsUntold, IsNoLog, IsWritten}
+use Rattle.pr_lens_tool.specs.Outcomes.{IsToldOf, IsUntold, HasLog, IsNoLog, IsWritten}
 
 -- the files that are told, the counts of faults of the shelf before and after, what the sink tells before and after, and the
 -- counts of faults of the sink
@@ -35,7 +35,7 @@ call told reads_before reads_now old new writes_before writes_now = record {
 -- ---- what is made for an order
 abbrev pub IsMadeFor : Task → Told → Asked → Outcome → Type 0
 IsMadeFor (Program question) told order outcome = IsToldOf question told order outcome
-IsMadeFor (Log drawing) told order outcome = outcome ≡ Plain Answer.Ok
+IsMadeFor (Log drawing) told order outcome = (outcome ≡ Plain Answer.Ok) × HasLog told order.file
 
 abbrev pub IsMade : Told → Asked → Outcome → Type 0
 IsMade told order outcome = IsMadeFor order.task told order outcome

@@ -13,6 +13,8 @@ use Rattle.pr_tool.specs.Notes.{note_of}
 use Rattle.pr_lens_why.specs.Verdicts.{HasConfiguration}
 use Rattle.pr_lens_graph.specs.declared.layouts.Layout.{Layout}
 use Rattle.pr_lens_graph.specs.Layouts.{IsLayout}
+use Rattle.pr_lens_log.specs.declared.logs.Log.{Log}
+use Rattle.pr_lens_log.specs.Logs.{IsBadAt, IsLogOf}
 use Rattle.pr_lens_tool.specs.declared.orders.Question.{Question}
 use Rattle.pr_lens_tool.specs.declared.orders.Question.TheVariants.{Why, Cost, Graph}
 use Rattle.pr_lens_tool.specs.declared.outcomes.Outcome.{Outcome}
@@ -71,12 +73,29 @@ abbrev pub IsUntold : Told → Asked → ℕ → ℕ → Answer → Type 0
 IsUntold told order before now answer = IsNotCompiled (columns order.fabric) (registers order.fabric) order.narrowed told order.file before now answer
 
 -- ---- logs
+-- the bytes of a log, at most
+abbrev pub most_log_bytes : ℕ
+most_log_bytes = 16777216
+
+-- a text is that of a log
+pub record IsLogText (text : List ℕ) : Type 0 where
+  pub log : Log
+  pub is : IsLogOf text log
+
+-- the file has the text of a log
+abbrev pub HasLog : Told → List ℕ → Type 0
+HasLog told name = OfFile told name IsLogText
+
+-- the file has the text of no log, by this line
+abbrev pub HasBadLine : Told → List ℕ → ℕ → Type 0
+HasBadLine told name line = OfFile told name (λ file. IsBadAt file line)
+
 -- why nothing is drawn of the log of a file
 abbrev pub IsNoLog : Told → List ℕ → ℕ → ℕ → Outcome → Type 0
 IsNoLog told name before now (Plain Answer.ReadFault) = HasReadCause told name before now
 IsNoLog told name before now (Plain Answer.Memory) = ⊤
-IsNoLog told name before now (BadLog line) = ⊤
-IsNoLog told name before now LongLog = OfFile told name (λ file. 16777216 < length file)
+IsNoLog told name before now (BadLog line) = HasBadLine told name line
+IsNoLog told name before now LongLog = OfFile told name (λ file. most_log_bytes < length file)
 IsNoLog told name before now outcome = ⊥
 
 -- ---- what is written

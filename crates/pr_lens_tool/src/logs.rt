@@ -3,7 +3,7 @@
 ghost use Rattle.std.specs.Prelude.{◌≡◌, ◌≤◌, IfOk, IfErr};
 ghost use Rattle.pr_tool_answers.specs.declared.answers.Answer.{Answer};
 ghost use Rattle.pr_lens_tool.specs.declared.outcomes.Outcome.TheVariants.{Plain};
-ghost use Rattle.pr_lens_tool.specs.Outcomes.{IsNoLog};
+ghost use Rattle.pr_lens_tool.specs.Outcomes.{HasLog, IsNoLog};
 
 use crate::orders::Drawing;
 use crate::outcomes::{Outcome, Output};
@@ -16,7 +16,9 @@ use std::alloc::Global;
 const LOG: usize = 16_777_216;
 
 /// The log of a file; else what the call comes to.
+#[tactic(auto, using(crate::proofs::LogLemmas::has_log, crate::proofs::LogLemmas::has_bad_line))]
 fn log_of<S: Shelf>(alloc: Global, shelf: &mut S, name: &str) -> Result<Log, Outcome>
+    ensures read { IfOk result (λ log. HasLog (S.told shelf.old) name.now) }
     ensures refused { IfErr result
         (IsNoLog (S.told shelf.old) name.now (S.faults shelf.old) (S.faults shelf.new)) }
     ensures later { S.faults shelf.old ≤ S.faults shelf.new }
@@ -43,6 +45,7 @@ pub fn of_log<S: Shelf>(
     name: &str,
 ) -> Result<Output, Outcome>
     ensures told { IfOk result (λ o. o.outcome ≡ Plain Answer.Ok) }
+    ensures read { IfOk result (λ o. HasLog (S.told shelf.old) name.now) }
     ensures refused { IfErr result
         (IsNoLog (S.told shelf.old) name.now (S.faults shelf.old) (S.faults shelf.new)) }
     ensures later { S.faults shelf.old ≤ S.faults shelf.new }
