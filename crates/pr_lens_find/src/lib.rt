@@ -1,8 +1,8 @@
 //! Where a text is refused, closer than the answers of the passes say: by asking the passes again, of texts and
 //! programs that end earlier.
 //!
-//! So what is found is always a point of which the passes themselves say that the text is refused with it and not
-//! before it.
+//! So the point that is looked for is one of which the passes themselves say that the text is refused with it and not
+//! before it. The contracts say where it stands, not that it is the right one.
 #![tactic(auto)]
 
 mod counts;

@@ -271,8 +271,9 @@ fn offending(
 
 /// The token at which an item breaks a rule of scope; the item's first token where none is found.
 ///
-/// The rule is broken with the item cut off behind that point, and not with it cut off before. Where the item breaks
-/// the rule at several points, that is the first of them, but for loops that break it in other turns.
+/// What is looked for is the point behind which the item, cut off there, breaks the rule, and cut off before does not.
+/// Where the item breaks the rule at several points, that is the first of them, but for loops that break it in other
+/// turns. Proved is that the token is the item's first, or one that its tree has.
 pub fn find_offence(
     alloc: Global,
     source: &Source,
