@@ -7,9 +7,10 @@ ghost use Rattle.pr_tool.specs.Noted.{GainsNote};
 ghost use Rattle.pr_tool.specs.Notes.{note_of};
 ghost use Rattle.pr_tool.specs.Words.{asked_by, bounds_in};
 
-use pr_edge::{Sink, SureSink, write_all};
+use pr_edge::{Shelf, Sink, SureSink, write_all};
 use pr_system::{FileShelf, Gathered, Gathering, OutSink};
 use pr_tool::{Answer, Bench, Bounds, piperench, put_note};
+use std::alloc::Global;
 use std::cell::RefCell;
 use std::env;
 use std::io::{self, ErrorKind};
@@ -26,6 +27,20 @@ fn words_of<R: Env + AllocGlobal>(rt: &R) -> Result<Vec<String>, Answer> {
         Err(e) if e.kind() == ErrorKind::InvalidData => Err(Answer::Usage),
         Err(_) => Err(Answer::Memory),
     }
+}
+
+/// Runs the tool on the words, on a bench of its own, and says what it answers.
+fn on_bench<S: Shelf, K: Sink>(
+    alloc: Global,
+    words: &[String],
+    shelf: &mut S,
+    out: &mut K,
+    note: &mut SureSink,
+) -> Answer
+    ensures { GainsNote (told_of note.old) (told_of note.new) 0 0 (note_of (bounds_in (asked_by words.now)) result) }
+{
+    let mut bench = Bench::Nothing;
+    piperench(alloc, words, shelf, out, note, &mut bench)
 }
 
 /// Runs the tool on the words, with results gathered on their way to standard output; what it answers, and its note. The
@@ -45,11 +60,10 @@ fn call<R: Files + Print + AllocGlobal>(
     };
     let gathering = Gathering::new(alloc, io::writer(rt)).map_err(|_| Answer::Memory)?;
     let results = RefCell::new(gathering);
-    let mut bench = Bench::Nothing;
     let answer = {
         let mut shelf = FileShelf::make(alloc, rt, &results).map_err(|_| Answer::Memory)?;
         let mut out = OutSink::new(Gathered { results: &results });
-        piperench(alloc, words, &mut shelf, &mut out, &mut note, &mut bench)
+        on_bench(alloc, words, &mut shelf, &mut out, &mut note)
     };
     if answer != Answer::WriteFault && results.into_inner().finish().is_err() {
         return Err(Answer::WriteFault);
