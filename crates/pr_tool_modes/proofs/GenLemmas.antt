@@ -29,7 +29,7 @@ use Rattle.pr_tool_modes.specs.declared.loadables.Loadable.{Loadable}
 use Rattle.pr_tool_modes.specs.Calls.{Call}
 use Rattle.pr_tool_modes.specs.declared.executions.Ran.{Ran}
 use Rattle.pr_tool_modes.specs.Executions.{bench_in, IsRunOn, IsRunOf, HasCome}
-use Rattle.pr_tool_modes.specs.Generations.{Generation, generated, program_file, job_for, summary, Tells, TellsOn, HasGenerated, IsGenVerdict}
+use Rattle.pr_tool_modes.specs.Generations.{Generation, generated, program_file, job_for, summary, Tells, TellsOn, IsUntold, HasGenerated, IsGenVerdict}
 use Rattle.pr_tool_modes.specs.Lines.{HasRunOn, OnBench, IsWholeRun, MeansLines}
 use Rattle.pr_tool_modes.specs.Programs.{IsCounted, IsUncompiled}
 use Rattle.pr_tool_modes.specs.Files.{IsFileRefusal}
@@ -136,27 +136,6 @@ steady IsVerdict ob on a (inr (inl read)) no_write = absurd (let rose : Rose 0 0
 steady IsVerdict ob on a (inr (inr (inl write))) no_write = absurd (no_write write.0)
 steady IsVerdict ob on a (inr (inr (inr memory))) no_write = inr memory
 
--- nor was there a sink
-unwritten : (IsVerdict : Answer → Type 0) (a : Answer) → IsOwed IsVerdict 0 0 0 0 a → IsVerdict a ⊎ (a ≡ Answer.Memory)
-unwritten IsVerdict a (inl is) = inl is
-unwritten IsVerdict a (inr (inl read)) = absurd (let rose : Rose 0 0 = read.1 in omega (arith, rose))
-unwritten IsVerdict a (inr (inr (inl write))) = absurd (let rose : Rose 0 0 = write.1 in omega (arith, rose))
-unwritten IsVerdict a (inr (inr (inr memory))) = inr memory
-
--- the program was refused
-pub gen_refused : (g : Generation) (told : Told) (a : Answer) → told ≡ Some (generated g.turns)
-    → IsFileRefusal 1048576 Cap.ProgramBytes (IsUncompiled (columns g.target.fabric) (registers g.target.fabric) g.target.narrowed) told program_file 0 0 a → IsGenVerdict g a ⊎ (a ≡ Answer.Memory)
-gen_refused g told a is refused =
-    let owed = source_owed (generated g.turns) (Text program_file g.target) 0 0 0 0 a (subst (λ (t : Told). IsFileRefusal 1048576 Cap.ProgramBytes (IsUncompiled (columns g.target.fabric) (registers g.target.fabric) g.target.narrowed) t program_file 0 0 a) is refused) in
-    elim (unwritten (IsRefusedSource (generated g.turns) (Text program_file g.target)) a owed) [
-      | inl source ↦ inl (inl source)
-      | inr memory ↦ inr memory
-    ]
-
--- and that is no good end
-pub gen_failed : (g : Generation) (told : Told) (a : Answer) → IsFileRefusal 1048576 Cap.ProgramBytes (IsUncompiled (columns g.target.fabric) (registers g.target.fabric) g.target.narrowed) told program_file 0 0 a → a ≡ Answer.Ok → ⊥
-gen_failed g told a refused is = kind_never _ a Answer.Ok (source_kind told (Text program_file g.target) 0 0 a refused) is refl (λ e. cc) (λ e. cc)
-
 -- the run came to another answer
 pub gen_ran : (g : Generation) (k : Call) (loaded : Loadable) (bench : Bench) (a : Answer) → k.before.told ≡ Some (generated g.turns) → k.before.faults ≡ 0 → k.now.faults ≡ 0
     → IsOnFabric (Some (generated g.turns)) program_file g.target (columns_in loaded) (registers_in loaded) (shape_in loaded)
@@ -166,16 +145,13 @@ gen_ran g k loaded bench a told before now gives ran no_write =
     steady (IsGenVerdict g) k.out_before k.out_now a
     (subst (λ (n : ℕ). IsOwed (IsGenVerdict g) 0 n k.out_before k.out_now a) now (subst (λ (n : ℕ). IsOwed (IsGenVerdict g) n k.now.faults k.out_before k.out_now a) before owed)) no_write
 
--- no run was begun, which is no good end, nor did a write fail
-pub held_good : (told : Told) (before now : ℕ) (a : Answer) → IsStallRefusal told None before now a ⊎ (a ≡ Answer.Memory) → a ≡ Answer.Ok → ⊥
-held_good told before now a (inl (inl missing)) is = absurd missing
-held_good told before now a (inl (inr bad)) is = (let no : Answer.BadStall bad.place ≡ Answer.Ok = sym bad.answers ∙ is in cc)
-held_good told before now a (inr memory) is = (let no : Answer.Memory ≡ Answer.Ok = sym memory ∙ is in cc)
-
-pub held_write : (told : Told) (before now : ℕ) (a : Answer) → IsStallRefusal told None before now a ⊎ (a ≡ Answer.Memory) → a ≡ Answer.WriteFault → ⊥
-held_write told before now a (inl (inl missing)) is = absurd missing
-held_write told before now a (inl (inr bad)) is = (let no : Answer.BadStall bad.place ≡ Answer.WriteFault = sym bad.answers ∙ is in cc)
-held_write told before now a (inr memory) is = (let no : Answer.Memory ≡ Answer.WriteFault = sym memory ∙ is in cc)
+-- nothing is told of the run
+pub gen_untold : (g : Generation) (k : Call) (loaded : Loadable) (bench : Bench) (came a : Answer) → k.before.told ≡ Some (generated g.turns) → k.before.faults ≡ 0 → k.now.faults ≡ 0
+    → IsOnFabric (Some (generated g.turns)) program_file g.target (columns_in loaded) (registers_in loaded) (shape_in loaded)
+    → IsRunOn loaded (job_for g) k bench came → IsUntold came a → IsGenVerdict g a ⊎ (a ≡ Answer.Memory)
+gen_untold g k loaded bench came a told before now gives on (inl is) =
+    subst (λ (x : Answer). IsGenVerdict g x ⊎ (x ≡ Answer.Memory)) (sym is.0) (gen_ran g k loaded bench came told before now gives (inr on) is.1)
+gen_untold g k loaded bench came a told before now gives on (inr memory) = inr memory
 
 -- ---- what is put
 put_more : {N P : ℕ} (g : Generation) (put other : List ℕ → Type 0) (machine : Going N P) → ((t : List ℕ) → put t → other t) → HasGenerated g put machine → HasGenerated g other machine

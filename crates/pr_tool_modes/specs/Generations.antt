@@ -1,5 +1,5 @@
 -- Runs of generated programs on generated samples, and what is told of them.
-use Rattle.std.specs.Prelude.{◌≡◌, ◌==◌, ℕ, Bool, false, nat_eq, List, [], ◌∷◌, ◌++◌, length, drop, reverse, Option, Some, None, unwrap_or, codes, decimal, if◌then◌else◌}
+use Rattle.std.specs.Prelude.{◌≡◌, ◌==◌, ◌⊎◌, ℕ, Bool, false, nat_eq, List, [], ◌∷◌, ◌++◌, length, drop, reverse, Option, Some, None, unwrap_or, codes, decimal, if◌then◌else◌}
 use Rattle.std.specs.List.{before_first}
 use Rattle.std.specs.Cmp.Lexicographic.{pointwise}
 use Rattle.pr_base.specs.Rows.{written}
@@ -87,6 +87,10 @@ Tells turns units lines text machine =
 abbrev pub TellsOn : ℕ → ℕ → List ℕ → List ℕ → Ran → Type 0
 TellsOn turns units lines text (Ran.Base over) = Tells turns units lines text over.machine
 TellsOn turns units lines text (Ran.Wide over) = Tells turns units lines text over.machine
+
+-- why nothing is told of a run that came to this: that it did so, but for a write that failed; or memory is wanting
+abbrev pub IsUntold : Answer → Answer → Type 0
+IsUntold came answer = ((answer ≡ came) × (came ≡ Answer.WriteFault → ⊥) × (came ≡ Answer.Ok → ⊥)) ⊎ (answer ≡ Answer.Memory)
 
 -- no point refuses the program, its samples are all good, the machine was asked all events of the run on them, and the summary
 -- of the run is put: its units are those of the program's net, its cycles those that drain the samples, and its lines those of what

@@ -116,14 +116,8 @@ pub fn run_either<S: Shelf, K: Sink>(
 {
     let Origin { conf, before } = origin;
     match conf {
-        Loadable::Base(conf) => match run_on(alloc, conf, before, run, shelf, out) {
-            Err(answer) => Err(answer),
-            Ok(over) => Ok(Ran::Base(over)),
-        },
-        Loadable::Wide(conf) => match run_on(alloc, conf, before, run, shelf, out) {
-            Err(answer) => Err(answer),
-            Ok(over) => Ok(Ran::Wide(over)),
-        },
+        Loadable::Base(conf) => Ok(Ran::Base(run_on(alloc, conf, before, run, shelf, out)?)),
+        Loadable::Wide(conf) => Ok(Ran::Wide(run_on(alloc, conf, before, run, shelf, out)?)),
     }
 }
 

@@ -5,7 +5,8 @@ ghost use Rattle.pr_conf.specs.Shape.{Shape};
 ghost use Rattle.pr_machine.specs.Stands.{Stands, History, account_of};
 ghost use Rattle.pr_tool_modes.specs.Jobs.{job_of as job_in};
 ghost use Rattle.pr_tool_modes.specs.Lines.{OnBench};
-ghost use Rattle.pr_tool_modes.specs.Generations.{generation_of, job_for, generated, first_line, last_line, Tells, TellsOn, HasGenerated, IsGenVerdict, IsGenerated};
+ghost use Rattle.pr_tool_modes.specs.Executions.{answer_in};
+ghost use Rattle.pr_tool_modes.specs.Generations.{generation_of, job_for, generated, first_line, last_line, Tells, TellsOn, IsUntold, HasGenerated, IsGenVerdict, IsGenerated};
 
 use crate::benches::Bench;
 use crate::executions::{Ran, run_either};
@@ -140,6 +141,25 @@ fn summary_on(
     }
 }
 
+/// What is told of a run that is over; else what it came to. Where a line had no room, memory is wanting.
+fn summary_if_good(
+    alloc: Global,
+    turns: u32,
+    units: usize,
+    ran: &Ran,
+    lines: &[u8],
+) -> Result<Vec<u8>, Answer>
+    ensures told { IfOk result (λ v. TellsOn turns units lines.now v.items ran.now) }
+    ensures good { OnOk result (answer_in ran.now ≡ Answer.Ok) }
+    ensures refused { IfErr result (λ a. IsUntold (answer_in ran.now) a) }
+{
+    match ran.answer() {
+        Answer::Ok => Ok(summary_on(alloc, turns, units, ran, lines)?),
+        Answer::WriteFault => Err(Answer::Memory),
+        answer => Err(answer),
+    }
+}
+
 /// Makes both texts, compiles the program and runs it on the samples, and says what is to be told of it.
 fn run_generated(alloc: Global, generation: &Generation) -> Result<Generated, Answer>
     ensures told { IfOk result
@@ -148,39 +168,20 @@ fn run_generated(alloc: Global, generation: &Generation) -> Result<Generated, An
     ensures refused { IfErr result (λ a. IsGenVerdict (generation_of generation.now) a ⊎ (a ≡ Answer.Memory)) }
     ensures failed { IfErr result (λ a. a ≢ Answer.Ok) }
 {
-    let mut shelf = match shelf_of(alloc, generation.turns) {
-        Ok(shelf) => shelf,
-        Err(_) => return Err(Answer::Memory),
-    };
-    let made = match compile_file(alloc, &mut shelf, PROGRAM, generation.target) {
-        Ok(made) => made,
-        Err(answer) => return Err(answer),
-    };
-    let mut lines = match MemSink::make(alloc, ROOM, Vec::new(alloc)) {
-        Ok(lines) => lines,
-        Err(_) => return Err(Answer::Memory),
-    };
+    let mut shelf = shelf_of(alloc, generation.turns)?;
+    let made = compile_file(alloc, &mut shelf, PROGRAM, generation.target)?;
+    let mut lines = MemSink::make(alloc, ROOM, Vec::new(alloc))?;
     let job = job_of(generation);
     let origin = Origin {
         conf: made.loaded,
         before: 0,
     };
-    let ran = match run_either(alloc, origin, &job.run, &mut shelf, &mut lines) {
-        Ok(ran) => ran,
-        Err(answer) => return Err(answer),
-    };
-    match ran.answer() {
-        Answer::Ok => {}
-        Answer::WriteFault => return Err(Answer::Memory),
-        answer => return Err(answer),
-    }
-    match summary_on(alloc, generation.turns, made.units, &ran, lines.bytes()) {
-        Ok(text) => Ok(Generated {
-            text,
-            bench: ran.into_bench(),
-        }),
-        Err(_) => Err(Answer::Memory),
-    }
+    let ran = run_either(alloc, origin, &job.run, &mut shelf, &mut lines)?;
+    let text = summary_if_good(alloc, generation.turns, made.units, &ran, lines.bytes())?;
+    Ok(Generated {
+        text,
+        bench: ran.into_bench(),
+    })
 }
 
 /// Makes a program of so many turns and a thousand samples, compiles the program and runs it on the samples, and tells of the

@@ -47,11 +47,11 @@ fn writes_that_fail(rt: HostRuntime) -> Result<(), Fail> {
 /// The lines of the program on its samples.
 const LINES: &[u8] = b"6\n254\n";
 
-/// Runs the program on two stripes and under a stall text, where these calls fail. What is written is the first bytes
-/// of the lines.
-fn answer_on_two(
+/// Calls the tool on a program, samples and a stall text, where these calls fail. What is written is the first bytes of the lines.
+fn answer_where(
     rt: &impl Abort,
     alloc: Global,
+    words: &[&str],
     reads: Vec<u64>,
     writes: Vec<u64>,
 ) -> Result<Answer, AllocError> {
@@ -63,22 +63,44 @@ fn answer_on_two(
     let mut shelf = MemShelf::make(alloc, files, reads)?;
     let mut out = MemSink::make(alloc, 100, writes)?;
     let mut note = SureSink::make(alloc, 100)?;
-    let words = ["run", "p", "s", "--stripes", "2", "--stall", "l"];
-    let answer = answer_over(alloc, &words, &mut shelf, &mut out, &mut note)?;
+    let answer = answer_over(alloc, words, &mut shelf, &mut out, &mut note)?;
     assert!(rt; LINES.starts_with(out.bytes()));
     assert!(rt; answer != Answer::Ok || out.bytes() == LINES);
     Ok(answer)
 }
 
-/// Each of the three files takes two reads: one finds its bytes, the other its end.
+/// A run on two stripes under a stall text.
+const ON_TWO: &[&str] = &["run", "p", "s", "--stripes", "2", "--stall", "l"];
+
+/// Words, and how many reads they take.
+const READS: [(&[&str], u64); 3] = [
+    (ON_TWO, 6),
+    (&["run", "p", "s"], 4),
+    (&["eval", "p", "s"], 4),
+];
+
+/// Calls the tool on the words, where each of so many reads fails in turn, and then those behind them, which are not asked for.
+fn check_reads(
+    rt: &impl Abort,
+    alloc: Global,
+    words: &[&str],
+    count: u64,
+) -> Result<(), AllocError> {
+    for call in 1..8u64 {
+        let reads = vec![in alloc; call]?;
+        let answer = answer_where(rt, alloc, words, reads, Vec::new(alloc))?;
+        let wanted = fault_of(call, count, Answer::ReadFault);
+        assert_eq!(rt; answer, wanted, "read {call}");
+    }
+    Ok(())
+}
+
+/// Each file is read once, in two reads: one finds its bytes, the other its end.
 #[test]
 fn every_read_fails(rt: HostRuntime) -> Result<(), Fail> {
     let alloc = rt.alloc();
-    for call in 1..8u64 {
-        let reads = vec![in alloc; call]?;
-        let answer = answer_on_two(&rt, alloc, reads, Vec::new(alloc))?;
-        let wanted = fault_of(call, 6, Answer::ReadFault);
-        assert_eq!(rt; answer, wanted, "read {call}");
+    for (words, count) in READS {
+        check_reads(&rt, alloc, words, count)?;
     }
     Ok(())
 }
@@ -89,7 +111,7 @@ fn every_write_fails(rt: HostRuntime) -> Result<(), Fail> {
     let alloc = rt.alloc();
     for call in 1..4u64 {
         let writes = vec![in alloc; call]?;
-        let answer = answer_on_two(&rt, alloc, Vec::new(alloc), writes)?;
+        let answer = answer_where(&rt, alloc, ON_TWO, Vec::new(alloc), writes)?;
         let wanted = fault_of(call, 2, Answer::WriteFault);
         assert_eq!(rt; answer, wanted, "write {call}");
     }
