@@ -1,0 +1,29 @@
+//! Whatever a pass is asked has an answer: laws that stand beside those by which there is no second one. Nothing here runs.
+//!
+//! The passes answer unless memory wants, so a call of one shows an answer to what it was asked. The laws of this crate need no
+//! call: for each text, equations or net the lemmas make the answer, step by step.
+#![tactic(auto)]
+
+ghost use Rattle.std.specs.Prelude.{ℕ, List};
+ghost use Rattle.pr_flat.specs.declared.equations.Operand.{Operand};
+ghost use Rattle.pr_flat.specs.Shape.{EquationShape};
+ghost use Rattle.pr_flat.specs.Facts.{IsFlat};
+ghost use Rattle.pr_flat.specs.Widths.{AreWidths};
+ghost use Rattle.pr_net.specs.Shape.{NetShape};
+ghost use Rattle.pr_cut_units.specs.Nets.{net_of};
+ghost use Rattle.pr_place.specs.Greedy.{IsGreedy, IsNoFit};
+ghost use Rattle.pr_compile.specs.Configured.{IsConfigured};
+ghost use Rattle.pr_compile.specs.Refusals.{IsNetRefusal};
+ghost use Rattle.pr_compile_verdicts.specs.Verdicts.{SomeOf};
+
+/// The greedy rule places every net, or fits one of its groups in no stripe.
+pub fn placement_verdict_law()
+    ensures { (N P : ℕ) (net : NetShape) → SomeOf (IsGreedy N P net) (IsNoFit N P net) }
+{}
+
+/// Flat equations with their widths have a configuration, or their net is refused.
+pub fn net_verdict_law()
+    ensures { (N P : ℕ) (equations : List EquationShape) (widths : List ℕ) (outputs : List Operand) →
+        IsFlat equations outputs → AreWidths equations widths →
+        SomeOf (IsConfigured N P equations widths outputs) (IsNetRefusal N P (net_of equations widths outputs)) }
+{}
