@@ -1,2 +1,3 @@
 pub mod Placements
 pub mod Nets
+pub mod Widths

@@ -8,7 +8,7 @@ ghost use Rattle.std.specs.Prelude.{ℕ, List};
 ghost use Rattle.pr_flat.specs.declared.equations.Operand.{Operand};
 ghost use Rattle.pr_flat.specs.Shape.{EquationShape};
 ghost use Rattle.pr_flat.specs.Facts.{IsFlat};
-ghost use Rattle.pr_flat.specs.Widths.{AreWidths};
+ghost use Rattle.pr_flat.specs.Widths.{AreWidths, IsFirstWithout};
 ghost use Rattle.pr_net.specs.Shape.{NetShape};
 ghost use Rattle.pr_cut_units.specs.Nets.{net_of};
 ghost use Rattle.pr_place.specs.Greedy.{IsGreedy, IsNoFit};
@@ -19,6 +19,12 @@ ghost use Rattle.pr_compile_verdicts.specs.Verdicts.{SomeOf};
 /// The greedy rule places every net, or fits one of its groups in no stripe.
 pub fn placement_verdict_law()
     ensures { (N P : ℕ) (net : NetShape) → SomeOf (IsGreedy N P net) (IsNoFit N P net) }
+{}
+
+/// Flat equations have widths, or one of them is the first without.
+pub fn widths_verdict_law()
+    ensures { (equations : List EquationShape) (outputs : List Operand) → IsFlat equations outputs →
+        SomeOf (AreWidths equations) (IsFirstWithout equations) }
 {}
 
 /// Flat equations with their widths have a configuration, or their net is refused.
