@@ -1,3 +1,4 @@
 pub mod Placements
 pub mod Nets
 pub mod Widths
+pub mod Demands

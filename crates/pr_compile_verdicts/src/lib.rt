@@ -4,11 +4,13 @@
 //! call: for each text, equations or net the lemmas make the answer, step by step.
 #![tactic(auto)]
 
-ghost use Rattle.std.specs.Prelude.{ℕ, List};
+ghost use Rattle.std.specs.Prelude.{◌≡◌, ℕ, List, length};
 ghost use Rattle.pr_flat.specs.declared.equations.Operand.{Operand};
 ghost use Rattle.pr_flat.specs.Shape.{EquationShape};
 ghost use Rattle.pr_flat.specs.Facts.{IsFlat};
 ghost use Rattle.pr_flat.specs.Widths.{AreWidths, IsFirstWithout};
+ghost use Rattle.pr_narrow.specs.Demand.{IsDemand};
+ghost use Rattle.pr_narrow.specs.Narrowed.{AreNarrowed};
 ghost use Rattle.pr_net.specs.Shape.{NetShape};
 ghost use Rattle.pr_cut_units.specs.Nets.{net_of};
 ghost use Rattle.pr_place.specs.Greedy.{IsGreedy, IsNoFit};
@@ -25,6 +27,15 @@ pub fn placement_verdict_law()
 pub fn widths_verdict_law()
     ensures { (equations : List EquationShape) (outputs : List Operand) → IsFlat equations outputs →
         SomeOf (AreWidths equations) (IsFirstWithout equations) }
+{}
+
+/// There is a least demand for equations with as many widths, and so equations with their widths are narrowed.
+pub fn narrowing_verdict_law()
+    ensures demand { (equations : List EquationShape) (outputs : List Operand) (widths : List ℕ) →
+        length widths ≡ length equations → (demand : List ℕ) × IsDemand equations outputs widths demand }
+    ensures narrowed { (equations : List EquationShape) (outputs : List Operand) (widths : List ℕ) →
+        AreWidths equations widths →
+        (narrowed : List EquationShape) × (news : List ℕ) × AreNarrowed equations outputs widths narrowed news }
 {}
 
 /// Flat equations with their widths have a configuration, or their net is refused.
