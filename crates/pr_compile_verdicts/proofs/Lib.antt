@@ -2,3 +2,10 @@ pub mod Placements
 pub mod Nets
 pub mod Widths
 pub mod Demands
+pub mod Shorts
+pub mod ShortPrograms
+pub mod Layers
+pub mod Programs
+pub mod Tokens
+pub mod Fronts
+pub mod Texts

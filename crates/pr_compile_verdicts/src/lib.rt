@@ -4,7 +4,10 @@
 //! call: for each text, equations or net the lemmas make the answer, step by step.
 #![tactic(auto)]
 
-ghost use Rattle.std.specs.Prelude.{◌≡◌, ℕ, List, length};
+ghost use Rattle.std.specs.Prelude.{◌≡◌, ◌⊎◌, ◌≤◌, ℕ, Bool, List, Some, length};
+ghost use Rattle.pr_base.specs.Limits.{most_program_bytes};
+ghost use Rattle.pr_lang.specs.declared.trees.Program.{Program};
+ghost use Rattle.pr_lang.specs.Syntax.{Refusal, refusal_of};
 ghost use Rattle.pr_flat.specs.declared.equations.Operand.{Operand};
 ghost use Rattle.pr_flat.specs.Shape.{EquationShape};
 ghost use Rattle.pr_flat.specs.Facts.{IsFlat};
@@ -14,8 +17,10 @@ ghost use Rattle.pr_narrow.specs.Narrowed.{AreNarrowed};
 ghost use Rattle.pr_net.specs.Shape.{NetShape};
 ghost use Rattle.pr_cut_units.specs.Nets.{net_of};
 ghost use Rattle.pr_place.specs.Greedy.{IsGreedy, IsNoFit};
-ghost use Rattle.pr_compile.specs.Configured.{IsConfigured};
-ghost use Rattle.pr_compile.specs.Refusals.{IsNetRefusal};
+ghost use Rattle.pr_compile_front.specs.declared.faults.FrontFault.{FrontFault};
+ghost use Rattle.pr_compile_front.specs.Refusals.{IsRead, HasWidths, IsRefusal};
+ghost use Rattle.pr_compile.specs.Configured.{IsConfigured, IsCompiled};
+ghost use Rattle.pr_compile.specs.Refusals.{IsNetRefusal, IsRefused};
 ghost use Rattle.pr_compile_verdicts.specs.Verdicts.{SomeOf};
 
 /// The greedy rule places every net, or fits one of its groups in no stripe.
@@ -43,4 +48,17 @@ pub fn net_verdict_law()
     ensures { (N P : ℕ) (equations : List EquationShape) (widths : List ℕ) (outputs : List Operand) →
         IsFlat equations outputs → AreWidths equations widths →
         SomeOf (IsConfigured N P equations widths outputs) (IsNetRefusal N P (net_of equations widths outputs)) }
+{}
+
+/// A text of no more bytes than a program may have is that of a program, or one of its tokens is refused. It has a program
+/// with equations and widths, or a point up to the widths refuses it. And it has a configuration, with its equations as
+/// they are or narrowed, or it is refused.
+pub fn text_verdict_law()
+    ensures read { (text : List ℕ) → length text ≤ most_program_bytes →
+        SomeOf (IsRead text) (λ (r : Refusal). refusal_of text ≡ Some r) }
+    ensures front { (text : List ℕ) → length text ≤ most_program_bytes →
+        ((program : Program) × (widths : List ℕ) × HasWidths text program widths)
+        ⊎ ((e : FrontFault) × IsRefusal text e) }
+    ensures compiled { (N P : ℕ) (narrowed : Bool) (text : List ℕ) → length text ≤ most_program_bytes →
+        SomeOf (IsCompiled N P narrowed text) (IsRefused N P narrowed text) }
 {}
