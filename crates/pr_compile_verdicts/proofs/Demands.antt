@@ -3,7 +3,7 @@
 use Rattle.std.proofs.Common.{◌≡◌, ◌⊎◌, ◌+◌, ◌<◌, ◌≤◌, ℕ, zero, suc, All, Some, List, [], ◌∷◌, length, get_or, set, replicate, refl, sym, ap, subst, ◌∙◌, inl, inr, arith, length-set, get_or-set_same, get_or-set_other}
 use Rattle.std.specs.List.{slice_get}
 use Rattle.std.proofs.lemmas.Bool.{cases_lt, cases_eq}
-use Rattle.std.proofs.lemmas.List.{length-replicate}
+use Rattle.std.proofs.lemmas.List.{get_or_past, length-replicate}
 use Rattle.std.proofs.lemmas.List.Elements.{All-nil, All-cons}
 use Rattle.std.proofs.lemmas.Option.{slice_get_within}
 use Rattle.pr_flat.specs.declared.equations.Operand.{Operand}
@@ -49,7 +49,7 @@ raise_number : (widths old : List ℕ) (i n : ℕ) → length old ≡ length wid
 raise_number widths old i n count most = elim (cases_lt (get_or old i 0) n) [
   | inr met ↦ unraised widths old (IsMet i n) met
   | inl unmet ↦ elim (cases_lt i (length old)) [
-    | inr past ↦ absurd (let none = past_end widths i (omega (arith, count, past)) in omega (arith, none, most, unmet))
+    | inr past ↦ absurd (let none = get_or_past widths i 0 (omega (arith, count, past)) in omega (arith, none, most, unmet))
     | inl within ↦
         (let here : get_or (set old i n) i 0 ≡ n = get_or-set_same old i n 0 within in
         record {
@@ -70,11 +70,7 @@ raise_number widths old i n count most = elim (cases_lt (get_or old i 0) n) [
           ];
         })
   ]
-] where
-  past_end : (xs : List ℕ) (k : ℕ) → length xs ≤ k → get_or xs k 0 ≡ 0
-  past_end [] k past = refl
-  past_end (x ∷ xs) zero past = absurd (omega (arith, past))
-  past_end (x ∷ xs) (suc k) past = past_end xs k (omega (arith, past))
+]
 
 -- one fact after another, where what is raised later keeps the first
 raise_both : (widths old : List ℕ) (P Q : List ℕ → Type 0) → ((less more : List ℕ) → AreBelow less more → P less → P more) → (first : Raised widths old P) → Raised widths first.new Q → Raised widths old (λ demand. P demand × Q demand)

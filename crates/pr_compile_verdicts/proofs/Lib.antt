@@ -1,3 +1,4 @@
+pub mod Cases
 pub mod Placements
 pub mod Nets
 pub mod Widths

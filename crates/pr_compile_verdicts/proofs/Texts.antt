@@ -12,7 +12,7 @@ use Rattle.pr_compile_front.specs.declared.faults.FrontFault.TheVariants as fron
 use Rattle.pr_compile_front.specs.Refusals.{HasWidths, IsRefusal}
 use Rattle.pr_compile.specs.declared.faults.CompileFault.{CompileFault}
 use Rattle.pr_compile.specs.declared.faults.CompileFault.TheVariants.{Syntax, Scope, NoWidth, NoFit, Limit, Memory}
-use Rattle.pr_compile.specs.Configured.{AreReady, IsConfiguredBy, IsCompiled}
+use Rattle.pr_compile.specs.Configured.{AreReady, IsConfiguredBy, IsCompiled, HasUnitsBy, HasUnits, net_by}
 use Rattle.pr_compile.specs.Refusals.{IsUnfit, IsRefused}
 use Rattle.pr_compile_verdicts.specs.Verdicts.{SomeOf}
 use Rattle.pr_compile_verdicts.proofs.Demands.{some_narrowing}
@@ -50,7 +50,19 @@ some_program_configuration N P narrow program widths flat are =
       | inr refusal ↦ inr (refusal.0, record { flat = flat; widths_are = are; ready = r.ready; news = r.news; are = r.are; holds = refusal.1 })
     ]
 
+some_program_units : (narrow : Bool) (program : Program) (widths : List ℕ) → IsFlat (equations_of program).equations (equations_of program).outputs → AreWidths (equations_of program).equations widths
+    → (units : ℕ) × HasUnitsBy narrow program widths units
+some_program_units narrow program widths flat are =
+    let r = some_ready narrow (equations_of program).equations (equations_of program).outputs widths flat are in
+    (length (net_by program r.ready r.news).units, record { flat = flat; widths_are = are; ready = r.ready; news = r.news; are = r.are; holds = refl })
+
 -- ---- a text
+pub some_text_units : (narrow : Bool) (text : List ℕ) → length text ≤ 1048576 → SomeOf (HasUnits narrow text) (IsRefusal text)
+some_text_units narrow text short = elim (some_front text short) [
+  | inr refused ↦ inr refused
+  | inl p ↦ (let units = some_program_units narrow p.program p.widths p.flat p.has.are in inl (units.0, record { program = p.program; widths = p.widths; has = p.has; are = units.1 }))
+]
+
 front_refused : (N P : ℕ) (narrow : Bool) (text : List ℕ) (e : FrontFault) → IsRefusal text e → (f : CompileFault) × IsRefused N P narrow text f
 front_refused N P narrow text (front.Syntax token) refused = (Syntax token, refused)
 front_refused N P narrow text (front.Scope rule item) refused = (Scope rule item, refused)

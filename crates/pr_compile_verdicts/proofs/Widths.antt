@@ -16,6 +16,7 @@ use Rattle.pr_flat.proofs.WidthLemmas.{below_put, below_fewer, equation_at, one_
 use Rattle.pr_width.specs.Parts.{IsOpenAt, AreClosed, BeginsPart, HoldsNowhereBy, HoldsNotAt, HoldsFrom, StopsAt}
 use Rattle.pr_width.proofs.SolverLemmas.{body_closed, put_before, put_after, put_here, before_put, agree_along, body_ordered, rec_args, below_tried_at, fails_in_body, fails_at_end, holds_here, found_least, without_before, without_last, without_at}
 use Rattle.pr_compile_verdicts.specs.Verdicts.{SomeOf}
+use Rattle.pr_compile_verdicts.proofs.Cases.{cases_option}
 
 -- what a fact is of
 abbrev SubjectOf : {A : Type 0} → (A → Type 0) → Type 0
@@ -63,10 +64,6 @@ one_more equations from end w old here rest = record {
   stops = rest.stops;
 }
 
-none_or_some : (o : Option ℕ) → (o ≡ None) ⊎ ((w : ℕ) × (o ≡ Some w))
-none_or_some None = inl refl
-none_or_some (Some w) = inr (w, refl)
-
 -- the next recurrence without declared width
 record Next (equations : List EquationShape) (from : ℕ) : Type 0 where
   recurrence : Recurrence
@@ -100,7 +97,7 @@ module _ (equations : List EquationShape) (outputs : List Operand) (flat : IsFla
   filled (suc count) from end old to within below closed =
       let found = equation_at equations from (omega (arith, to, within)) in
       let here : from < end = omega (arith, to) in
-      elim (none_or_some (width_in old found.0)) [
+      elim (cases_option (width_in old found.0)) [
         | inl none ↦ stopped_at equations from end old (omega (arith, to)) below (λ e low there. subst (λ (x : EquationShape). width_in old x ≡ None) (one_equation equations from found.0 e found.1 there) none)
         | inr some ↦
             (let put : AreWidthsBelow (from + 1) equations (set old from some.0) = below_put equations outputs from found.0 old some.0 flat found.1 (closed from found.0 found.1 (omega arith) here) some.1 below in

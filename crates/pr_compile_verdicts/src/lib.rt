@@ -19,7 +19,7 @@ ghost use Rattle.pr_cut_units.specs.Nets.{net_of};
 ghost use Rattle.pr_place.specs.Greedy.{IsGreedy, IsNoFit};
 ghost use Rattle.pr_compile_front.specs.declared.faults.FrontFault.{FrontFault};
 ghost use Rattle.pr_compile_front.specs.Refusals.{IsRead, HasWidths, IsRefusal};
-ghost use Rattle.pr_compile.specs.Configured.{IsConfigured, IsCompiled};
+ghost use Rattle.pr_compile.specs.Configured.{IsConfigured, IsCompiled, HasUnits};
 ghost use Rattle.pr_compile.specs.Refusals.{IsNetRefusal, IsRefused};
 ghost use Rattle.pr_compile_verdicts.specs.Verdicts.{SomeOf};
 
@@ -51,14 +51,16 @@ pub fn net_verdict_law()
 {}
 
 /// A text of no more bytes than a program may have is that of a program, or one of its tokens is refused. It has a program
-/// with equations and widths, or a point up to the widths refuses it. And it has a configuration, with its equations as
-/// they are or narrowed, or it is refused.
+/// with equations and widths, or a point up to the widths refuses it; and so a net of so many units, or that refusal. And it
+/// has a configuration, or it is refused. The last two are said of its equations as they are, and of them narrowed.
 pub fn text_verdict_law()
     ensures read { (text : List ℕ) → length text ≤ most_program_bytes →
         SomeOf (IsRead text) (λ (r : Refusal). refusal_of text ≡ Some r) }
     ensures front { (text : List ℕ) → length text ≤ most_program_bytes →
         ((program : Program) × (widths : List ℕ) × HasWidths text program widths)
         ⊎ ((e : FrontFault) × IsRefusal text e) }
+    ensures units { (narrowed : Bool) (text : List ℕ) → length text ≤ most_program_bytes →
+        SomeOf (HasUnits narrowed text) (IsRefusal text) }
     ensures compiled { (N P : ℕ) (narrowed : Bool) (text : List ℕ) → length text ≤ most_program_bytes →
         SomeOf (IsCompiled N P narrowed text) (IsRefused N P narrowed text) }
 {}

@@ -1,5 +1,5 @@
 -- A list of programs is taken, or is bad at a line; and then its programs have configurations, or one of them is refused.
-use Rattle.std.proofs.Common.{◌≡◌, ◌⊎◌, ◌+◌, ℕ, Option, Some, None, List, [], ◌∷◌, ◌++◌, length, inl, inr, refl, sym, ◌∙◌, subst, arith, append_assoc, append-nil}
+use Rattle.std.proofs.Common.{◌≡◌, ◌⊎◌, ◌+◌, ℕ, Some, List, [], ◌∷◌, ◌++◌, length, inl, inr, refl, sym, ◌∙◌, subst, arith, append_assoc, append-nil}
 use Rattle.std.proofs.lemmas.Bool.{cases_lt, cases_Bool}
 use Rattle.pr_base.specs.declared.caps.Cap.{Cap}
 use Rattle.pr_conf.specs.Shape.{Shape}
@@ -8,6 +8,7 @@ use Rattle.pr_share_list.proofs.ListLaws.{say_none, say_blank, say_program, wron
 use Rattle.pr_tool_answers.specs.declared.answers.Answer.{Answer}
 use Rattle.pr_tool_share.specs.Lists.{IsBadList, IsRefusedProgram, AreCompiled, base, part_answer}
 use Rattle.pr_tool_share.specs.Ends.{IsShareVerdict, answer_of_all, samples_ends}
+use Rattle.pr_compile_verdicts.proofs.Cases.{cases_option}
 use Rattle.pr_tool_verdicts.proofs.Sources.{Files, GoodOr, file_verdict, text_source}
 
 -- ---- the list
@@ -21,10 +22,6 @@ listed_or_bare : (text : List ℕ) (entries : List Entry) (done : List (List ℕ
 listed_or_bare text [] done all say = bad_line text (length done) (inr (bare_here text done all say))
 listed_or_bare text (e ∷ entries) done all say = inl (e ∷ entries, record { say = subst (λ (lines : List (List ℕ)). Say lines (e ∷ entries)) (sym all) say; some = omega arith })
 
-entry_or : (o : Option Entry) → (o ≡ None) ⊎ ((e : Entry) × (o ≡ Some e))
-entry_or None = inl refl
-entry_or (Some e) = inr (e, refl)
-
 -- the lines that are left, after those that say this
 lines_verdict : (text : List ℕ) (rest done : List (List ℕ)) (entries : List Entry) → list_lines text ≡ done ++ rest → Say done entries → Verdict text
 lines_verdict text [] done entries all say = listed_or_bare text entries done (all ∙ append-nil done) say
@@ -32,7 +29,7 @@ lines_verdict text (line ∷ rest) done entries all say =
     let next : list_lines text ≡ (done ++ line ∷ []) ++ rest = all ∙ sym (append_assoc done (line ∷ []) rest) in
     elim (cases_Bool (counts line)) [
       | inr blank ↦ lines_verdict text rest (done ++ line ∷ []) entries next (say_blank done line entries say blank)
-      | inl counted ↦ elim (entry_or (entry_of line)) [
+      | inl counted ↦ elim (cases_option (entry_of line)) [
         | inl none ↦ bad_line text (length done) (inl (wrong_here text line done rest entries all say counted (inl none)))
         | inr says ↦ elim (cases_lt (length entries) 8) [
           | inl few ↦ lines_verdict text rest (done ++ line ∷ []) (entries ++ says.0 ∷ []) next (say_program done line entries says.0 say counted says.1 few)
