@@ -1,5 +1,7 @@
--- A text has a configuration, with its equations narrowed or as they are, or a refusal.
-use Rattle.std.proofs.Common.{◌≤◌, ℕ, Bool, true, false, List, length, inl, inr, refl}
+-- A text has a configuration, with its equations narrowed or as they are, or a refusal, and no second one of either.
+use Rattle.std.proofs.Common.{◌≤◌, ℕ, Bool, true, false, List, Result, Ok, Err, length, inl, inr, refl, ap}
+use Rattle.pr_base.specs.Laws.{AtMostOne}
+use Rattle.pr_conf.specs.Shape.{Shape}
 use Rattle.pr_lang.specs.declared.trees.Program.{Program}
 use Rattle.pr_flat.specs.declared.equations.Operand.{Operand}
 use Rattle.pr_flat.specs.Shape.{EquationShape}
@@ -14,7 +16,8 @@ use Rattle.pr_compile.specs.declared.faults.CompileFault.{CompileFault}
 use Rattle.pr_compile.specs.declared.faults.CompileFault.TheVariants.{Syntax, Scope, NoWidth, NoFit, Limit, Memory}
 use Rattle.pr_compile.specs.Configured.{AreReady, IsConfiguredBy, IsCompiled, HasUnitsBy, HasUnits, net_by}
 use Rattle.pr_compile.specs.Refusals.{IsUnfit, IsRefused}
-use Rattle.pr_compile_verdicts.specs.Verdicts.{SomeOf}
+use Rattle.pr_compile.proofs.OneAnswer.{one_answer, no_answer, one_compiled}
+use Rattle.pr_compile_verdicts.specs.Verdicts.{SomeOf, ExactlyOne, IsOutcome}
 use Rattle.pr_compile_verdicts.proofs.Demands.{some_narrowing}
 use Rattle.pr_compile_verdicts.proofs.Nets.{some_configuration}
 use Rattle.pr_compile_verdicts.proofs.Fronts.{some_front}
@@ -86,3 +89,19 @@ some_text_configuration N P narrow text short = elim (some_front text short) [
     | inr unfit ↦ inr (net_refused N P narrow text p.program p.widths p.has unfit.0 unfit.1)
   ]
 ]
+
+-- there is no second outcome
+same_outcome : (N P : ℕ) (narrow : Bool) (text : List ℕ) → AtMostOne (IsOutcome N P narrow text)
+same_outcome N P narrow text (Ok c) (Ok d) is also = ap (λ (x : Shape). Ok x) (one_compiled N P narrow text c d is also)
+same_outcome N P narrow text (Err e) (Err f) is also = ap (λ (x : CompileFault). Err x) (one_answer N P narrow text e f is also)
+same_outcome N P narrow text (Ok c) (Err f) is also = absurd (no_answer N P narrow text f c also is)
+same_outcome N P narrow text (Err e) (Ok d) is also = absurd (no_answer N P narrow text e d is also)
+
+some_outcome : (N P : ℕ) (narrow : Bool) (text : List ℕ) → length text ≤ 1048576 → (o : Result Shape CompileFault) × IsOutcome N P narrow text o
+some_outcome N P narrow text short = elim (some_text_configuration N P narrow text short) [
+  | inl conf ↦ (Ok conf.0, conf.1)
+  | inr refused ↦ (Err refused.0, refused.1)
+]
+
+pub one_outcome : (N P : ℕ) (narrow : Bool) (text : List ℕ) → length text ≤ 1048576 → ExactlyOne (IsOutcome N P narrow text)
+one_outcome N P narrow text short = (some_outcome N P narrow text short, same_outcome N P narrow text)

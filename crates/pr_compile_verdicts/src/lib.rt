@@ -19,9 +19,9 @@ ghost use Rattle.pr_cut_units.specs.Nets.{net_of};
 ghost use Rattle.pr_place.specs.Greedy.{IsGreedy, IsNoFit};
 ghost use Rattle.pr_compile_front.specs.declared.faults.FrontFault.{FrontFault};
 ghost use Rattle.pr_compile_front.specs.Refusals.{IsRead, HasWidths, IsRefusal};
-ghost use Rattle.pr_compile.specs.Configured.{IsConfigured, IsCompiled, HasUnits};
-ghost use Rattle.pr_compile.specs.Refusals.{IsNetRefusal, IsRefused};
-ghost use Rattle.pr_compile_verdicts.specs.Verdicts.{SomeOf};
+ghost use Rattle.pr_compile.specs.Configured.{IsConfigured, HasUnits};
+ghost use Rattle.pr_compile.specs.Refusals.{IsNetRefusal};
+ghost use Rattle.pr_compile_verdicts.specs.Verdicts.{SomeOf, ExactlyOne, IsOutcome};
 
 /// The greedy rule places every net, or fits one of its groups in no stripe.
 pub fn placement_verdict_law()
@@ -52,7 +52,8 @@ pub fn net_verdict_law()
 
 /// A text of no more bytes than a program may have is that of a program, or one of its tokens is refused. It has a program
 /// with equations and widths, or a point up to the widths refuses it; and so a net of so many units, or that refusal. And it
-/// has a configuration, or it is refused. The last two are said of its equations as they are, and of them narrowed.
+/// has exactly one outcome: its configuration, or its refusal. The last two are said of its equations as they are, and of
+/// them narrowed.
 pub fn text_verdict_law()
     ensures read { (text : List ℕ) → length text ≤ most_program_bytes →
         SomeOf (IsRead text) (λ (r : Refusal). refusal_of text ≡ Some r) }
@@ -61,6 +62,6 @@ pub fn text_verdict_law()
         ⊎ ((e : FrontFault) × IsRefusal text e) }
     ensures units { (narrowed : Bool) (text : List ℕ) → length text ≤ most_program_bytes →
         SomeOf (HasUnits narrowed text) (IsRefusal text) }
-    ensures compiled { (N P : ℕ) (narrowed : Bool) (text : List ℕ) → length text ≤ most_program_bytes →
-        SomeOf (IsCompiled N P narrowed text) (IsRefused N P narrowed text) }
+    ensures outcome { (N P : ℕ) (narrowed : Bool) (text : List ℕ) → length text ≤ most_program_bytes →
+        ExactlyOne (IsOutcome N P narrowed text) }
 {}

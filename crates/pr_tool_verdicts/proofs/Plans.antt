@@ -1,4 +1,4 @@
--- Words have a verdict on all files whose texts are bytes.
+-- Words have exactly one verdict on all files whose texts are bytes.
 use Rattle.std.proofs.Common.{ℕ, true, false, Some, None, List, inl, inr, refl}
 use Rattle.pr_base.specs.declared.caps.Cap.{Cap}
 use Rattle.pr_code.specs.Marks.{count_read, shape_marked}
@@ -19,6 +19,8 @@ use Rattle.pr_tool_words.specs.Lawful.{Order, Task, Run, Trace, Compile, Exec, E
 use Rattle.pr_tool.specs.Plans.{plan_for, target_of, resumption}
 use Rattle.pr_tool.specs.Words.{Asked}
 use Rattle.pr_tool.specs.Calls.{IsPlanVerdict, IsVerdict}
+use Rattle.pr_tool.proofs.CallLemmas.{one_answer}
+use Rattle.pr_compile_verdicts.specs.Verdicts.{ExactlyOne}
 use Rattle.pr_tool_verdicts.specs.Bytes.{HaveBytes}
 use Rattle.pr_tool_verdicts.proofs.Sources.{Files, GoodSource, IsMarkOf, file_verdict, file_source, text_good, resumable_or, program_verdict}
 use Rattle.pr_tool_verdicts.proofs.Lists.{share_verdict}
@@ -69,6 +71,9 @@ module _ (files : Files) (bytes : HaveBytes files) (order : Order) where
   task_verdict (Extend checkpoint samples) = move_verdict files bytes (resumption order checkpoint samples)
   task_verdict (Share list) = share_verdict files list
 
-pub some_verdict : (files : Files) (asked : Asked) → HaveBytes files → (a : Answer) × IsVerdict files asked a
+some_verdict : (files : Files) (asked : Asked) → HaveBytes files → (a : Answer) × IsVerdict files asked a
 some_verdict files None bytes = (Answer.Usage, refl)
 some_verdict files (Some order) bytes = task_verdict files bytes order order.task
+
+pub one_verdict : (files : Files) (asked : Asked) → HaveBytes files → ExactlyOne (IsVerdict files asked)
+one_verdict files asked bytes = (some_verdict files asked bytes, one_answer files asked)

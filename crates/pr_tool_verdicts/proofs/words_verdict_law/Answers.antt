@@ -1,5 +1,5 @@
-use Rattle.pr_tool_verdicts.proofs.Plans.{some_verdict}
+use Rattle.pr_tool_verdicts.proofs.Plans.{one_verdict}
 use Rattle.pr_tool_verdicts.proofs.words_verdict_law.Goals as goal
 
 pub returns : goal.returns
-returns c = some_verdict
+returns c = one_verdict
