@@ -1,6 +1,6 @@
 -- Every net has a placement of the greedy rule, or a group that fits in no stripe: stripe after stripe is filled until all groups
 -- are placed or a stripe receives none, and no more stripes than there are groups can each receive one.
-use Rattle.std.proofs.Common.{◌≡◌, ◌⊎◌, ◌+◌, ◌<◌, ℕ, zero, suc, not, List, [], ◌∷◌, ◌++◌, length, refl, ap, ◌∙◌, subst, inl, inr, arith, length-append, append-nil}
+use Rattle.std.proofs.Common.{◌≡◌, ◌⊎◌, ◌+◌, ◌<◌, ℕ, zero, suc, not, List, [], ◌∷◌, ◌++◌, length, refl, sym, ap, ◌∙◌, subst, inl, inr, arith, length-append, append-nil, append_assoc}
 use Rattle.std.specs.List.{fold}
 use Rattle.std.proofs.lemmas.Bool.{cases_lt, not-false}
 use Rattle.pr_net.specs.Shape.{NetShape}
@@ -11,37 +11,30 @@ use Rattle.pr_place.proofs.Stripes.{turn_cases}
 use Rattle.pr_compile_verdicts.specs.Verdicts.{SomeOf}
 
 -- ---- a stripe changes nothing, or adds seats
-longer_by : (placed b after : List Seat) → after ≡ placed ++ b → (after ≡ placed) ⊎ (length placed < length after)
-longer_by placed [] after is = inl (is ∙ append-nil placed)
-longer_by placed (t ∷ b) after is =
-    let e : length after ≡ length (placed ++ t ∷ b) = ap length is in
-    let l = length-append placed (t ∷ b) in
-    inr (omega (arith, e, l))
-
-turn_longer : (N P : ℕ) (net : NetShape) (s : ℕ) (placed : List Seat) (g : ℕ) → (turn N P net s placed g ≡ placed) ⊎ (length placed < length (turn N P net s placed g))
-turn_longer N P net s placed g = elim (turn_cases N P net s placed g) [
-  | inr same ↦ inl same
-  | inl (col, p) ↦ longer_by placed (seats_from P net placed s g (spots_of net g) col) (turn N P net s placed g) p.is
-]
-
-turns_longer : (N P : ℕ) (net : NetShape) (s : ℕ) (gs : List ℕ) (placed : List Seat) → (fold (turn N P net s) placed gs ≡ placed) ⊎ (length placed < length (fold (turn N P net s) placed gs))
-turns_longer N P net s [] placed = inl refl
-turns_longer N P net s (g ∷ gs) placed =
-    let next = turn N P net s placed g in
-    elim (turns_longer N P net s gs next) [
-      | inl rest ↦ elim (turn_longer N P net s placed g) [
-        | inl one ↦ inl (rest ∙ one)
-        | inr more ↦ inr (let e : length (fold (turn N P net s) next gs) ≡ length next = ap length rest in omega (arith, e, more))
-      ]
-      | inr rest ↦ elim (turn_longer N P net s placed g) [
-        | inl one ↦ inr (let e : length next ≡ length placed = ap length one in omega (arith, e, rest))
-        | inr more ↦ inr (omega (arith, rest, more))
-      ]
+turns_append : (N P : ℕ) (net : NetShape) (s : ℕ) (gs : List ℕ) (placed : List Seat) → (more : List Seat) × (fold (turn N P net s) placed gs ≡ placed ++ more)
+turns_append N P net s [] placed = ([], sym (append-nil placed))
+turns_append N P net s (g ∷ gs) placed =
+    let rest = turns_append N P net s gs (turn N P net s placed g) in
+    let behind : (l : List Seat) → turn N P net s placed g ≡ l → fold (turn N P net s) placed (g ∷ gs) ≡ l ++ rest.0 = λ l is. rest.1 ∙ ap (λ (front : List Seat). front ++ rest.0) is in
+    elim (turn_cases N P net s placed g) [
+      | inr same ↦ (rest.0, behind placed same)
+      | inl (col, p) ↦
+          (let seats = seats_from P net placed s g (spots_of net g) col in
+          (seats ++ rest.0, behind (placed ++ seats) p.is ∙ append_assoc placed seats rest.0))
     ]
+
+longer_by : (placed more after : List Seat) → after ≡ placed ++ more → (after ≡ placed) ⊎ (length placed < length after)
+longer_by placed [] after is = inl (is ∙ append-nil placed)
+longer_by placed (t ∷ more) after is =
+    let e : length after ≡ length (placed ++ t ∷ more) = ap length is in
+    let l = length-append placed (t ∷ more) in
+    inr (omega (arith, e, l))
 
 stripe_longer : (N P : ℕ) (net : NetShape) (s : ℕ) → (placed_after N P net (suc s) ≡ placed_after N P net s) ⊎ (length (placed_after N P net s) < length (placed_after N P net (suc s)))
 unfolding placed_after
-stripe_longer N P net s = turns_longer N P net s (groups_in net) (placed_after N P net s)
+stripe_longer N P net s =
+    let added = turns_append N P net s (groups_in net) (placed_after N P net s) in
+    longer_by (placed_after N P net s) added.0 (placed_after N P net (suc s)) added.1
 
 -- ---- stripe after stripe
 abbrev Grow : ℕ → ℕ → NetShape → ℕ → Type 0
