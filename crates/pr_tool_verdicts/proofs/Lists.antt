@@ -8,12 +8,13 @@ use Rattle.pr_share_list.proofs.ListLaws.{say_none, say_blank, say_program, wron
 use Rattle.pr_tool_answers.specs.declared.answers.Answer.{Answer}
 use Rattle.pr_tool_share.specs.Lists.{IsBadList, IsRefusedProgram, AreCompiled, base, part_answer}
 use Rattle.pr_tool_share.specs.Ends.{IsShareVerdict, answer_of_all, samples_ends}
+use Rattle.pr_compile_verdicts.specs.Verdicts.{SomeOf}
 use Rattle.pr_compile_verdicts.proofs.Cases.{cases_option}
 use Rattle.pr_tool_verdicts.proofs.Sources.{Files, GoodOr, file_verdict, text_source}
 
 -- ---- the list
 abbrev Verdict : List ℕ → Type 0
-Verdict text = ((entries : List Entry) × IsListed text entries) ⊎ ((line : ℕ) × IsBadAt text line)
+Verdict text = SomeOf (IsListed text) (IsBadAt text)
 
 bad_line : (text : List ℕ) (line : ℕ) → IsWrong text line ⊎ IsBare text line → Verdict text
 bad_line text line bad = inr (line + 1, (line, (refl, bad)))
@@ -40,8 +41,11 @@ lines_verdict text (line ∷ rest) done entries all say =
       ]
     ]
 
+pub list_verdict : (text : List ℕ) → SomeOf (IsListed text) (IsBadAt text)
+list_verdict text = lines_verdict text (list_lines text) [] [] refl say_none
+
 list_or : (text : List ℕ) → GoodOr (λ t. (entries : List Entry) × IsListed t entries) IsBadList text
-list_or text = elim (lines_verdict text (list_lines text) [] [] refl say_none) [
+list_or text = elim (list_verdict text) [
   | inl listed ↦ inl listed
   | inr bad ↦ inr (Answer.BadList bad.0, bad.1)
 ]

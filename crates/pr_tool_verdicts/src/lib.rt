@@ -1,11 +1,18 @@
-//! Whatever words and files the tool is given, there is exactly one verdict on them. Nothing here runs.
+//! Whatever words and files the tool is given, there is exactly one verdict on them; and a list of programs is read or bad.
+//! Nothing here runs.
 #![tactic(auto)]
 
 ghost use Rattle.std.specs.Prelude.{ℕ, List, Option};
+ghost use Rattle.pr_share_list.specs.List.{IsListed, IsBadAt};
 ghost use Rattle.pr_tool.specs.Words.{Asked};
 ghost use Rattle.pr_tool.specs.Calls.{IsVerdict};
-ghost use Rattle.pr_compile_verdicts.specs.Verdicts.{ExactlyOne};
+ghost use Rattle.pr_compile_verdicts.specs.Verdicts.{SomeOf, ExactlyOne};
 ghost use Rattle.pr_tool_verdicts.specs.Bytes.{HaveBytes};
+
+/// Each text lists entries, or is bad at a line.
+pub fn list_verdict_law()
+    ensures { (text : List ℕ) → SomeOf (IsListed text) (IsBadAt text) }
+{}
 
 /// Words, lawful or not, have exactly one verdict on all files whose texts are bytes.
 pub fn words_verdict_law()
