@@ -2,7 +2,7 @@
 use Rattle.std.proofs.Common.{◌≡◌, ℕ, ◌<◌, ◌≤◌, ◌||◌, Bool, true, false, nat_lt, nat_le, if◌then◌else◌, refl, ap, ◌∙◌, arith}
 use Rattle.std.proofs.lemmas.Bool.Decides.{nat_tests}
 use Rattle.pr_conf.specs.declared.pes.Source.{Source}
-use Rattle.pr_stripe_prepared.specs.Lanes.{is_place}
+use Rattle.pr_lanes.specs.Lanes.{is_place}
 use Rattle.pr_stripe_prepared.specs.Places.{state_in, here_in, is_suited}
 
 or_true : (a b : Bool) → b ≡ true → (a || b) ≡ true

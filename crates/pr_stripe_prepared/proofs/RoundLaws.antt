@@ -22,14 +22,14 @@ use Rattle.pr_stripe_columns.proofs.FreeLaws.{both}
 use Rattle.pr_stripe_columns.proofs.StepLaws.{all_made, any_pe}
 use Rattle.pr_stripe_prepared.specs.declared.stages.Prepared.{Prepared}
 use Rattle.pr_stripe_prepared.specs.declared.stages.Table.{Table}
-use Rattle.pr_stripe_prepared.specs.Lanes.{HasLanes}
+use Rattle.pr_lanes.specs.Lanes.{HasLanes}
 use Rattle.pr_stripe_prepared.specs.Gather.{gathered_byte, seen_byte}
 use Rattle.pr_stripe_prepared.specs.Tables.{HasTable}
 use Rattle.pr_stripe_prepared.specs.Operands.{mark_of, found_by, found, given, first_of, second_of, carried, carry_k, result_k}
 use Rattle.pr_stripe_prepared.specs.Prepared.{IsPrepared}
 use Rattle.pr_stripe_prepared.specs.Rounds.{is_seen, is_seen_bit, IsRight}
 use Rattle.pr_stripe_prepared.specs.Elements.{sum_mark, takes_carry, is_chain, goes_on, low_mask, zero_mask, c_source, c_bit, c_carry, is_read_bit, from_c}
-use Rattle.pr_stripe_prepared.proofs.SumLaws.{carry_more}
+use Rattle.pr_lanes.proofs.SumLaws.{carry_more}
 
 -- ---- C, as a mark: all ones, or 0
 bit_small : (n : ℕ) (sight : Sight) (c : Bit) → source_bit n sight c ≤ 1

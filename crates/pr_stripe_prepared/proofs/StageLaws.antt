@@ -8,9 +8,9 @@ use Rattle.pr_lanes.specs.Rows.{chosen, picked, pick, row_by}
 use Rattle.pr_stripe_columns.specs.Elements.{IsColumn, outputs_of}
 use Rattle.pr_stripe_columns.proofs.StepLaws.{any_pe, all_outputs, state_selected}
 use Rattle.pr_stripe_prepared.specs.declared.stages.Prepared.{Prepared}
-use Rattle.pr_stripe_prepared.specs.Lanes.{HasLanes}
+use Rattle.pr_lanes.specs.Lanes.{HasLanes}
 use Rattle.pr_stripe_prepared.specs.Prepared.{IsPrepared}
-use Rattle.pr_stripe_prepared.proofs.LaneLaws.{as_row, same_lanes, own}
+use Rattle.pr_lanes.proofs.LaneLaws.{as_row, same_lanes, own}
 use Rattle.pr_stripe_prepared.proofs.RoundLaws.{kept, taken}
 
 pub pick_output : (n : Next) (old new : ℕ) → old < 256 → new < 256 → chosen old new (next_state n 0 255 0) ≡ pick (next_state n 0 255 0) new old

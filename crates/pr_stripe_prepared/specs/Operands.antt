@@ -4,7 +4,7 @@ use Rattle.pr_lanes.specs.Rows.{chosen, ones_where}
 use Rattle.pr_stripe_prepared.specs.declared.stages.Prepared.{Prepared}
 use Rattle.pr_stripe_prepared.specs.declared.stages.Table.{Table}
 use Rattle.pr_stripe_prepared.specs.Gather.{gathered_byte}
-use Rattle.pr_stripe_prepared.specs.Sums.{carry_from}
+use Rattle.pr_lanes.specs.Sums.{carry_from}
 
 -- all ones where the bit that C is of a byte is 1
 abbrev pub bit_mark : Prepared → List ℕ → List ℕ → List ℕ → ℕ → ℕ

@@ -1,11 +1,11 @@
 //! Bytes that are gathered from a row and a state.
 
 ghost use Rattle.std.specs.Prelude.{◌≡◌, ◌+◌, ◌≤◌, ℕ, All, length, slice_index, bit_or};
-ghost use Rattle.pr_stripe_prepared.specs.Lanes.{HasLanes};
+ghost use Rattle.pr_lanes.specs.Lanes.{HasLanes};
 ghost use Rattle.pr_stripe_prepared.specs.Gather.{begun_byte, gathered_byte, looked};
 
-use crate::lanes::{either, look_up};
 use crate::stages::{Gather, Term};
+use pr_lanes::lanes::{either, look_up};
 use std::simd::prelude::*;
 
 /// The bytes of a block of a row.

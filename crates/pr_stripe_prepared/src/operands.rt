@@ -1,14 +1,14 @@
 //! The operands of all columns.
 
 ghost use Rattle.std.specs.Prelude.{ℕ, false, ◌≡◌, ◌+◌, ◌<◌, ◌^◌, ◌≤◌, length, slice_index};
-ghost use Rattle.pr_stripe_prepared.specs.Lanes.{HasLanes};
+ghost use Rattle.pr_lanes.specs.Lanes.{HasLanes};
 ghost use Rattle.pr_stripe_prepared.specs.Gather.{gathered_byte};
 ghost use Rattle.pr_stripe_prepared.specs.Operands.{with_carry, mark_of};
 ghost use Rattle.pr_base.specs.Pe.{shifted};
 
 use crate::gathers::gathered;
-use crate::lanes::{high_half, joined, low_half, ones_in, row_of, shifted_row, words_of};
 use crate::stages::Prepared;
+use pr_lanes::lanes::{high_half, joined, low_half, ones_in, row_of, shifted_row, words_of};
 use std::simd::prelude::*;
 
 /// C of all columns, all ones or 0: a bit of a byte, or the carry-in that the round before made.

@@ -3,7 +3,7 @@
 ghost use Rattle.std.specs.Prelude.{true, false, ◌≡◌, ◌+◌, ◌<◌, ◌≤◌, ℕ, length, slice_index, slice_index_or};
 ghost use Rattle.pr_conf.specs.declared.pes.Source.{Source};
 ghost use Rattle.pr_stripe_prepared.specs.Places.{known_in, state_in, here_in, row_in, is_suited};
-ghost use Rattle.pr_stripe_prepared.specs.Lanes.{is_place};
+ghost use Rattle.pr_lanes.specs.Lanes.{is_place};
 
 use pr_conf::Source;
 

@@ -1,12 +1,12 @@
 //! What all columns make of their operands.
 
 ghost use Rattle.std.specs.Prelude.{ℕ, true, ◌≡◌, ◌<◌, length, slice_index};
-ghost use Rattle.pr_stripe_prepared.specs.Lanes.{HasLanes};
+ghost use Rattle.pr_lanes.specs.Lanes.{HasLanes};
 ghost use Rattle.pr_stripe_prepared.specs.Operands.{carry_k, found, found_by, summed, result_k};
 ghost use Rattle.pr_lanes.specs.Rows.{row_by};
 
-use crate::lanes::{added, carries_of, choose, joined, masked, none_in, row_of, turned};
 use crate::stages::{Prepared, Table};
+use pr_lanes::lanes::{added, carries_of, choose, joined, masked, none_in, row_of, turned};
 use std::simd::prelude::*;
 
 /// X of all columns, for one value of C, where each table has an even number of ones.

@@ -1,7 +1,7 @@
 //! Prepared stages.
 
 ghost use Rattle.std.specs.Prelude.{true, false, ◌≡◌, ◌+◌, ◌<◌, ◌≤◌, ℕ, All, slice_index, bit_xor};
-ghost use Rattle.pr_stripe_prepared.specs.Lanes.{is_place};
+ghost use Rattle.pr_lanes.specs.Lanes.{is_place};
 
 /// Bytes of a block of 16 bytes of a row, which begins at `from`: for each of two rows of columns the place, from 128 on none.
 #[derive(Clone, Copy)]

@@ -8,10 +8,10 @@ ghost use Rattle.pr_stripe_columns.specs.Elements.{outputs_of};
 ghost use Rattle.pr_stripe_prepared.specs.Elements.{AreMarks};
 ghost use Rattle.pr_stripe_prepared.specs.Prepared.{IsPrepared};
 
-use crate::lanes::{blended, choose, loaded, row_of, store};
 use crate::rounds::columns;
 use crate::stages::Prepared;
 use pr_lanes::copy_row;
+use pr_lanes::lanes::{blended, choose, loaded, row_of, store};
 use std::simd::prelude::*;
 
 /// Makes a register of the one before, and of the outputs where they are marked.

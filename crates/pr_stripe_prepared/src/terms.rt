@@ -1,7 +1,7 @@
 //! The terms that gather a row of places.
 
 ghost use Rattle.std.specs.Prelude.{true, false, ◌≡◌, ◌+◌, ◌*◌, ◌/◌, ◌%◌, ◌<◌, ◌≤◌, ◌==◌, ℕ, List, All, IfOk, length, slice_index, bit_or, nat_lt, if◌then◌else◌};
-ghost use Rattle.pr_stripe_prepared.specs.Lanes.{is_place};
+ghost use Rattle.pr_lanes.specs.Lanes.{is_place};
 ghost use Rattle.pr_stripe_prepared.specs.Gather.{with_terms};
 
 use crate::stages::Term;

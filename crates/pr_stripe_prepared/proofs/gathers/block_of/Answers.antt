@@ -1,7 +1,7 @@
 use Rattle.std.proofs.Common.{◌≡◌, ℕ, ◌+◌, ◌<◌, Bool, true, false, refl, List, cond, get_or, ◌∙◌, arith, nat_le}
 use Rattle.std.proofs.lemmas.Bool.Decides.{nat_tests}
 use Rattle.std.proofs.lemmas.Simd.{get_or-chunk}
-use Rattle.pr_stripe_prepared.specs.Lanes.{is_place}
+use Rattle.pr_lanes.specs.Lanes.{is_place}
 use Rattle.pr_stripe_prepared.proofs.gathers.block_of.Goals as goal
 
 part : (b : Bool) (row xs : List ℕ) (from p : ℕ) → nat_le 128 p ≡ b → is_place p ≡ true → ((i : ℕ) → i < 16 → get_or xs i 0 ≡ get_or row (from + i) 0) → cond b 0 (get_or xs p 0) ≡ cond b 0 (get_or row (from + p) 0)

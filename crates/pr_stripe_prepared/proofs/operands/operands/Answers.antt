@@ -3,7 +3,7 @@ use Rattle.pr_base.specs.Pe.{shifted}
 use Rattle.pr_lanes.specs.Rows.{ones_where}
 use Rattle.pr_stripe_prepared.specs.Gather.{gathered_byte}
 use Rattle.pr_stripe_prepared.specs.Operands.{mark_of}
-use Rattle.pr_stripe_prepared.proofs.LaneLaws.{same_lanes, splat_of}
+use Rattle.pr_lanes.proofs.LaneLaws.{same_lanes, splat_of}
 use Rattle.pr_stripe_prepared.proofs.operands.operands.Goals as goal
 
 same : (a b c d s : ℕ) → a ≡ c → b ≡ d → shifted a b s ≡ shifted c d s

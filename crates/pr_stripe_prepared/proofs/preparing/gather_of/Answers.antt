@@ -1,6 +1,6 @@
 use Rattle.std.proofs.Common.{get_or, ap, ◌∙◌, arith}
 use Rattle.pr_conf.specs.declared.pes.Source.{Source}
-use Rattle.pr_stripe_prepared.specs.Lanes.{is_place}
+use Rattle.pr_lanes.specs.Lanes.{is_place}
 use Rattle.pr_stripe_prepared.proofs.PlaceLaws.{lane_is}
 use Rattle.pr_stripe_prepared.proofs.PrepareLaws.{place_ok, here_ok}
 use Rattle.pr_stripe_prepared.proofs.preparing.gather_of.Goals as goal

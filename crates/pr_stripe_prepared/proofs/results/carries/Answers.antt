@@ -1,8 +1,8 @@
 use Rattle.std.proofs.Common.{ℕ, ◌+◌, ◌%◌, ◌<◌, ◌==◌, get_or, bit_and, bit_or, if◌then◌else◌, ap, ◌∙◌, arith}
-use Rattle.pr_stripe_prepared.specs.Sums.{carry_from}
+use Rattle.pr_lanes.specs.Sums.{carry_from}
 use Rattle.pr_stripe_prepared.specs.Operands.{given, first_of, second_of, carry_k}
-use Rattle.pr_stripe_prepared.proofs.LaneLaws.{same_lanes}
-use Rattle.pr_stripe_prepared.proofs.SumLaws.{carry_same}
+use Rattle.pr_lanes.proofs.LaneLaws.{same_lanes}
+use Rattle.pr_lanes.proofs.SumLaws.{carry_same}
 use Rattle.pr_stripe_prepared.proofs.results.carries.Goals as goal
 
 pub returns : goal.returns

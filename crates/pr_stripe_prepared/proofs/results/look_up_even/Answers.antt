@@ -1,6 +1,6 @@
 use Rattle.std.proofs.Common.{◌<◌, get_or, bit_and, bit_xor, ap, sym, subst, ◌∙◌, List, ℕ}
 use Rattle.pr_stripe_prepared.specs.Operands.{found_by}
-use Rattle.pr_stripe_prepared.proofs.LaneLaws.{same_lanes}
+use Rattle.pr_lanes.proofs.LaneLaws.{same_lanes}
 use Rattle.pr_stripe_prepared.proofs.TableLaws.{found_even}
 use Rattle.pr_stripe_prepared.proofs.results.look_up_even.Goals as goal
 

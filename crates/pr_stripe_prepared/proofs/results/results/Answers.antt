@@ -1,14 +1,10 @@
-use Rattle.std.proofs.Common.{◌≡◌, ℕ, ◌<◌, List, length, get_or, bit_and, ap, subst, ◌∙◌, arith, w8, Fits}
-use Rattle.std.specs.Simd.Lanes.{Each1}
-use Rattle.std.proofs.lemmas.Simd.{Each1-get_or}
+use Rattle.std.proofs.Common.{◌≡◌, ◌<◌, get_or, bit_and, ap, subst, ◌∙◌}
+use Rattle.pr_lanes.proofs.Blocks.{byte_of_lane}
 use Rattle.pr_lanes.specs.Rows.{row_by}
-use Rattle.pr_stripe_prepared.specs.Lanes.{HasLanes}
+use Rattle.pr_lanes.specs.Lanes.{HasLanes}
 use Rattle.pr_stripe_prepared.specs.Operands.{found, summed, result_k, carry_k}
-use Rattle.pr_stripe_prepared.proofs.LaneLaws.{as_row, same_lanes}
+use Rattle.pr_lanes.proofs.LaneLaws.{as_row, same_lanes}
 use Rattle.pr_stripe_prepared.proofs.results.results.Goals as goal
-
-lane : (xs : List ℕ) → length xs ≡ 16 → Each1 (Fits w8) xs → (k : ℕ) → k < 16 → get_or xs k 0 < 256
-lane xs h f k l = (Each1-get_or (Fits w8) xs k 0 (omega arith) f).fits
 
 pub returns-clause-outputs : goal.returns-clause-outputs
 returns-clause-outputs c =
@@ -27,7 +23,7 @@ returns-clause-carries c = λ has.
     subst (λ xs. HasLanes 16 c.sum_all.result.1 (carry_k q c.args.a xs c.args.c)) (as_row 16 x (found q c.args.a c.args.b c.args.c) c.look_up_all-x.ensures.lanes) (c.sum_all.ensures.carries has)
 
 pub returns-clause-operands : goal.returns-clause-operands
-returns-clause-operands c = λ k l. (lane c.args.a c.requires.a c.fits-a.1 k l, lane c.args.b c.requires.b c.fits-b.1 k l)
+returns-clause-operands c = λ k l. (byte_of_lane c.args.a c.requires.a c.fits-a.1 k l, byte_of_lane c.args.b c.requires.b c.fits-b.1 k l)
 
 pub returns-clause-found : goal.returns-clause-found
 returns-clause-found c = λ k l. subst (λ y. y < 256) (c.look_up_all-x.ensures.lanes.each k l) (c.sum_all.ensures.small k l)

@@ -1,19 +1,15 @@
-use Rattle.std.proofs.Common.{◌≡◌, ℕ, ◌+◌, ◌%◌, ◌<◌, List, length, get_or, if◌then◌else◌, sym, ap, ◌∙◌, arith, w8, Fits}
-use Rattle.std.specs.Simd.Lanes.{Each1}
-use Rattle.std.proofs.lemmas.Simd.{Each1-get_or}
+use Rattle.std.proofs.Common.{ℕ, ◌+◌, ◌%◌, get_or, if◌then◌else◌, sym, ap, ◌∙◌}
+use Rattle.pr_lanes.proofs.Blocks.{byte_of_lane}
 use Rattle.pr_lanes.specs.Rows.{chosen}
 use Rattle.pr_stripe_prepared.specs.Operands.{carry_k, summed}
-use Rattle.pr_stripe_prepared.proofs.LaneLaws.{same_lanes}
+use Rattle.pr_lanes.proofs.LaneLaws.{same_lanes}
 use Rattle.pr_stripe_prepared.proofs.results.sum_all.Goals as goal
 
-lane : (xs : List ℕ) → length xs ≡ 16 → Each1 (Fits w8) xs → (k : ℕ) → k < 16 → get_or xs k 0 < 256
-lane xs h f k l = (Each1-get_or (Fits w8) xs k 0 (omega arith) f).fits
-
 pub returns-then-q-clause-small : goal.returns-then-q-clause-small
-returns-then-q-clause-small c = λ k l. lane c.args.x c.requires.x c.fits-x.1 k l
+returns-then-q-clause-small c = λ k l. byte_of_lane c.args.x c.requires.x c.fits-x.1 k l
 
 pub returns-else-q-clause-small : goal.returns-else-q-clause-small
-returns-else-q-clause-small c = λ k l. lane c.args.x c.requires.x c.fits-x.1 k l
+returns-else-q-clause-small c = λ k l. byte_of_lane c.args.x c.requires.x c.fits-x.1 k l
 
 pub returns-then-q-clause-sums : goal.returns-then-q-clause-sums
 returns-then-q-clause-sums c =

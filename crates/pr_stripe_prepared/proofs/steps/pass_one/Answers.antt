@@ -4,7 +4,7 @@ use Rattle.pr_lanes.specs.Rows.{pick, row_by}
 use Rattle.pr_conf.specs.declared.pes.Pe.{Pe}
 use Rattle.pr_stripe_columns.proofs.StepLaws.{any_pe}
 use Rattle.pr_stripe_columns.proofs.PassLaws.{picked_is_passed}
-use Rattle.pr_stripe_prepared.proofs.LaneLaws.{as_row, same_lanes}
+use Rattle.pr_lanes.proofs.LaneLaws.{as_row, same_lanes}
 use Rattle.pr_stripe_prepared.proofs.steps.pass_one.Goals as goal
 
 -- a mark is above 127 or 0

@@ -2,7 +2,7 @@ use Rattle.std.proofs.Common.{get_or, [], sym, ap, subst, ◌∙◌}
 use Rattle.pr_conf.specs.StageMap.{made_from, state_map}
 use Rattle.pr_stripe_columns.specs.Elements.{outputs_of}
 use Rattle.pr_lanes.specs.Rows.{chosen}
-use Rattle.pr_stripe_prepared.specs.Lanes.{HasLanes}
+use Rattle.pr_lanes.specs.Lanes.{HasLanes}
 use Rattle.pr_stripe_prepared.proofs.StageLaws.{outputs_are, state_chosen, state_kept}
 use Rattle.pr_stripe_prepared.proofs.steps.step.Goals as goal
 

@@ -1,0 +1,6 @@
+use Rattle.std.proofs.Common.{bit_or}
+use Rattle.pr_lanes.proofs.LaneLaws.{own, zip_of}
+use Rattle.pr_lanes.proofs.lanes.joined.Goals as goal
+
+pub returns : goal.returns
+returns c = zip_of 16 bit_or _ _ _ _ (own 16 c.args.a c.requires.a) (own 16 c.args.b c.requires.b)
