@@ -1,5 +1,5 @@
 -- Rows of numbers and their bytes, piece by piece, and the widths of outputs.
-use Rattle.std.proofs.Common.{◌≡◌, ℕ, zero, suc, ◌+◌, ◌<◌, ◌≤◌, List, [], ◌∷◌, ◌++◌, length, map, take, drop, ◌-◌, set, nat_le, get_or, sym, ap, ◌∙◌, arith, append-nil, true, sum_by, append_assoc, All}
+use Rattle.std.proofs.Common.{◌≡◌, ℕ, zero, suc, ◌+◌, ◌<◌, ◌≤◌, List, [], ◌∷◌, ◌++◌, length, map, take, drop, ◌-◌, set, nat_le, get_or, get_or-set_same, length-set, sym, ap, ◌∙◌, arith, append-nil, true, sum_by, append_assoc, All}
 use Rattle.std.specs.List.{list_all}
 use Rattle.std.proofs.lemmas.Bool.{and_parts}
 use Rattle.std.proofs.lemmas.Bool.Decides.{nat_tests}
@@ -35,30 +35,42 @@ row_bytes-more (w ∷ widths) (n ∷ row) (suc i) h g =
     ∙ (ap (λ bytes. bytes_of (slices_of w) n ++ bytes) (row_bytes-more widths row i (omega (arith, h)) (omega (arith, g)))
     ∙ sym (append_assoc (bytes_of (slices_of w) n) (row_bytes (take i widths) row) (bytes_of (slices_of (get_or widths i 0)) (get_or row i 0))))
 
--- the bytes of one number more stand in a buffer, which keeps its size
-pub record IsSampleStep (into widths numbers : List ℕ) (to i : ℕ) : Type 0 where
-  pub done : take to into ≡ row_bytes (take (i + 1) widths) numbers
-  pub left : to + sum_by slices_of (drop (i + 1) widths) ≡ length into
+-- a buffer of one byte
+pub one_byte : (into : List ℕ) (n b : ℕ) → length into ≡ 1 → b ≡ byte_at n 0 → set into 0 b ≡ bytes_of (length into) n
+one_byte into n b l is =
+    let long = length-set into 0 b in
+    whole_number (set into 0 b) n (λ k h.
+    let e : k ≡ 0 = omega (arith, h, long, l) in
+    ap (λ i. get_or (set into 0 b) i 0) e ∙ (get_or-set_same into 0 b 0 (omega (arith, l)) ∙ (is ∙ ap (byte_at n) (sym e))))
+    ∙ ap (λ m. bytes_of m n) long
 
-pub sample_step : (into ys widths numbers : List ℕ) (at i s : ℕ) → take at into ≡ row_bytes (take i widths) numbers → at + sum_by slices_of (drop i widths) ≡ length into
-    → i < length widths → length numbers ≡ length widths → s ≡ slices_of (get_or widths i 0) → ys ≡ bytes_of (length (take (at + s - at) (drop at into))) (get_or numbers i 0)
-    → IsSampleStep (put_mid at (at + s - at) into ys) widths numbers (at + s) i
-sample_step into ys widths numbers at i s done left h n size is =
+-- the bytes of one number more stand in a buffer, which keeps its size
+pub record IsSampleStep (into widths numbers : List ℕ) (to i long : ℕ) : Type 0 where
+  pub done : take to into ≡ row_bytes (take (i + 1) widths) numbers
+  pub left : to + sum_by slices_of (drop (i + 1) widths) ≡ sum_by slices_of widths
+  pub size : length into ≡ long
+
+pub sample_step : (into ys widths numbers : List ℕ) (at i s : ℕ) → take at into ≡ row_bytes (take i widths) numbers → at + sum_by slices_of (drop i widths) ≡ sum_by slices_of widths
+    → sum_by slices_of widths ≤ length into → i < length widths → length numbers ≡ length widths → s ≡ slices_of (get_or widths i 0)
+    → ys ≡ bytes_of (length (take (at + s - at) (drop at into))) (get_or numbers i 0)
+    → IsSampleStep (put_mid at (at + s - at) into ys) widths numbers (at + s) i (length into)
+sample_step into ys widths numbers at i s done left room h n size is =
     let k = at + s - at in
     let w = slices_of (get_or widths i 0) in
     let more = sum_by-drop_more slices_of widths i 0 h in
     let rest = length-drop at into in
-    let part = length-take-le k (drop at into) (omega (arith, more, left, rest, size)) in
+    let part = length-take-le k (drop at into) (omega (arith, more, left, room, rest, size)) in
     let long : length ys ≡ s = omega (arith, ap length is, length-bytes_of (length (take k (drop at into))) (get_or numbers i 0), part) in
     let same : ys ≡ bytes_of w (get_or numbers i 0) = is ∙ ap (λ m. bytes_of m (get_or numbers i 0)) (omega (arith, part, size)) in
     let a = length-append (take at into) (ys ++ drop k (drop at into)) in
     let b = length-append ys (drop k (drop at into)) in
-    let c = length-take-le at into (omega (arith, left)) in
+    let c = length-take-le at into (omega (arith, left, room)) in
     let d = length-drop k (drop at into) in
     record {
-      done = take-put_mid at k into ys (at + s) (omega (arith, long)) (omega (arith, left))
+      done = take-put_mid at k into ys (at + s) (omega (arith, long)) (omega (arith, left, room))
           ∙ (ap (λ xs. xs ++ ys) done ∙ (ap (λ xs. row_bytes (take i widths) numbers ++ xs) same ∙ sym (row_bytes-more widths numbers i h (omega (arith, h, n)))));
-      left = omega (arith, a, b, c, d, long, size, more, left, rest);
+      left = omega (arith, size, more, left);
+      size = omega (arith, a, b, c, d, long, size, more, left, room, rest);
     }
 
 -- the outputs of a configuration have lawful widths
@@ -104,13 +116,16 @@ inputs-le (w ∷ widths) h =
     let more = inputs-le widths rest in
     omega (arith, n, first, more)
 
+pub sample_room : (N : ℕ) (widths : List ℕ) → N ≤ 64 → are_lawful_inputs N widths ≡ true → sum_by slices_of widths ≤ 64
+sample_room N widths columns h =
+    let fits : nat_le (sum_by slices_of widths) N ≡ true = (and_parts _ _ h).1 in
+    let test : sum_by slices_of widths ≤ N = grind (arith, nat_tests) in
+    omega (arith, columns, test)
+
 pub few_inputs : (N : ℕ) (widths : List ℕ) → N ≤ 64 → are_lawful_inputs N widths ≡ true → length widths ≤ 64
 few_inputs N widths columns h =
-    let parts = and_parts _ _ h in
-    let fits : nat_le (sum_by slices_of widths) N ≡ true = parts.1 in
-    let test : sum_by slices_of widths ≤ N = grind (arith, nat_tests) in
-    let all = inputs-le widths (and_parts _ _ parts.0).1 in
-    omega (arith, columns, test, all)
+    let all = inputs-le widths (and_parts _ _ (and_parts _ _ h).0).1 in
+    omega (arith, all, sample_room N widths columns h)
 
 -- the inputs of a configuration have lawful widths
 pub lawful_inputs : (N : ℕ) (widths : List ℕ) → are_lawful_inputs N widths ≡ true → All (λ w. (1 ≤ w) × (w ≤ 128)) widths

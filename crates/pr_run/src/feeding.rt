@@ -1,5 +1,5 @@
 //! The first step of a turn: a sample is read and offered.
-ghost use Rattle.std.specs.Prelude.{ℕ, ◌≡◌, ◌<◌, ◌+◌, ◌++◌, ◌∷◌, [], ◌&&◌, not, nat_lt, false, List, length, sum_by};
+ghost use Rattle.std.specs.Prelude.{ℕ, ◌≡◌, ◌<◌, ◌≤◌, ◌+◌, ◌++◌, ◌∷◌, [], ◌&&◌, not, nat_lt, false, List, length, take, sum_by};
 ghost use Rattle.pr_base.specs.Numbers.{bytes_of, slices_of};
 ghost use Rattle.pr_base.specs.Rows.{row_bytes};
 ghost use Rattle.pr_edge.specs.Tape.{Tape};
@@ -22,19 +22,27 @@ use pr_samples::{Feed, Got};
 const FULL: usize = 16;
 
 /// Puts the lowest bytes of a number into a buffer, as many as fit, the least first.
+#[inline(always)]
 fn put_number(into: &mut [u8], n: Num)
     ensures { into.new ≡ bytes_of (length into.old) n }
 {
+    if into.len() == 1 {
+        into[0] = byte_of(n, 0);
+        return;
+    }
     for i in 0..into.len() {
         into[i] = byte_of(n, i);
     }
 }
 
-/// Puts the bytes of a row of numbers into a buffer.
-fn put_sample(into: &mut [u8], widths: &[u8], numbers: &[Num])
+/// Puts the bytes of a row of numbers at the front of a buffer, and says how many they are.
+#[inline(always)]
+fn put_sample(into: &mut [u8], widths: &[u8], numbers: &[Num]) -> usize
     requires numbers { length numbers.now ≡ length widths.now }
-    requires bytes { length into.old ≡ sum_by slices_of widths.now }
-    ensures { into.new ≡ row_bytes widths.now numbers.now }
+    requires room { sum_by slices_of widths.now ≤ length into.old }
+    ensures count { result ≡ sum_by slices_of widths.now }
+    ensures bytes { take result into.new ≡ row_bytes widths.now numbers.now }
+    ensures length { length into.new ≡ length into.old }
 {
     let mut at = 0;
     for i in 0..widths.len() {
@@ -42,6 +50,7 @@ fn put_sample(into: &mut [u8], widths: &[u8], numbers: &[Num])
         put_number(&mut into[at..end], numbers[i]);
         at = end;
     }
+    at
 }
 
 /// Offers a sample of these numbers, for which there is room. The first bytes of the buffer of 64 are overwritten.
@@ -58,8 +67,7 @@ pub fn offer_sample<const N: usize, const P: usize>(
         → Stands machine.new c p (h ++ Offer (row_bytes c.inputs numbers.now) ∷ []) }
     ensures kept { IsKept machine.old machine.new }
 {
-    let size = machine.conf().sample_bytes();
-    put_sample(&mut bytes[..size], &machine.conf().inputs, numbers);
+    let size = put_sample(bytes, &machine.conf().inputs, numbers);
     machine.offer(&bytes[..size]).unwrap();
 }
 

@@ -1,7 +1,10 @@
 use Rattle.std.proofs.Common.{ap, arith, ◌∙◌}
 use Rattle.pr_base.specs.Numbers.{bytes_of}
-use Rattle.pr_run.proofs.Bytes.{whole_number}
+use Rattle.pr_run.proofs.Bytes.{one_byte, whole_number}
 use Rattle.pr_run.proofs.feeding.put_number.Goals as goal
+
+pub returns-then-into-eq1 : goal.returns-then-into-eq1
+returns-then-into-eq1 c = one_byte c.args.into.now c.args.n c.byte_of.result (omega (arith, c.if-into-eq1.true)) c.byte_of.ensures
 
 pub returns : goal.returns
 returns c =
