@@ -62,7 +62,3 @@ last_read widths numbers i n used passed rest more last same h =
     ∙ first_line-end widths s passed (tail ++ more)
     ∙ ap (λ (t : Taken). first_or t (passed + 1) (tail ++ more) (first_line widths (fresh widths) (passed + 1) (tail ++ more))) lawful
     ∙ ap (λ k. Found (Lawful (slice_set numbers i n)) (passed + 1) (drop k rest ++ more)) (sym h.whole)
-
--- before any byte of a line
-pub scan_of-fresh : (widths numbers : List ℕ) (cursor : Cursor) → cursor.done ≡ 0 → cursor.phase ≡ Phase.Gap → scan_of widths numbers cursor ≡ fresh widths
-scan_of-fresh widths numbers cursor none gap = rw (none, gap) refl

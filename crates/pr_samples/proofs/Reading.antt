@@ -42,6 +42,11 @@ pub move_step : (f f' : Feed) (s s' : Scan) (file : List ℕ)
 move_step f f' s s' file h same bytes on =
     rw (same.widths, same.limit, same.most, bytes.place, bytes.tail, bytes.given) (IsReading-move _ _ _ _ _ _ _ _ _ _ _ _ _ h on)
 
+-- a feed of which only the numbers changed
+pub kept_step : (f f' : Feed) (file : List ℕ) → StandsFor f file → SameFile f f' → SameBytes f f' → f'.passed ≡ f.passed → pending_of f' ≡ pending_of f → StandsFor f' file
+kept_step f f' file h same bytes passed pending =
+    rw (same.widths, same.limit, same.most, bytes.place, bytes.tail, bytes.given, passed, pending) h
+
 -- a feed that meets a line
 pub found_step : (f f' : Feed) (s : Scan) (taken : Taken) (file : List ℕ)
     → IsReadBy f s file → SameFile f f' → SameBytes f f'

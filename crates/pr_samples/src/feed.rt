@@ -4,13 +4,16 @@ ghost use Rattle.pr_edge.specs.Files.{IsMissing, HasReadCause, IsPart};
 ghost use Rattle.pr_samples.specs.declared.tails.Tail.{Tail};
 ghost use Rattle.pr_samples.specs.declared.scan.Met.{Met};
 ghost use Rattle.pr_samples.specs.declared.scan.Phase.{Phase};
-ghost use Rattle.pr_samples.specs.Scan.{scan_of, first_line, begun, taken_of, met_first, whole_end, cut_end};
+ghost use Rattle.pr_samples.specs.Fed.{Lawful};
+ghost use Rattle.pr_samples.specs.Scan.{Found, fresh, scan_of, first_line, begun, taken_of, met_first, whole_end, cut_end};
 ghost use Rattle.pr_samples.specs.Got.{is_sample, given_by};
 
-use crate::scan::{Cursor, Met, Phase, START, met_cut, met_whole, read_part};
+use crate::items::front_line;
+use crate::scan::{Cursor, Met, Phase, START, met_cut, met_whole, read_lines};
 use crate::tails::Tail;
 use pr_base::{Cap, Num};
 use pr_edge::{Failed, Shelf};
+use pr_lanes::copy_row;
 use std::alloc::{AllocError, Global};
 
 /// The bytes of the buffer of a feed.
@@ -149,6 +152,29 @@ impl Feed {
         self.given
     }
 
+    /// Takes the line at the front, where it is a short number for each input with one space between two, and says whether it
+    /// is. The numbers are those of its sample then.
+    #[inline(always)]
+    fn take_front(&mut self) -> bool
+        ensures found { IsTrue result → (more : List ℕ) →
+            Found (Lawful self.new.numbers.items) self.new.passed (pending_of self.new ++ more)
+            ≡ first_line (widths_of self.old) (fresh (widths_of self.old)) self.old.passed (pending_of self.old ++ more) }
+        ensures passed { (result ≡ false) → self.new.passed ≡ self.old.passed }
+        ensures pending { (result ≡ false) → pending_of self.new ≡ pending_of self.old }
+        ensures file { SameFile self.old self.new }
+        ensures bytes { SameBytes self.old self.new }
+    {
+        let bytes = &self.buffer[self.start..self.end];
+        match front_line(&self.widths, &mut self.numbers, bytes) {
+            None => false,
+            Some(used) => {
+                self.start += used;
+                self.passed += 1;
+                true
+            }
+        }
+    }
+
     /// Reads the bytes of the buffer up to the first line that is not blank.
     fn meet(&mut self, cursor: Cursor) -> (Cursor, Option<Met>)
         requires { cursor.done + begun cursor.phase ≤ length (widths_of self.old) }
@@ -164,7 +190,7 @@ impl Feed {
         ensures bytes { SameBytes self.old self.new }
     {
         let bytes = &self.buffer[self.start..self.end];
-        let part = read_part(&self.widths, &mut self.numbers, cursor, self.passed, bytes);
+        let part = read_lines(&self.widths, &mut self.numbers, cursor, self.passed, bytes);
         self.start += part.used;
         self.passed = part.passed;
         (part.cursor, part.met)
@@ -196,6 +222,7 @@ impl Feed {
     }
 
     /// Answers the line that is over, of which the number is given.
+    #[inline(always)]
     fn settle(&mut self, met: Met, line: u64, into: &mut [Num]) -> Got
         requires into { length into.old ≡ length (widths_of self.old) }
         requires met { met ≢ Met.Skipped }
@@ -215,7 +242,7 @@ impl Feed {
                     return Got::Limit(Cap::Samples);
                 }
                 self.given += 1;
-                into.copy_from_slice(&self.numbers);
+                copy_row(into, &self.numbers);
                 Got::Sample
             }
             Met::Unlawful => Got::BadSample { line },
@@ -292,6 +319,44 @@ impl Feed {
         self.finish(cursor, into)
     }
 
+    /// Gives the next sample, whatever form its line has.
+    #[inline(never)]
+    fn next_line<S: Shelf>(&mut self, shelf: &mut S, into: &mut [Num]) -> Got
+        requires { length into.old ≡ length (widths_of self.old) }
+        ensures told { (file : List ℕ) → Tells (S.told shelf.old) (name_of self.old) file → StandsFor self.old file
+            → GivesNext result self.old self.new into.new file }
+        ensures seen { (bytes : List ℕ) → IsSeen (S.told shelf.old) bytes self.old
+            → ReadsOn (S.told shelf.old) bytes self.old self.new
+            (λ file. StandsFor self.old file → GivesNext result self.old self.new into.new file) }
+        ensures given { given_of self.new ≡ given_of self.old + given_by result }
+        ensures into { (is_sample result ≡ false) → into.new ≡ into.old }
+        ensures file { SameFile self.old self.new }
+        ensures cause { result ≡ Got.ReadFault
+            → HasReadCause (S.told shelf.old) (name_of self.old) (S.faults shelf.old) (S.faults shelf.new) }
+        ensures missing { IsMissing (S.told shelf.old) (name_of self.old) → reads_nothing self.old →
+            result ≡ Got.ReadFault }
+        ensures quiet { IsReady self.old → (S.faults shelf.new ≡ S.faults shelf.old) × (result ≢ Got.ReadFault) }
+        ensures later { S.faults shelf.old ≤ S.faults shelf.new }
+        ensures same { S.told shelf.new ≡ S.told shelf.old }
+        ensures reached { S.reach shelf.old (name_of self.old) ≡ Some (place_of self.old)
+            → S.reach shelf.new (name_of self.old) ≡ Some (place_of self.new) }
+        ensures others { (q : List ℕ) → q ≢ name_of self.old → S.reach shelf.new q ≡ S.reach shelf.old q }
+    {
+        let (cursor, met) = self.meet(START);
+        if let Some(met) = met {
+            return self.settle(met, self.passed, into);
+        }
+        if is_wrong(cursor) {
+            return Got::BadSample {
+                line: self.passed + 1,
+            };
+        }
+        if self.tail.is_open() {
+            return self.read_on(shelf, cursor, into);
+        }
+        self.finish(cursor, into)
+    }
+
     /// Gives the next sample: the numbers of the next line that is not blank, one for each input.
     ///
     /// It reads the file only where no such line stands whole in the bytes that it read before, and no further than up to a
@@ -325,19 +390,10 @@ impl Feed {
             → S.reach shelf.new (name_of self.old) ≡ Some (place_of self.new) }
         ensures others { (q : List ℕ) → q ≢ name_of self.old → S.reach shelf.new q ≡ S.reach shelf.old q }
     {
-        let (cursor, met) = self.meet(START);
-        if let Some(met) = met {
-            return self.settle(met, self.passed, into);
+        if self.take_front() {
+            return self.settle(Met::Lawful, self.passed, into);
         }
-        if is_wrong(cursor) {
-            return Got::BadSample {
-                line: self.passed + 1,
-            };
-        }
-        if self.tail.is_open() {
-            return self.read_on(shelf, cursor, into);
-        }
-        self.finish(cursor, into)
+        self.next_line(shelf, into)
     }
 
     /// Reads on to the end of the file, or past the limit of bytes: whether the file has more bytes than that.

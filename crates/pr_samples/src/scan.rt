@@ -4,7 +4,6 @@ ghost use Rattle.std.specs.Option.{SomeIff};
 ghost use Rattle.pr_samples.specs.Scan.{scan_of, step, first_line, begun, with_digit, finished, whole_end, cut_end, taken_of, taken_numbers, met_first};
 
 use crate::digits::{front_number, is_low};
-use crate::items::front_line;
 use pr_base::{GREATEST, Num};
 
 /// What stands at the end of the part of a line that was read.
@@ -265,7 +264,13 @@ pub struct Part {
 }
 
 /// Reads bytes line by line up to the first line that is not blank. The numbers are those of its sample then.
-fn read_lines(widths: &[u8], numbers: &mut [Num], cursor: Cursor, passed: u64, bytes: &[u8]) -> Part
+pub fn read_lines(
+    widths: &[u8],
+    numbers: &mut [Num],
+    cursor: Cursor,
+    passed: u64,
+    bytes: &[u8],
+) -> Part
     requires widths { All (λ w. w ≤ 128) widths.now }
     requires numbers { length numbers.old ≡ length widths.now }
     requires room { cursor.done + begun cursor.phase ≤ length widths.now }
@@ -308,53 +313,5 @@ fn read_lines(widths: &[u8], numbers: &mut [Num], cursor: Cursor, passed: u64, b
         met: None,
         passed,
         cursor,
-    }
-}
-
-/// Whether no byte of a line was read.
-fn is_fresh(cursor: Cursor) -> bool
-    ensures done { IsTrue result → cursor.done ≡ 0 }
-    ensures phase { IsTrue result → cursor.phase ≡ Phase.Gap }
-{
-    match cursor.phase {
-        Phase::Gap => cursor.done == 0,
-        Phase::Number(_) | Phase::Closed | Phase::Wrong => false,
-    }
-}
-
-/// Reads bytes up to the first line that is not blank: at once, where that stands at the front in the plainest form. The
-/// numbers are those of its sample then.
-#[inline(always)]
-pub fn read_part(
-    widths: &[u8],
-    numbers: &mut [Num],
-    cursor: Cursor,
-    passed: u64,
-    bytes: &[u8],
-) -> Part
-    requires widths { All (λ w. w ≤ 128) widths.now }
-    requires numbers { length numbers.old ≡ length widths.now }
-    requires room { cursor.done + begun cursor.phase ≤ length widths.now }
-    requires passed { passed + length bytes.now < 2 ^ 64 }
-    ensures bound { result.used ≤ length bytes.now }
-    ensures all { IfNone result.met (result.used ≡ length bytes.now) }
-    ensures met { IfSome result.met (λ met. met ≢ Met.Skipped) }
-    ensures first { (more : List ℕ) →
-        met_first widths.now result.met numbers.new (scan_of widths.now numbers.new result.cursor) result.passed (drop result.used bytes.now ++ more)
-        ≡ first_line widths.now (scan_of widths.now numbers.old cursor) passed (bytes.now ++ more) }
-    ensures passed { result.passed ≤ passed + result.used }
-    ensures room { result.cursor.done + begun result.cursor.phase ≤ length widths.now }
-{
-    if !is_fresh(cursor) {
-        return read_lines(widths, numbers, cursor, passed, bytes);
-    }
-    match front_line(widths, numbers, bytes) {
-        None => read_lines(widths, numbers, START, passed, bytes),
-        Some(used) => Part {
-            used,
-            met: Some(Met::Lawful),
-            passed: passed + 1,
-            cursor: START,
-        },
     }
 }

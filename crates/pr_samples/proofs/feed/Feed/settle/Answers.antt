@@ -26,4 +26,4 @@ returns-else-self-clause-told c = λ file h.
     let f = c.args.self.now in
     let room : f.given < f.most = omega (arith, f.few, c.if-self.false) in
     let met = IsMeeting-sample _ _ _ _ _ _ _ _ _ f.numbers.items _ (rw c.in-Lawful.is at h) room in
-    record { sample = met.0 ∙ ap Some (sym (c.copy_from_slice.ensures.after ∙ c.deref.ensures.value)); stands = met.1 }
+    record { sample = met.0 ∙ ap Some (sym (c.copy_row.ensures ∙ c.deref.ensures.value)); stands = met.1 }
