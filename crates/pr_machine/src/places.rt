@@ -259,7 +259,7 @@ fn step_line<const N: usize, const P: usize>(
         return;
     }
     step_ring(&mut places[..live], conf, 0, buffers, valid);
-    step_at(places, conf, 0, places.len() - 1, buffers, valid);
+    step_below(places, conf, 0, places.len() - 1, buffers, valid);
 }
 
 /// Each place computes, but that of the cycle's event where every cycle has one.

@@ -92,6 +92,7 @@ impl Queue {
     /// # Errors
     ///
     /// `Full` exactly where 16 pieces wait; the queue is then as it was.
+    #[inline(always)]
     pub fn put(&mut self, piece: &[u8]) -> Result<(), Full>
         requires { length piece.now ≡ self.old.size }
         ensures full { IsErr result ↔ (length self.old.waiting ≡ 16) }

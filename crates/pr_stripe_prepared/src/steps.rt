@@ -85,6 +85,7 @@ pub fn step(
 }
 
 /// A step that reads a sample with zeros behind it, and passes on zeros.
+#[inline(always)]
 fn wide_step(
     q: &Prepared,
     registers: &mut [u8],
@@ -111,6 +112,7 @@ fn wide_step(
 }
 
 /// A sample with zeros behind it, up to so many bytes.
+#[inline(always)]
 fn padded<const LONG: usize>(bus: &[u8]) -> [u8; LONG]
     requires { length bus.now ≤ LONG }
     ensures long { length result ≡ LONG }
