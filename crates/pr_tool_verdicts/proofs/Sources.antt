@@ -1,5 +1,5 @@
 -- A file is good for what it is read as, or it is refused; and so a source gives a configuration, or is refused.
-use Rattle.std.proofs.Common.{◌≡◌, ◌⊎◌, ◌==◌, ◌<◌, ◌≤◌, ℕ, Bool, true, false, if◌then◌else◌, Option, Some, None, List, length, slice_index, inl, inr, refl, arith}
+use Rattle.std.proofs.Common.{◌≡◌, ◌⊎◌, ◌==◌, ◌≤◌, ℕ, Bool, true, false, if◌then◌else◌, Option, Some, None, List, length, slice_index, inl, inr, refl, arith}
 use Rattle.std.proofs.lemmas.Bool.{cases_lt}
 use Rattle.pr_base.specs.declared.caps.Cap.{Cap}
 use Rattle.pr_base.specs.Fabrics.{columns, registers}
@@ -10,7 +10,7 @@ use Rattle.pr_code.specs.Fabrics.{names_wide}
 use Rattle.pr_code.specs.Reading.{words_of_bytes}
 use Rattle.pr_code.specs.Marks.{IsMark, bad_mark, count_read, shape_marked}
 use Rattle.pr_code.specs.Rules.{format_of, bad_word, shape_read}
-use Rattle.pr_code.proofs.FileLemmas.{file_sound, file_of, widest_of}
+use Rattle.pr_code.proofs.FileLemmas.{AreBytes, file_sound, file_of, widest_of}
 use Rattle.pr_code.proofs.MarkLemmas.{mark_sound}
 use Rattle.pr_compile_front.specs.Refusals.{HasWidths}
 use Rattle.pr_compile.specs.Configured.{IsCompiled}
@@ -67,26 +67,26 @@ bounds : (b : Bool) → Bounds (if b then 32 else 16) (if b then 16 else 8)
 bounds true = record { n1 = omega arith; n64 = omega arith; p2 = omega arith; p16 = omega arith }
 bounds false = record { n1 = omega arith; n64 = omega arith; p2 = omega arith; p16 = omega arith }
 
-file_read : (N P : ℕ) (bytes : List ℕ) → Bounds N P → ((i : ℕ) → slice_index bytes i < 256) → bad_word N P bytes ≡ None → IsFile N P (shape_read N bytes) bytes
+file_read : (N P : ℕ) (bytes : List ℕ) → Bounds N P → AreBytes bytes → bad_word N P bytes ≡ None → IsFile N P (shape_read N bytes) bytes
 unfolding bad_word shape_read
 file_read N P bytes b fits none =
     let first = slice_index (words_of_bytes bytes) 0 == format_1.mark in
     file_of first N P (shape_read N bytes) bytes (file_sound (format_of bytes) N P bytes b.n1 b.n64 b.p2 b.p16 (widest_of first) fits none).file
 
-loadable_or : (bytes : List ℕ) → ((i : ℕ) → slice_index bytes i < 256) → GoodOr (λ text. IsLoadable (columns_of text) (registers_of text) (configuration_in text) text) IsBadConfiguration bytes
+loadable_or : (bytes : List ℕ) → AreBytes bytes → GoodOr (λ text. IsLoadable (columns_of text) (registers_of text) (configuration_in text) text) IsBadConfiguration bytes
 loadable_or bytes fits = elim (cases_option (broken_in bytes)) [
   | inl none ↦ inl (record { columns = refl; registers = refl; good = none; read = refl; is = file_read (columns_of bytes) (registers_of bytes) bytes (bounds (names_wide bytes)) fits none })
   | inr broken ↦ inr (broken_answer broken.0, record { word = broken.0; first = broken.1; answers = refl })
 ]
 
-mark_read : (N P : ℕ) (bytes : List ℕ) → Bounds N P → ((i : ℕ) → slice_index bytes i < 256) → bad_mark N P bytes ≡ None → IsMark N P (count_read bytes) (shape_marked N bytes) bytes
+mark_read : (N P : ℕ) (bytes : List ℕ) → Bounds N P → AreBytes bytes → bad_mark N P bytes ≡ None → IsMark N P (count_read bytes) (shape_marked N bytes) bytes
 unfolding shape_marked
 mark_read N P bytes b fits none = mark_sound N P bytes b.n1 b.n64 b.p2 b.p16 fits none
 
 abbrev pub IsMarkOf : List ℕ → Type 0
 IsMarkOf bytes = IsResumable (columns_of (file_in bytes)) (registers_of (file_in bytes)) (count_read bytes) (shape_marked (columns_of (file_in bytes)) bytes) bytes
 
-pub resumable_or : (bytes : List ℕ) → ((i : ℕ) → slice_index bytes i < 256) → GoodOr IsMarkOf IsBadMark bytes
+pub resumable_or : (bytes : List ℕ) → AreBytes bytes → GoodOr IsMarkOf IsBadMark bytes
 resumable_or bytes fits = elim (cases_option (broken_mark bytes)) [
   | inl none ↦ inl (record { columns = refl; registers = refl; good = none; counted = refl; read = refl; is = mark_read (columns_of (file_in bytes)) (registers_of (file_in bytes)) bytes (bounds (names_wide (file_in bytes))) fits none })
   | inr broken ↦ inr (broken_answer broken.0, record { word = broken.0; first = broken.1; answers = refl })
