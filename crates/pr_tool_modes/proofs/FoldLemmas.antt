@@ -1,5 +1,5 @@
 -- From a run whose results are dropped to its checkpoint.
-use Rattle.std.proofs.Common.{◌≡◌, ◌≤◌, ◌<◌, ◌+◌, ◌∙◌, ℕ, List, length, refl, sym, ap, subst, arith}
+use Rattle.std.proofs.Common.{◌≡◌, ◌≤◌, ◌<◌, ◌+◌, ◌∙◌, ℕ, List, length, subst}
 use Rattle.std.proofs.lemmas.List.{length-map}
 use Rattle.pr_base.specs.Rows.{row_bytes}
 use Rattle.pr_code.specs.Marks.{IsMark}

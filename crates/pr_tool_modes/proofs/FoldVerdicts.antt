@@ -1,13 +1,11 @@
 -- What comes of a configuration that is run for its checkpoint, and the verdict on it.
-use Rattle.std.proofs.Common.{◌≡◌, ◌≢◌, ◌⊎◌, ◌≤◌, ◌+◌, ◌∙◌, ℕ, Bool, List, true, false, length, Option, Some, None, refl, sym, ap, subst, arith, inl, inr, true≢false}
+use Rattle.std.proofs.Common.{◌≡◌, ◌≢◌, ◌≤◌, ◌∙◌, ℕ, Bool, List, true, false, Option, Some, None, refl, sym, ap, subst, arith, inl, inr, true≢false}
 use Rattle.pr_edge.specs.Count.{Rose}
 use Rattle.pr_edge.specs.Files.{Told, IsMissing, HasReadCause}
 use Rattle.pr_edge.specs.Tape.{Appends, AppendsFront}
-use Rattle.pr_code.specs.Marks.{IsMark}
 use Rattle.pr_conf.specs.Shape.{Shape}
-use Rattle.pr_conf.specs.After.{conf_after}
 use Rattle.pr_move.specs.Untold.{untold}
-use Rattle.pr_samples.specs.Fed.{Fed, Ending, End, BadSample, Limit}
+use Rattle.pr_samples.specs.Fed.{Fed, End, BadSample, Limit}
 use Rattle.pr_samples.specs.Feed.{Tells}
 use Rattle.pr_run.specs.Setting.{View}
 use Rattle.pr_tool_answers.specs.declared.answers.Answer.{Answer}
@@ -17,15 +15,15 @@ use Rattle.pr_tool_modes.specs.declared.loadables.Loadable.{Loadable}
 use Rattle.pr_tool_modes.specs.Calls.{Call, call}
 use Rattle.pr_tool_modes.specs.Executions.{IsRunVerdict}
 use Rattle.pr_tool_modes.specs.Jobs.{Job, Resumption, resumed, first_of, IsNoStall, IsNeither}
-use Rattle.pr_tool_modes.specs.Runs.{Course, course, HasAll}
-use Rattle.pr_tool_modes.specs.Samples.{fed_at_most, ended_by, samples_verdict, pieces}
+use Rattle.pr_tool_modes.specs.Runs.{Course, course}
+use Rattle.pr_tool_modes.specs.Samples.{fed_at_most, samples_verdict}
 use Rattle.pr_tool_modes.specs.Sources.{Gives, count_in, most_in, columns_in, registers_in, shape_in}
 use Rattle.pr_tool_modes.specs.Stalls.{HasStall, after_stall}
 use Rattle.pr_tool_modes.specs.Texts.{IsPut}
 use Rattle.pr_tool_modes.specs.Resumptions.{IsMoveVerdict}
-use Rattle.pr_tool_modes.specs.Folds.{mark_after, HasMarked, HasEnded, IsUnmarked, HasRunFor, IsUnfolded, IsMarkPut, IsFoldOf, HasNoFold, IsFoldEnd, HasFolded, IsFolded, HasExtended, HasWrittenMark, AreMarkBytes, AreExtendedBytes}
+use Rattle.pr_tool_modes.specs.Folds.{mark_after, HasMarked, IsUnmarked, HasRunFor, IsMarkPut, IsFoldOf, IsFoldEnd, HasFolded, IsFolded, HasExtended, HasWrittenMark, AreMarkBytes, AreExtendedBytes}
 use Rattle.pr_tool_modes.proofs.FileLemmas.{rose_earlier}
-use Rattle.pr_tool_modes.proofs.ReasonLemmas.{refuses, IsKind, kind_never, kind_fault}
+use Rattle.pr_tool_modes.proofs.ReasonLemmas.{IsKind, kind_never, kind_fault}
 use Rattle.pr_tool_modes.proofs.RunVerdicts.{later_refusal, passes_stall, file_end, last_owed, refused_owed, refusal_is, untold_rose}
 
 -- ---- the parts

@@ -1,8 +1,6 @@
 -- From a run over texts in memory to what is told of it.
 use Rattle.std.proofs.Common.{◌≡◌, ◌⊎◌, ◌≤◌, ◌<◌, ◌∙◌, ℕ, true, List, [], length, map, vec_len, Option, Some, None, refl, sym, ap, subst, arith, inl, inr}
 use Rattle.std.proofs.lemmas.List.{length-map}
-use Rattle.pr_base.specs.Fabrics.{columns, registers}
-use Rattle.pr_base.specs.declared.caps.Cap.{Cap}
 use Rattle.pr_base.specs.Rows.{row_bytes, written}
 use Rattle.pr_compile.specs.Configured.{HasUnits}
 use Rattle.pr_conf.specs.declared.configurations.Configuration.{Configuration}
@@ -31,15 +29,12 @@ use Rattle.pr_tool_modes.specs.declared.executions.Ran.{Ran}
 use Rattle.pr_tool_modes.specs.Executions.{bench_in, IsRunOn, IsRunOf, HasCome}
 use Rattle.pr_tool_modes.specs.Generations.{Generation, generated, program_file, job_for, summary, Tells, TellsOn, IsUntold, HasGenerated, IsGenVerdict}
 use Rattle.pr_tool_modes.specs.Lines.{HasRunOn, OnBench, IsWholeRun, MeansLines}
-use Rattle.pr_tool_modes.specs.Programs.{IsCounted, IsUncompiled}
-use Rattle.pr_tool_modes.specs.Files.{IsFileRefusal}
+use Rattle.pr_tool_modes.specs.Programs.{IsCounted}
 use Rattle.pr_tool_modes.specs.Samples.{fed_in, pieces}
-use Rattle.pr_tool_modes.specs.Stalls.{HasStall, IsStallRefusal}
-use Rattle.pr_tool_modes.specs.Sources.{Text, Gives, columns_in, registers_in, shape_in, IsOnFabric, IsRefusedSource}
+use Rattle.pr_tool_modes.specs.Stalls.{HasStall}
+use Rattle.pr_tool_modes.specs.Sources.{Gives, columns_in, registers_in, shape_in, IsOnFabric}
 use Rattle.pr_tool_modes.proofs.LinesLemmas.{program_lines}
 use Rattle.pr_tool_modes.proofs.RunVerdicts.{come_of, run_owed}
-use Rattle.pr_tool_modes.proofs.SourceLemmas.{source_owed, source_kind}
-use Rattle.pr_tool_modes.proofs.ReasonLemmas.{kind_never}
 
 -- ---- the summary
 -- the stages that a machine tells are those of its configuration

@@ -10,7 +10,6 @@ use Rattle.pr_run_script.specs.Script.{Held}
 use Rattle.pr_run.specs.Setting.{View}
 use Rattle.pr_samples.specs.Fed.{Ending, End, BadSample, Limit}
 use Rattle.pr_tool_answers.specs.declared.answers.Answer.{Answer}
-use Rattle.pr_tool_modes.specs.declared.benches.Bench.{Bench}
 use Rattle.pr_tool_modes.specs.declared.loadables.Loadable.{Loadable}
 use Rattle.pr_tool_modes.specs.Calls.{Call}
 use Rattle.pr_tool_modes.specs.Executions.{IsLater, IsRunRefusal}

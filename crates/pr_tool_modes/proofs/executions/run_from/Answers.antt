@@ -1,4 +1,4 @@
-use Rattle.std.proofs.Common.{ap₂, sym, subst, inr}
+use Rattle.std.proofs.Common.{sym, subst, inr}
 use Rattle.pr_run.specs.Setting.{view}
 use Rattle.pr_tool_answers.specs.declared.answers.Answer.{Answer}
 use Rattle.pr_tool_modes.specs.declared.benches.Bench.{Bench}

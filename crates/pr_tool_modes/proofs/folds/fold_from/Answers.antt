@@ -1,4 +1,4 @@
-use Rattle.std.proofs.Common.{◌≡◌, List, ℕ, subst, inl}
+use Rattle.std.proofs.Common.{List, ℕ, subst, inl}
 use Rattle.pr_run.specs.Setting.{view}
 use Rattle.pr_tool_modes.specs.Calls.{call}
 use Rattle.pr_tool_modes.specs.Jobs.{job_on, IsNoStall}
