@@ -111,19 +111,50 @@ fn wide_step(
     step(q, registers, state, wide, zeros, count);
 }
 
-/// A sample with zeros behind it, up to so many bytes.
+/// Puts a sample at the front of zeros.
 #[inline(always)]
-fn padded<const LONG: usize>(bus: &[u8]) -> [u8; LONG]
-    requires { length bus.now ≤ LONG }
-    ensures long { length result ≡ LONG }
-    ensures bytes { result ≡ bus.now ++ replicate (LONG - length bus.now) 0 }
+fn pad<const LONG: usize>(wide: &mut [u8; LONG], bus: &[u8])
+    requires room { length bus.now ≤ LONG }
+    requires zeros { wide.old ≡ replicate LONG 0 }
+    ensures long { length wide.new ≡ LONG }
+    ensures bytes { wide.new ≡ bus.now ++ replicate (LONG - length bus.now) 0 }
 {
-    let mut wide = [0; LONG];
     copy_row(&mut wide[..bus.len()], bus);
-    wide
+}
+
+/// The step of a first stage that has more registers than the base fabric, or reads a longer sample.
+#[inline(never)]
+fn far_step(
+    q: &Prepared,
+    registers: &mut [u8],
+    state: &mut [u8],
+    bus: &[u8],
+    zeros: &[u8],
+    count: usize,
+)
+    requires few { count ≤ 15 }
+    requires registers { length registers.old ≡ count * 16 }
+    requires zeros { zeros.now ≡ replicate (count * 16) 0 }
+    requires long { length zeros.now ≡ count * 16 }
+    requires marks { vec_len q.now.marks ≡ count * 16 }
+    requires reach { q.now.reach ≡ count * 16 }
+    requires state { length state.old ≡ 16 }
+    ensures registers { (pes : List Pe) → IsPrepared q.now pes count
+        → registers.new ≡ registers_to count 16 true pes (made_from 16 bus.now state.old [] pes) bus.now }
+    ensures state { (pes : List Pe) → IsPrepared q.now pes count → state.new ≡ state_map 16 pes state.old bus.now }
+{
+    // Of 240 bytes is the longest row.
+    if bus.len() < 240 {
+        let mut wide = [0; 240];
+        pad(&mut wide, bus);
+        wide_step(q, registers, state, &wide, zeros, count);
+        return;
+    }
+    wide_step(q, registers, state, bus, zeros, count);
 }
 
 /// The step of a first stage, which reads a sample, and passes on zeros.
+#[inline(always)]
 pub fn first_step(
     q: &Prepared,
     registers: &mut [u8],
@@ -143,14 +174,12 @@ pub fn first_step(
         → registers.new ≡ registers_to count 16 true pes (made_from 16 bus.now state.old [] pes) bus.now }
     ensures state { (pes : List Pe) → IsPrepared q.now pes count → state.new ≡ state_map 16 pes state.old bus.now }
 {
-    // Of 112 bytes is a row of the base fabric, and of 240 the longest one.
+    // Of 112 bytes is a row of the base fabric.
     if q.reach.max(bus.len()) <= 112 {
-        wide_step(q, registers, state, &padded::<112>(bus), zeros, count);
+        let mut wide = [0; 112];
+        pad(&mut wide, bus);
+        wide_step(q, registers, state, &wide, zeros, count);
         return;
     }
-    if bus.len() < 240 {
-        wide_step(q, registers, state, &padded::<240>(bus), zeros, count);
-        return;
-    }
-    wide_step(q, registers, state, bus, zeros, count);
+    far_step(q, registers, state, bus, zeros, count);
 }

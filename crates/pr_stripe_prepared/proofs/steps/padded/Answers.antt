@@ -1,5 +1,0 @@
-use Rattle.pr_stripe_prepared.proofs.PadLaws.{front_padded}
-use Rattle.pr_stripe_prepared.proofs.steps.padded.Goals as goal
-
-pub returns-clause-bytes : goal.returns-clause-bytes
-returns-clause-bytes g c = front_padded g.row.LONG c.args.bus.now _ c.copy_row.ensures
