@@ -191,6 +191,7 @@ impl<const N: usize, const P: usize> Machine<N, P, Running> {
 
     /// One cycle. Where the last stage would compute a valid row while 16 results wait, the cycle is stalled: it answers
     /// `advanced` false and changes nothing.
+    #[inline(always)]
     pub fn cycle(&mut self) -> Turn
         requires { time_of self.old < 2 ^ 63 }
         ensures stands { (c : Shape) (p : ℕ) (h : History) → Stands self.old c p h →

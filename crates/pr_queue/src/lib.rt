@@ -115,6 +115,7 @@ impl Queue {
     /// # Errors
     ///
     /// `Empty` exactly where no piece waits; the queue and the buffer are then as they were.
+    #[inline(always)]
     pub fn get(&mut self, into: &mut [u8]) -> Result<(), Empty>
         requires { length into.old ≡ self.old.size }
         ensures empty { IsErr result ↔ (self.old.waiting ≡ []) }

@@ -142,6 +142,7 @@ fn read_sample<const N: usize, const P: usize, S: Shelf>(
 /// Reads a sample and offers it, unless the input side is held, the samples have ended or the queue is full.
 ///
 /// It gives the feed's last answer, which was `last`; a sample says that more may follow.
+#[inline(always)]
 pub fn feed_step<const N: usize, const P: usize, S: Shelf>(
     machine: &mut Machine<N, P, Running>,
     feed: &mut Feed,

@@ -362,6 +362,7 @@ impl Feed {
     /// It reads the file only where no such line stands whole in the bytes that it read before, and no further than up to a
     /// byte at which a line is bad. `into` is left as it was where no sample is given. A feed that answered otherwise than
     /// with a sample has nothing more to give.
+    #[inline(always)]
     pub fn next<S: Shelf>(&mut self, shelf: &mut S, into: &mut [Num]) -> Got
         requires { length into.old ≡ length (widths_of self.old) }
 

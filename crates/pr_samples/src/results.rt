@@ -115,6 +115,7 @@ fn put_short<K: Sink>(sink: &mut K, n: u64) -> Result<(), WriteFault>
 ///
 /// The bytes are those of all outputs, the least of each first. The sink is given the line in one piece, unless it has
 /// more than 64 outputs. Where the sink fails, the first bytes of the line were written.
+#[inline(always)]
 pub fn put_result<K: Sink>(sink: &mut K, widths: &[u8], bytes: &[u8]) -> Result<(), WriteFault>
     requires widths { All (λ w. (1 ≤ w) × (w ≤ 128)) widths.now }
     requires bytes { length bytes.now ≡ sum_by slices_of widths.now }
