@@ -8,7 +8,7 @@ mod plans;
 mod tool;
 
 pub use laws::answer_law;
-pub use notes::{Bounds, put_note};
+pub use notes::{Bounds, note_line, put_note};
 pub use pr_base::Cap;
 pub use pr_tool_answers::{Answer, Cause};
 pub use pr_tool_modes::Bench;

@@ -128,6 +128,19 @@ fn put_answer(text: &mut Line, bounds: &Bounds, answer: &Answer)
     }
 }
 
+/// The line of an answer; Ok has none.
+pub fn note_line(bounds: &Bounds, answer: &Answer) -> ArrayString<128>
+    ensures { result.bytes ≡ note_of bounds.now answer.now }
+{
+    let mut text = Line::new();
+    if let Answer::Ok = answer {
+        return text;
+    }
+    put_answer(&mut text, bounds, answer);
+    text.push_str("\n");
+    text
+}
+
 /// Writes the line of an answer that is not Ok. It takes no memory, and a failure of it is of no account.
 pub fn put_note<E: Sink>(note: &mut E, bounds: &Bounds, answer: &Answer)
     ensures gains { GainsNote (E.told note.old) (E.told note.new) (E.faults note.old) (E.faults note.new)
@@ -137,9 +150,7 @@ pub fn put_note<E: Sink>(note: &mut E, bounds: &Bounds, answer: &Answer)
     if let Answer::Ok = answer {
         return;
     }
-    let mut text = Line::new();
-    put_answer(&mut text, bounds, answer);
-    text.push_str("\n");
+    let text = note_line(bounds, answer);
     put_bytes(note, text.as_bytes());
 }
 
