@@ -1,3 +1,5 @@
 mod OrderLemmas
 mod CallLemmas
+mod TextLemmas
+mod ProgramLemmas
 mod LogLemmas

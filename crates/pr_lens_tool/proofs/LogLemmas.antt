@@ -1,20 +1,14 @@
 -- What is said of the bytes that were read of a file.
-use Rattle.std.proofs.Common.{◌≡◌, ℕ, List, Option, Some, None, IfSome, subst}
-use Rattle.pr_edge.specs.Files.{Told, OfFile}
+use Rattle.std.proofs.Common.{◌≤◌, ℕ, List, length}
+use Rattle.pr_edge.specs.Files.{Told}
+use Rattle.pr_tool_modes.specs.Files.{IsText}
 use Rattle.pr_lens_log.specs.declared.logs.Log.{Log}
 use Rattle.pr_lens_log.specs.Logs.{IsBadAt, IsLogOf}
-use Rattle.pr_lens_tool.specs.Outcomes.{IsLogText, HasLog, HasBadLine}
+use Rattle.pr_lens_tool.specs.Logs.{HasLog, HasBadLine, most_log_bytes}
 
-of_some : (found : Option (List ℕ)) (bytes : List ℕ) (P : List ℕ → Type 0) → IfSome found (λ file. bytes ≡ file) → P bytes → IfSome found P
-of_some None bytes P read holds = tt
-of_some (Some file) bytes P read holds = subst P read holds
+module _ (told : Told) (name bytes : List ℕ) where
+  pub has_log : (log : Log) → IsText told name bytes → length bytes ≤ most_log_bytes → IsLogOf bytes log → HasLog told name log
+  has_log log file short is = record { text = bytes; file = file; short = short; is = is }
 
-of_read : (told : Told) (name bytes : List ℕ) (P : List ℕ → Type 0) → OfFile told name (λ file. bytes ≡ file) → P bytes → OfFile told name P
-of_read None name bytes P read holds = tt
-of_read (Some files) name bytes P read holds = of_some (files name) bytes P read holds
-
-pub has_log : (told : Told) (name bytes : List ℕ) (log : Log) → OfFile told name (λ file. bytes ≡ file) → IsLogOf bytes log → HasLog told name
-has_log told name bytes log read is = of_read told name bytes IsLogText read (record { log = log; is = is })
-
-pub has_bad_line : (told : Told) (name bytes : List ℕ) (line : ℕ) → OfFile told name (λ file. bytes ≡ file) → IsBadAt bytes line → HasBadLine told name line
-has_bad_line told name bytes line read bad = of_read told name bytes (λ file. IsBadAt file line) read bad
+  pub has_bad_line : (line : ℕ) → IsText told name bytes → length bytes ≤ most_log_bytes → IsBadAt bytes line → HasBadLine told name line
+  has_bad_line line file short bad = record { text = bytes; file = file; short = short; is = bad }

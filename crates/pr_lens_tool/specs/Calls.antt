@@ -8,7 +8,9 @@ use Rattle.pr_lens_tool.specs.declared.orders.Task.TheVariants.{Program, Log}
 use Rattle.pr_lens_tool.specs.declared.outcomes.Outcome.{Outcome}
 use Rattle.pr_lens_tool.specs.declared.outcomes.Outcome.TheVariants.{Plain, Usage}
 use Rattle.pr_lens_tool.specs.Orders.{Asked}
-use Rattle.pr_lens_tool.specs.Outcomes.{IsToldOf, IsUntold, HasLog, IsNoLog, IsWritten}
+use Rattle.pr_lens_tool.specs.Outcomes.{IsWritten, help_text}
+use Rattle.pr_lens_tool.specs.Programs.{IsToldOf, IsUntold}
+use Rattle.pr_lens_tool.specs.Logs.{IsDrawing, IsNoLog}
 
 -- the files that are told, the counts of faults of the shelf before and after, what the sink tells before and after, and the
 -- counts of faults of the sink
@@ -33,12 +35,12 @@ call told reads_before reads_now old new writes_before writes_now = record {
 }
 
 -- ---- what is made for an order
-abbrev pub IsMadeFor : Task → Told → Asked → Outcome → Type 0
-IsMadeFor (Program question) told order outcome = IsToldOf question told order outcome
-IsMadeFor (Log drawing) told order outcome = (outcome ≡ Plain Answer.Ok) × HasLog told order.file
+abbrev pub IsMadeFor : Task → Told → Asked → Outcome → List ℕ → Type 0
+IsMadeFor (Program question) told order outcome written = IsToldOf question told order outcome written
+IsMadeFor (Log drawing) told order outcome written = (outcome ≡ Plain Answer.Ok) × IsDrawing drawing told order.file written
 
-abbrev pub IsMade : Told → Asked → Outcome → Type 0
-IsMade told order outcome = IsMadeFor order.task told order outcome
+abbrev pub IsMade : Told → Asked → Outcome → List ℕ → Type 0
+IsMade told order outcome written = IsMadeFor order.task told order outcome written
 
 -- an answer of `piperench`
 abbrev pub IsPlain : (Answer → Type 0) → Outcome → Type 0
@@ -58,7 +60,7 @@ IsUnmade told order before now outcome = IsUnmadeFor order.task told order befor
 pub record Writes (order : Asked) (c : Call) (result : Outcome) : Type 0 where
   pub text : List ℕ
   pub outcome : Outcome
-  pub made : IsMade c.told order outcome
+  pub made : IsMade c.told order outcome text
   pub written : IsWritten c.old c.new c.writes_before c.writes_now text outcome result
 
 -- nothing is written
@@ -75,9 +77,8 @@ pub record EndsWith (outcome : Outcome) (c : Call) (result : Outcome) : Type 0 w
   pub same : c.new ≡ c.old
 
 -- the help is written
-pub record Helps (c : Call) (result : Outcome) : Type 0 where
-  pub text : List ℕ
-  pub written : IsWritten c.old c.new c.writes_before c.writes_now text (Plain Answer.Ok) result
+abbrev pub Helps : Call → Outcome → Type 0
+Helps c result = IsWritten c.old c.new c.writes_before c.writes_now help_text (Plain Answer.Ok) result
 
 abbrev pub IsCalled : Option Asked → Call → Outcome → Type 0
 IsCalled (Some order) c result = IsFollowed order c result ⊎ EndsWith (Plain Answer.Memory) c result

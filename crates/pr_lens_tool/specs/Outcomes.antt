@@ -1,26 +1,13 @@
 -- What a call comes to.
-use Rattle.std.specs.Prelude.{◌≡◌, ◌<◌, ◌≤◌, ◌⊎◌, ⊤, ℕ, Bool, List, [], ◌++◌, codes, decimal, length}
-use Rattle.pr_base.specs.Fabrics.{columns, registers}
-use Rattle.pr_base.specs.Limits.{most_program_bytes}
+use Rattle.std.specs.Prelude.{◌≡◌, ◌⊎◌, ℕ, List, [], ◌++◌, codes, decimal}
 use Rattle.pr_edge.specs.Count.{Rose}
-use Rattle.pr_edge.specs.Files.{Told, HasReadCause, OfFile}
 use Rattle.pr_edge.specs.Tape.{Tape, Appends, AppendsFront}
 use Rattle.pr_tool_answers.specs.declared.answers.Answer.{Answer}
 use Rattle.pr_tool_answers.specs.Statuses as answers
-use Rattle.pr_tool_modes.specs.Files.{IsText}
-use Rattle.pr_tool_modes.specs.Programs.{IsUncompiled, IsNotCompiled}
 use Rattle.pr_tool.specs.Notes.{note_of}
-use Rattle.pr_lens_why.specs.Verdicts.{HasConfiguration}
-use Rattle.pr_lens_graph.specs.declared.layouts.Layout.{Layout}
-use Rattle.pr_lens_graph.specs.Layouts.{IsLayout}
-use Rattle.pr_lens_log.specs.declared.logs.Log.{Log}
-use Rattle.pr_lens_log.specs.Logs.{IsBadAt, IsLogOf}
-use Rattle.pr_lens_tool.specs.declared.orders.Question.{Question}
-use Rattle.pr_lens_tool.specs.declared.orders.Question.TheVariants.{Why, Cost, Graph}
 use Rattle.pr_lens_tool.specs.declared.outcomes.Outcome.{Outcome}
 use Rattle.pr_lens_tool.specs.declared.outcomes.Outcome.TheVariants.{Plain, Explained, Usage, BadLog, LongLog}
 use Rattle.pr_lens_tool.specs.declared.outcomes.Reply.{Reply}
-use Rattle.pr_lens_tool.specs.Orders.{Asked}
 
 -- the status with which the process ends
 abbrev pub status_of : Outcome → ℕ
@@ -44,61 +31,20 @@ line_by reply LongLog = codes "limit: log-bytes 16777216\n"
 abbrev pub line_of : Reply → List ℕ
 line_of reply = line_by reply reply.outcome
 
--- ---- programs
--- a text has units with stages
-pub record HasLayout (N P : ℕ) (narrowed : Bool) (text : List ℕ) : Type 0 where
-  pub layout : Layout
-  pub is : IsLayout N P narrowed text layout
-
--- a text has a configuration, or it is explained why `piperench` refuses it
-abbrev pub IsSaid : ℕ → ℕ → Bool → List ℕ → Outcome → Type 0
-IsSaid N P narrowed text (Explained answer) = IsUncompiled N P narrowed text answer
-IsSaid N P narrowed text outcome = (outcome ≡ Plain Answer.Ok) × HasConfiguration N P narrowed text
-
--- what is told of a text that is asked so
-abbrev pub IsTold : Question → ℕ → ℕ → Bool → List ℕ → Outcome → Type 0
-IsTold Why N P narrowed text outcome = IsSaid N P narrowed text outcome
-IsTold Cost N P narrowed text outcome = (outcome ≡ Plain Answer.Ok) × HasConfiguration N P narrowed text
-IsTold Graph N P narrowed text outcome = (outcome ≡ Plain Answer.Ok) × HasLayout N P narrowed text
-
--- the same of the program of a file
-pub record IsToldOf (question : Question) (told : Told) (order : Asked) (outcome : Outcome) : Type 0 where
-  pub text : List ℕ
-  pub file : IsText told order.file text
-  pub short : length text ≤ most_program_bytes
-  pub is : IsTold question (columns order.fabric) (registers order.fabric) order.narrowed text outcome
-
--- why nothing is told of it, as `piperench` refuses it
-abbrev pub IsUntold : Told → Asked → ℕ → ℕ → Answer → Type 0
-IsUntold told order before now answer = IsNotCompiled (columns order.fabric) (registers order.fabric) order.narrowed told order.file before now answer
-
--- ---- logs
--- the bytes of a log, at most
-abbrev pub most_log_bytes : ℕ
-most_log_bytes = 16777216
-
--- a text is that of a log
-pub record IsLogText (text : List ℕ) : Type 0 where
-  pub log : Log
-  pub is : IsLogOf text log
-
--- the file has the text of a log
-abbrev pub HasLog : Told → List ℕ → Type 0
-HasLog told name = OfFile told name IsLogText
-
--- the file has the text of no log, by this line
-abbrev pub HasBadLine : Told → List ℕ → ℕ → Type 0
-HasBadLine told name line = OfFile told name (λ file. IsBadAt file line)
-
--- why nothing is drawn of the log of a file
-abbrev pub IsNoLog : Told → List ℕ → ℕ → ℕ → Outcome → Type 0
-IsNoLog told name before now (Plain Answer.ReadFault) = HasReadCause told name before now
-IsNoLog told name before now (Plain Answer.Memory) = ⊤
-IsNoLog told name before now (BadLog line) = HasBadLine told name line
-IsNoLog told name before now LongLog = OfFile told name (λ file. most_log_bytes < length file)
-IsNoLog told name before now outcome = ⊥
-
 -- ---- what is written
+-- the help
+unfoldable pub help_text : List ℕ
+help_text =
+    codes "pipelens looks at programs and runs of piperench\n\nusage: pipelens TASK FILE [--fabric F] [--narrow] [--samples N]\n\n"
+    ++ codes "  why PROGRAM    where and why a program is refused, and what to do\n"
+    ++ codes "  cost PROGRAM   equations, units and stages, and cycles by stripes\n"
+    ++ codes "  graph PROGRAM  the units by stage with their wires, for Graphviz\n"
+    ++ codes "  wave LOG       the log of `piperench trace` as a waveform (VCD)\n"
+    ++ codes "  chart LOG      the log of `piperench trace` as a picture (SVG)\n\n"
+    ++ codes "  --fabric F     base has 16 columns and 8 registers, wide 32 and 16; base without it\n"
+    ++ codes "  --narrow       leaves out what no output shows\n"
+    ++ codes "  --samples N    how long the run is whose cycles `cost` tells; 1000 without it\n"
+
 -- a text was written whole, and this is the outcome; or a write failed
 pub record IsWhole (old new : Tape) (text : List ℕ) (outcome result : Outcome) : Type 0 where
   pub whole : Appends old new text

@@ -4,7 +4,8 @@ ghost use Rattle.std.specs.Prelude.{◌≡◌, ◌≤◌, IfOk, IfErr};
 ghost use Rattle.pr_tool_answers.specs.declared.answers.Answer.{Answer};
 ghost use Rattle.pr_lens_tool.specs.declared.outcomes.Outcome.TheVariants.{Plain};
 ghost use Rattle.pr_lens_tool.specs.Orders.{asked_in, asked_by};
-ghost use Rattle.pr_lens_tool.specs.Outcomes.{IsToldOf, IsUntold, IsWritten};
+ghost use Rattle.pr_lens_tool.specs.Outcomes.{IsWritten};
+ghost use Rattle.pr_lens_tool.specs.Programs.{IsToldOf, IsUntold};
 ghost use Rattle.pr_lens_tool.specs.Calls.{call, IsMade, IsUnmade, IsFollowed, IsCalled};
 
 use crate::asking::{OrderFault, read_order};
@@ -42,7 +43,8 @@ fn of_file<S: Shelf>(
     question: Question,
     shelf: &mut S,
 ) -> Result<Output, Answer>
-    ensures told { IfOk result (λ o. IsToldOf question (S.told shelf.old) (asked_in order.now) o.outcome) }
+    ensures told { IfOk result (λ o.
+        IsToldOf question (S.told shelf.old) (asked_in order.now) o.outcome o.text.items) }
     ensures refused { IfErr result
         (IsUntold (S.told shelf.old) (asked_in order.now) (S.faults shelf.old) (S.faults shelf.new)) }
     ensures later { S.faults shelf.old ≤ S.faults shelf.new }
@@ -58,7 +60,7 @@ fn of_file<S: Shelf>(
 
 /// What is asked for, made whole; else what the call comes to.
 fn made<S: Shelf>(alloc: Global, order: &Order, shelf: &mut S) -> Result<Output, Outcome>
-    ensures made { IfOk result (λ o. IsMade (S.told shelf.old) (asked_in order.now) o.outcome) }
+    ensures made { IfOk result (λ o. IsMade (S.told shelf.old) (asked_in order.now) o.outcome o.text.items) }
     ensures unmade { IfErr result
         (IsUnmade (S.told shelf.old) (asked_in order.now) (S.faults shelf.old) (S.faults shelf.new)) }
     ensures later { S.faults shelf.old ≤ S.faults shelf.new }
@@ -109,7 +111,8 @@ pub fn pipelens<S: Shelf, K: Sink>(
     shelf: &mut S,
     out: &mut K,
 ) -> Reply
-    // Lawful words are followed, or memory is wanting; other words get the help or are refused.
+    // Lawful words are followed: the text that they ask for is written whole, unless a write fails, or nothing is, for its
+    // cause. Other words get the help or are refused. Memory may want in any call.
     ensures called { IsCalled (asked_by words.now) (call
         (S.told shelf.old) (S.faults shelf.old) (S.faults shelf.new)
         (K.told out.old) (K.told out.new) (K.faults out.old) (K.faults out.new)) result.outcome }

@@ -4,14 +4,15 @@ ghost use Rattle.std.specs.Prelude.{◌≡◌, ◌≤◌, ◌⊎◌, length, IfO
 ghost use Rattle.pr_tool_answers.specs.declared.answers.Answer.{Answer};
 ghost use Rattle.pr_tool_modes.specs.Programs.{compile_answer, IsUncompiled};
 ghost use Rattle.pr_lens_tool.specs.declared.orders.Question.TheVariants.{Why, Cost as AskCost, Graph};
-ghost use Rattle.pr_lens_tool.specs.Outcomes.{IsTold};
+ghost use Rattle.pr_lens_tool.specs.Orders.{asked_in};
+ghost use Rattle.pr_lens_tool.specs.Programs.{AreSavings, IsTold, bounds_for};
 
 use crate::explanations::put_explanation;
 use crate::orders::{Order, Question};
 use crate::outcomes::{Outcome, Output};
 use pr_base::Fabric;
 use pr_compile::CompileFault;
-use pr_lens_cost::{Cost, Savings, cost_of, put_cost};
+use pr_lens_cost::{Savings, cost_of, put_cost};
 use pr_lens_graph::{graph, layout_of};
 use pr_lens_why::{Verdict, explain};
 use pr_tool::{Answer, Bounds};
@@ -33,7 +34,7 @@ fn answer_of(fault: &CompileFault) -> Answer
 
 /// The limits for programs on a fabric.
 pub fn bounds_of(fabric: Fabric) -> Bounds
-    ensures { result.fabric ≡ fabric }
+    ensures { result ≡ bounds_for fabric }
 {
     Bounds {
         fabric,
@@ -52,7 +53,7 @@ fn why<const N: usize, const P: usize>(
     requires most_columns { N ≤ 64 }
     requires registers { 2 ≤ P }
     requires most_registers { P ≤ 16 }
-    ensures told { IfOk result (λ o. IsTold Why N P order.now.narrowed text.now o.outcome) }
+    ensures told { IfOk result (λ o. IsTold Why N P (asked_in order.now) text.now o.outcome o.text.items) }
     ensures refused { IfErr result (λ a. a ≡ Answer.Memory) }
 {
     match explain::<N, P>(alloc, text, order.narrowed)? {
@@ -82,16 +83,19 @@ fn savings_of<const N: usize, const P: usize>(
     requires most_columns { N ≤ 64 }
     requires registers { 2 ≤ P }
     requires most_registers { P ≤ 16 }
-    ensures { IfErr result (λ a. a ≡ Answer.Memory) }
+    ensures saved { IfOk result (AreSavings N P narrowed text.now) }
+    ensures refused { IfErr result (λ a. a ≡ Answer.Memory) }
 {
     match cost_of::<N, P>(alloc, text, narrowed) {
-        Ok(Cost { units, stages, .. }) => Ok(Some(Savings {
+        Ok(cost) => Ok(Some(Savings {
             narrowed,
-            units,
-            stages: stages.len(),
+            units: cost.units,
+            stages: cost.stages.len(),
         })),
-        Err(CompileFault::Memory(_)) => Err(Answer::Memory),
-        Err(_) => Ok(None),
+        Err(fault) => match fault {
+            CompileFault::Memory(_) => Err(Answer::Memory),
+            _ => Ok(None),
+        },
     }
 }
 
@@ -106,7 +110,7 @@ fn cost<const N: usize, const P: usize>(
     requires most_columns { N ≤ 64 }
     requires registers { 2 ≤ P }
     requires most_registers { P ≤ 16 }
-    ensures told { IfOk result (λ o. IsTold AskCost N P order.now.narrowed text.now o.outcome) }
+    ensures told { IfOk result (λ o. IsTold AskCost N P (asked_in order.now) text.now o.outcome o.text.items) }
     ensures refused { IfErr result (λ a. IsUncompiled N P order.now.narrowed text.now a ⊎ (a ≡ Answer.Memory)) }
 {
     match cost_of::<N, P>(alloc, text, order.narrowed) {
@@ -132,7 +136,7 @@ fn units<const N: usize, const P: usize>(
     requires most_columns { N ≤ 64 }
     requires registers { 2 ≤ P }
     requires most_registers { P ≤ 16 }
-    ensures told { IfOk result (λ o. IsTold Graph N P order.now.narrowed text.now o.outcome) }
+    ensures told { IfOk result (λ o. IsTold Graph N P (asked_in order.now) text.now o.outcome o.text.items) }
     ensures refused { IfErr result (λ a. IsUncompiled N P order.now.narrowed text.now a ⊎ (a ≡ Answer.Memory)) }
 {
     match layout_of::<N, P>(alloc, text, order.narrowed) {
@@ -156,7 +160,7 @@ pub fn of_program<const N: usize, const P: usize>(
     requires most_columns { N ≤ 64 }
     requires registers { 2 ≤ P }
     requires most_registers { P ≤ 16 }
-    ensures told { IfOk result (λ o. IsTold question N P order.now.narrowed text.now o.outcome) }
+    ensures told { IfOk result (λ o. IsTold question N P (asked_in order.now) text.now o.outcome o.text.items) }
     ensures refused { IfErr result (λ a. IsUncompiled N P order.now.narrowed text.now a ⊎ (a ≡ Answer.Memory)) }
 {
     match question {

@@ -1,0 +1,100 @@
+-- What is told of programs, and what is written of them.
+use Rattle.std.specs.Prelude.{◌≡◌, ◌≤◌, ℕ, Bool, not, List, codes, length, Option, Some, None}
+use Rattle.pr_base.specs.declared.caps.Cap.{Cap}
+use Rattle.pr_base.specs.declared.fabrics.Fabric.{Fabric}
+use Rattle.pr_base.specs.Fabrics.{columns, registers}
+use Rattle.pr_base.specs.Limits.{cap_number, most_program_bytes}
+use Rattle.pr_compile.specs.declared.faults.CompileFault.{CompileFault}
+use Rattle.pr_compile.specs.Refusals.{IsRefused}
+use Rattle.pr_edge.specs.Files.{Told}
+use Rattle.pr_tool_answers.specs.declared.answers.Answer.{Answer}
+use Rattle.pr_tool_modes.specs.Files.{IsText}
+use Rattle.pr_tool_modes.specs.Programs.{IsNotCompiled, compile_answer}
+use Rattle.pr_tool.specs.declared.notes.Bounds.{Bounds}
+use Rattle.pr_tool.specs.Notes.{note_of}
+use Rattle.pr_lens_why.specs.declared.explaining.Explanation.{Explanation}
+use Rattle.pr_lens_why.specs.Verdicts.{HasConfiguration, IsExplained}
+use Rattle.pr_lens_cost.specs.declared.amounts.Cost.{Cost as ProgramCost}
+use Rattle.pr_lens_cost.specs.declared.tables.Savings.{Savings}
+use Rattle.pr_lens_cost.specs.Costs.{IsCost}
+use Rattle.pr_lens_cost.specs.Texts.{IsCostText}
+use Rattle.pr_lens_graph.specs.declared.layouts.Layout.{Layout}
+use Rattle.pr_lens_graph.specs.Layouts.{IsLayout}
+use Rattle.pr_lens_tool.specs.declared.orders.Question.{Question}
+use Rattle.pr_lens_tool.specs.declared.orders.Question.TheVariants.{Why, Cost, Graph}
+use Rattle.pr_lens_tool.specs.declared.outcomes.Outcome.{Outcome}
+use Rattle.pr_lens_tool.specs.declared.outcomes.Outcome.TheVariants.{Plain, Explained}
+use Rattle.pr_lens_tool.specs.Explanations.{IsExplanation}
+use Rattle.pr_lens_tool.specs.Orders.{Asked}
+
+-- the limits for programs on a fabric
+abbrev pub bounds_for : Fabric → Bounds
+bounds_for fabric = record { fabric = fabric; sample_bytes = cap_number Fabric.Base Cap.SampleBytes }
+
+-- ---- why
+-- a text is refused with this answer, and what is written explains it
+pub record IsWhy (N P : ℕ) (order : Asked) (text : List ℕ) (answer : Answer) (written : List ℕ) : Type 0 where
+  pub explanation : Explanation
+  pub is : IsExplained N P order.narrowed text explanation
+  pub answers : answer ≡ compile_answer explanation.fault
+  pub told : IsExplanation order.file text explanation (note_of (bounds_for order.fabric) answer) written
+
+-- a text has a configuration, and that is written
+pub record IsAccepted (N P : ℕ) (order : Asked) (text written : List ℕ) : Type 0 where
+  pub has : HasConfiguration N P order.narrowed text
+  pub told : written ≡ codes "accepted\n"
+
+abbrev pub IsSaid : ℕ → ℕ → Asked → List ℕ → Outcome → List ℕ → Type 0
+IsSaid N P order text (Explained answer) written = IsWhy N P order text answer written
+IsSaid N P order text outcome written = (outcome ≡ Plain Answer.Ok) × IsAccepted N P order text written
+
+-- ---- cost
+-- units and stages of a text that is compiled this way
+pub record IsSaving (N P : ℕ) (narrowed : Bool) (text : List ℕ) (savings : Savings) : Type 0 where
+  pub cost : ProgramCost
+  pub is : IsCost N P narrowed text cost
+  pub way : savings.narrowed ≡ narrowed
+  pub units : savings.units ≡ cost.units
+  pub stages : savings.stages ≡ length cost.stages.items
+
+-- a text is refused
+pub record HasRefusal (N P : ℕ) (narrowed : Bool) (text : List ℕ) : Type 0 where
+  pub fault : CompileFault
+  pub refused : IsRefused N P narrowed text fault
+
+-- what compiling this way saves, where the text is accepted so
+abbrev pub AreSavings : ℕ → ℕ → Bool → List ℕ → Option Savings → Type 0
+AreSavings N P narrowed text (Some savings) = IsSaving N P narrowed text savings
+AreSavings N P narrowed text None = HasRefusal N P narrowed text
+
+-- what a text costs is written, and what the other way saves
+pub record IsCosted (N P : ℕ) (order : Asked) (text written : List ℕ) : Type 0 where
+  pub cost : ProgramCost
+  pub is : IsCost N P order.narrowed text cost
+  pub savings : Option Savings
+  pub saved : AreSavings N P (not order.narrowed) text savings
+  pub told : IsCostText cost savings N order.samples written
+
+-- ---- graph
+-- a text has units with stages
+pub record HasLayout (N P : ℕ) (narrowed : Bool) (text : List ℕ) : Type 0 where
+  pub layout : Layout
+  pub is : IsLayout N P narrowed text layout
+
+-- ---- all three
+-- what is told of a text that is asked so, and what is written
+abbrev pub IsTold : Question → ℕ → ℕ → Asked → List ℕ → Outcome → List ℕ → Type 0
+IsTold Why N P order text outcome written = IsSaid N P order text outcome written
+IsTold Cost N P order text outcome written = (outcome ≡ Plain Answer.Ok) × IsCosted N P order text written
+IsTold Graph N P order text outcome written = (outcome ≡ Plain Answer.Ok) × HasLayout N P order.narrowed text
+
+-- the same of the program of a file
+pub record IsToldOf (question : Question) (told : Told) (order : Asked) (outcome : Outcome) (written : List ℕ) : Type 0 where
+  pub text : List ℕ
+  pub file : IsText told order.file text
+  pub short : length text ≤ most_program_bytes
+  pub is : IsTold question (columns order.fabric) (registers order.fabric) order text outcome written
+
+-- why nothing is told of it, as `piperench` refuses it
+abbrev pub IsUntold : Told → Asked → ℕ → ℕ → Answer → Type 0
+IsUntold told order before now answer = IsNotCompiled (columns order.fabric) (registers order.fabric) order.narrowed told order.file before now answer
