@@ -1,7 +1,8 @@
-pub mod Items
 pub mod Lookups
 pub mod MadeLemmas
 pub mod MissingLemmas
 pub mod OffenceLemmas
 pub mod Possible
 pub mod SpanLemmas
+pub mod TurnLemmas
+pub mod WalkLemmas

@@ -2,17 +2,15 @@
 use Rattle.std.proofs.Common.{◌≡◌, ◌∙◌, ◌<◌, ◌≤◌, ◌⊎◌, ℕ, None, Some, List, length, min, sym, ap, inl, inr, arith}
 use Rattle.std.specs.Vec.{vec_len}
 use Rattle.std.proofs.lemmas.List.{length-map}
-use Rattle.pr_lang.specs.declared.tokens.Token.{Token}
-use Rattle.pr_lang.specs.declared.trees.Item.{Item}
 use Rattle.pr_lang.specs.declared.trees.Program.{Program}
 use Rattle.pr_scope.specs.Walk.{Refusal, offence}
 use Rattle.pr_flat.specs.declared.flat.Flat.{Flat}
 use Rattle.pr_flat.specs.Shape.{equation_shape}
 use Rattle.pr_compile_front.specs.Refusals.{IsRead}
+use Rattle.pr_lens_items.specs.declared.cuts.Cut.{Cut}
 use Rattle.pr_lens_find.specs.declared.equations.Made.{Made}
 use Rattle.pr_lens_find.specs.declared.equations.Made.TheVariants as made
-use Rattle.pr_lens_find.specs.declared.sources.Span.{Span}
-use Rattle.pr_lens_find.specs.Fronts.{IsCutFront, IsUnread}
+use Rattle.pr_lens_find.specs.Fronts.{Spot, IsCutFront, IsUnread}
 use Rattle.pr_lens_find.specs.Made.{IsMadeOf, IsMade, IsMadeIn, IsMadeCut, IsUnlawful, HasUnlawful, HasFlatIn, HasMoreIn, HasNoMoreIn, with_ends}
 
 -- of the program with ends, where it keeps the rules of scope
@@ -30,10 +28,10 @@ made_in text program (made.Flat flat) read is = record { program = program; read
 made_in text program made.TooMany read is = record { program = program; read = read; has = is }
 made_in text program made.Refused read is = inr (record { program = program; read = read; has = is })
 
-pub made_cut : (text : List ℕ) (tokens : List Token) (spans : List Span) (number : ℕ) (item : Item) (program : Program) (m : Made) → IsCutFront text tokens spans number item program → IsMade program m → IsMadeCut text tokens spans number item m
-made_cut text tokens spans number item program (made.Flat flat) cut is = record { program = program; cut = cut; has = is }
-made_cut text tokens spans number item program made.TooMany cut is = tt
-made_cut text tokens spans number item program made.Refused cut is = tt
+pub made_cut : (spot : Spot) (cut : Cut) (program : Program) (m : Made) → IsCutFront spot cut program → IsMade program m → IsMadeCut spot cut m
+made_cut spot cut program (made.Flat flat) cut_off is = record { program = program; cut_off = cut_off; holds = is }
+made_cut spot cut program made.TooMany cut_off is = record { program = program; cut_off = cut_off; holds = is }
+made_cut spot cut program made.Refused cut_off is = inr (record { program = program; cut_off = cut_off; holds = is })
 
 -- more equations than a number are more than a lesser one
 pub fewer : (text : List ℕ) (count less : ℕ) → less ≤ count → HasMoreIn text count → HasMoreIn text less

@@ -1,5 +1,6 @@
 -- What is told of an equation without a width, and where it is made.
-use Rattle.std.proofs.Common.{◌≡◌, ◌∙◌, ◌⊎◌, ℕ, List, [], Option, Some, Result, Ok, Err, IfOk, length, option_map, ap, inl, inr}
+use Rattle.std.proofs.Common.{◌≡◌, ◌∙◌, ◌⊎◌, ◌-◌, ℕ, List, [], Option, Some, None, Result, Ok, Err, IfOk, length, option_map, ap, inl, inr}
+use Rattle.std.specs.Prelude.{IfSome}
 use Rattle.std.specs.declared.alloc.AllocError.{AllocError}
 use Rattle.std.specs.List.{slice_get}
 use Rattle.std.proofs.lemmas.Option.{slice_get-map}
@@ -13,10 +14,12 @@ use Rattle.pr_flat.specs.Widths.{IsFirstWithout}
 use Rattle.pr_lens_find.specs.declared.sources.Span.{Span}
 use Rattle.pr_lens_find.specs.declared.widths.Extent.{Extent}
 use Rattle.pr_lens_find.specs.declared.widths.Missing.{Missing}
-use Rattle.pr_lens_find.specs.Made.{HasFlatCut, IsManyWith, IsMadeAt}
-use Rattle.pr_lens_find.specs.Offences.{IsItemOf}
+use Rattle.pr_lens_find.specs.Fronts.{Spot, WithCut}
+use Rattle.pr_lens_find.specs.Made.{HasFlat, IsManyWith, IsMadeAt, values_cut}
+use Rattle.pr_lens_find.specs.Offences.{IsItemOf, values_in}
 use Rattle.pr_lens_find.specs.Spans.{StandsIn}
-use Rattle.pr_lens_find.specs.Widths.{IsEquation, IsToldOf, IsToldCut, IsToldIn}
+use Rattle.pr_lens_find.specs.Turns.{IsTurn}
+use Rattle.pr_lens_find.specs.Widths.{IsEquation, IsToldOf, LacksWidth, LacksNone, LacksFirst, IsToldCut, IsToldOfSpot, IsToldIn}
 
 pub made_at : (text : List ℕ) (tokens : List Token) (spans : List Span) (equation item token : ℕ) → IsManyWith text tokens spans equation item → StandsIn tokens spans item token → IsMadeAt text tokens spans equation token
 made_at text tokens spans equation item token many stands = record { item = item; made = many; stands = stands }
@@ -41,17 +44,35 @@ told_first flat number equation told extents m without there is count op same = 
   };
 })
 
--- ---- of the items before one and a part of it, and of the item
-pub cut_told : (text : List ℕ) (tokens : List Token) (spans : List Span) (number : ℕ) (item : Item) (flat : Flat) (m : Missing) → HasFlatCut text tokens spans number item flat → IsToldOf (equations_of flat) m → IsToldCut text tokens spans number item m
-cut_told text tokens spans number item flat m has (inl unknown) = inl unknown
-cut_told text tokens spans number item flat m has (inr tells) = inr (record { flat = flat; has = has; tells = tells })
+-- ---- of a program that is cut off, and of the item that makes an equation
+pub cut_told : (spot : Spot) (count : ℕ) (flat : Flat) (m : Missing) → WithCut spot (values_cut count) (λ program. HasFlat program flat) → IsToldOf (equations_of flat) m → IsToldCut spot count m
+cut_told spot count flat m has (inl unknown) = inl unknown
+cut_told spot count flat m has (inr tells) = inr (record { flat = flat; has = has; tells = tells })
 
-pub item_told : (text : List ℕ) (tokens : List Token) (spans : List Span) (equation number : ℕ) (item : Item) (m : Missing) → IsManyWith text tokens spans equation number → StandsIn tokens spans number m.token → IsItemOf text tokens spans number item
-    → IsToldCut text tokens spans number item m → IsToldIn text tokens spans equation m
-item_told text tokens spans equation number item m made stands is (inl unknown) = inl unknown
-item_told text tokens spans equation number item m made stands is (inr tells) = inr (record { number = number; made = made; stands = stands; item = item; is = is; tells = tells })
+spot_told : (spot : Spot) (count held : ℕ) (m : Missing) → m.token ≡ held → LacksFirst spot count
+    → ((token : ℕ) → slice_get (values_in spot) (count - 1) ≡ Some token → StandsIn spot.tokens spot.spans spot.number token → held ≡ token) → IsToldCut spot count m → IsToldOfSpot spot m
+spot_told spot count held m same first point (inl unknown) = inl unknown
+spot_told spot count held m same first point (inr tells) = inr (record { count = count; first = first; point = λ token there stands. same ∙ point token there stands; tells = tells })
 
-pub found_told : (text : List ℕ) (tokens : List Token) (spans : List Span) (equation number : ℕ) (item : Item) (r : Result Missing AllocError) → IsManyWith text tokens spans equation number → IsItemOf text tokens spans number item
-    → IfOk r (λ m. StandsIn tokens spans number m.token) → IfOk r (IsToldCut text tokens spans number item) → IfOk r (IsToldIn text tokens spans equation)
-found_told text tokens spans equation number item (Ok m) made is stands told = item_told text tokens spans equation number item m made stands is told
-found_told text tokens spans equation number item (Err e) made is stands told = tt
+pub spot_told_if : (spot : Spot) (count held : ℕ) (r : Result Missing AllocError) → LacksFirst spot count
+    → ((token : ℕ) → slice_get (values_in spot) (count - 1) ≡ Some token → StandsIn spot.tokens spot.spans spot.number token → held ≡ token)
+    → IfOk r (λ m. m.token ≡ held) → IfOk r (IsToldCut spot count) → IfOk r (IsToldOfSpot spot)
+spot_told_if spot count held (Ok m) first point same told = spot_told spot count held m same first point told
+spot_told_if spot count held (Err e) first point same told = tt
+
+pub first_lack : (spot : Spot) (low high : ℕ) (o : Option ℕ) → IfSome o (IsTurn (λ count. LacksNone spot count) (λ count. LacksWidth spot count) low high) → IfSome o (LacksFirst spot)
+first_lack spot low high None is = tt
+first_lack spot low high (Some count) is = record { lacks = is.yes; none = is.no }
+
+module _ (text : List ℕ) (tokens : List Token) (spans : List Span) (equation number : ℕ) (item : Item) where
+  abbrev spot : Spot
+  spot = record { text = text; tokens = tokens; spans = spans; number = number; item = item }
+
+  item_told : (m : Missing) → IsManyWith text tokens spans equation number → IsItemOf text tokens spans number item → StandsIn tokens spans number m.token → IsToldOfSpot spot m → IsToldIn text tokens spans equation m
+  item_told m made is stands (inl unknown) = inl unknown
+  item_told m made is stands (inr tells) = inr (record { number = number; made = made; stands = stands; item = item; is = is; tells = tells })
+
+  pub found_told : (r : Result Missing AllocError) → IsManyWith text tokens spans equation number → IsItemOf text tokens spans number item
+      → IfOk r (λ m. StandsIn tokens spans number m.token) → IfOk r (IsToldOfSpot spot) → IfOk r (IsToldIn text tokens spans equation)
+  found_told (Ok m) made is stands told = item_told m made is stands told
+  found_told (Err e) made is stands told = tt

@@ -1,3 +1,4 @@
+pub mod Depths
 pub mod Expected
 pub mod Fronts
 pub mod Made
@@ -5,4 +6,5 @@ pub mod Names
 pub mod Offences
 pub mod Spans
 pub mod Tokens
+pub mod Turns
 pub mod Widths

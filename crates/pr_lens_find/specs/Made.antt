@@ -1,5 +1,5 @@
 -- What is made of a program with an input and an output behind its items, where it has none.
-use Rattle.std.specs.Prelude.{ℕ, ◌≡◌, ◌≢◌, ◌⊎◌, ◌<◌, ◌≤◌, ◌+◌, ◌-◌, ◌++◌, ◌∷◌, [], Bool, true, false, List, None, codes, if◌then◌else◌, length, min, ⊤}
+use Rattle.std.specs.Prelude.{ℕ, ◌≡◌, ◌≢◌, ◌⊎◌, ◌<◌, ◌≤◌, ◌++◌, ◌∷◌, [], Bool, true, false, List, None, codes, if◌then◌else◌, length, min}
 use Rattle.std.specs.List.{list_any}
 use Rattle.pr_lang.specs.declared.tokens.Token.{Token}
 use Rattle.pr_lang.specs.declared.trees.Expr.TheVariants as expr
@@ -11,12 +11,14 @@ use Rattle.pr_flat.specs.declared.flat.Flat.{Flat}
 use Rattle.pr_flat.specs.Flats as flats
 use Rattle.pr_expand_spec.specs.Programs.{equations_of}
 use Rattle.pr_compile_front.specs.Refusals.{IsRead}
+use Rattle.pr_lens_items.specs.declared.cuts.Cut.{Cut}
 use Rattle.pr_lens_find.specs.declared.equations.Made.{Made}
 use Rattle.pr_lens_find.specs.declared.equations.Made.TheVariants as made
 use Rattle.pr_lens_find.specs.declared.sources.Span.{Span}
-use Rattle.pr_lens_find.specs.Fronts.{IsCutFront, IsUnread}
+use Rattle.pr_lens_find.specs.Fronts.{Spot, IsUnread, WithCut, front_in}
 use Rattle.pr_lens_find.specs.Spans.{StandsIn}
 use Rattle.pr_lens_find.specs.Tokens.{front_text}
+use Rattle.pr_lens_find.specs.Turns.{IsItemWith}
 
 abbrev pub is_input : Item → Bool
 is_input (item.Input name width) = true
@@ -115,24 +117,22 @@ pub record HasFewIn (text : List ℕ) (count : ℕ) : Type 0 where
 abbrev pub HasNoMoreIn : List ℕ → ℕ → Type 0
 HasNoMoreIn text count = IsUnread text ⊎ HasFewIn text count
 
--- ---- the items before one and a part of it, with ends
-pub record HasFlatCut (text : List ℕ) (tokens : List Token) (spans : List Span) (number : ℕ) (item : Item) (flat : Flat) : Type 0 where
-  pub program : Program
-  pub cut : IsCutFront text tokens spans number item program
-  pub has : HasFlat program flat
+-- ---- the program of a text, cut off in the item behind it, with ends
+-- so many points of expressions are kept, as far as 32 bits count, and all frames
+abbrev pub values_cut : ℕ → Cut
+values_cut values = record { values = min values 4294967295; frames = 4294967295; fixeds = 4294967295 }
 
-abbrev pub IsMadeCut : List ℕ → List Token → List Span → ℕ → Item → Made → Type 0
-IsMadeCut text tokens spans number item (made.Flat flat) = HasFlatCut text tokens spans number item flat
-IsMadeCut text tokens spans number item made.TooMany = ⊤
-IsMadeCut text tokens spans number item made.Refused = ⊤
+abbrev pub IsMadeCut : Spot → Cut → Made → Type 0
+IsMadeCut spot cut (made.Flat flat) = WithCut spot cut (λ program. HasFlat program flat)
+IsMadeCut spot cut made.TooMany = WithCut spot cut (λ program. HasMore program 16384)
+IsMadeCut spot cut made.Refused = IsUnread (front_in spot) ⊎ WithCut spot cut IsUnlawful
 
 -- ---- the item that makes an equation
--- it is an item, or 0 where there is none; unless it is the last, the items up to it have more equations than this number, or
--- than are allowed; those before it have no more
-pub record IsManyWith (text : List ℕ) (tokens : List Token) (spans : List Span) (equation item : ℕ) : Type 0 where
-  pub within : item ≤ length spans - 1
-  pub many : item + 1 < length spans → HasMoreIn (front_text text tokens spans (item + 1)) (min equation 16384)
-  pub few : 0 < item → HasNoMoreIn (front_text text tokens spans item) equation
+-- with it the items have more equations than this number, or than are allowed
+abbrev pub IsManyWith : List ℕ → List Token → List Span → ℕ → ℕ → Type 0
+IsManyWith text tokens spans equation item =
+    IsItemWith (λ items. HasNoMoreIn (front_text text tokens spans items) equation) (λ items. HasMoreIn (front_text text tokens spans items) (min equation 16384))
+    (length spans) item
 
 -- a token of that item
 pub record IsMadeAt (text : List ℕ) (tokens : List Token) (spans : List Span) (equation token : ℕ) : Type 0 where

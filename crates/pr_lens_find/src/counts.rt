@@ -14,10 +14,10 @@ pub fn short(number: usize) -> u32
 }
 
 /// The token of the point of this number, from 1.
-pub fn numbered(points: &[u32], number: u32) -> Option<usize>
+pub fn numbered(points: &[u32], number: usize) -> Option<usize>
     ensures { result ≡ slice_get points.now (number - 1) }
 {
-    match points.get((number as usize).saturating_sub(1)) {
+    match points.get(number.saturating_sub(1)) {
         None => None,
         Some(token) => Some(*token as usize),
     }

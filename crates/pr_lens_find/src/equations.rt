@@ -1,10 +1,13 @@
 //! The equations of programs that end earlier.
 
-ghost use Rattle.std.specs.Prelude.{◌≤◌, length, min, IfOk, IsFalse, IsTrue};
+ghost use Rattle.std.specs.Prelude.{◌<◌, ◌≤◌, length, min, IfOk, IsFalse, IsTrue};
 ghost use Rattle.pr_lens_find.specs.Tokens.{front_text};
-ghost use Rattle.pr_lens_find.specs.Made.{IsMadeOf, IsMade, IsMadeIn, IsMadeCut, HasMoreIn, HasNoMoreIn, IsManyWith};
+ghost use Rattle.pr_lens_find.specs.Fronts.{spot_of};
+ghost use Rattle.pr_lens_find.specs.Made.{IsMadeOf, IsMade, IsMadeIn, IsMadeCut, HasMoreIn, HasNoMoreIn, IsManyWith, values_cut};
 
+use crate::counts::short;
 use crate::fronts::{Part, cut_front, front_of, with_ends};
+use crate::halves::{Question, item_with};
 use crate::sources::Source;
 use pr_expand::{ExpandFault, expand};
 use pr_flat::Flat;
@@ -58,13 +61,12 @@ fn made_before(alloc: Global, source: &Source, item: usize) -> Result<Made, Allo
 }
 
 /// The equations of the items before this one and of so many points of its expressions.
-pub fn made_with(alloc: Global, part: &Part, values: u32) -> Result<Made, AllocError>
+pub fn made_with(alloc: Global, part: &Part, values: usize) -> Result<Made, AllocError>
     requires { length part.now.source.text.now ≤ 1048576 }
-    ensures { let source = part.now.source in IfOk result
-        (IsMadeCut source.text.now source.tokens.now source.spans.now part.now.number part.now.item.now) }
+    ensures { IfOk result (IsMadeCut (spot_of part.now) (values_cut values)) }
 {
     let cut = Cut {
-        values,
+        values: short(values),
         frames: u32::MAX,
         fixeds: u32::MAX,
     };
@@ -89,20 +91,35 @@ fn has_more(alloc: Global, source: &Source, item: usize, count: usize) -> Result
     }
 }
 
-/// The item that makes the equation of this number.
+/// Whether so many items have more equations than a number, or than are allowed.
+#[derive(Clone, Copy)]
+struct Counts<'a> {
+    source: Source<'a>,
+    equation: usize,
+}
+
+impl<'a> Question for Counts<'a> {
+    ghost can_ask = { λ s. length s.source.text.now ≤ 1048576 };
+
+    ghost yes = { λ s count. HasMoreIn
+        (front_text s.source.text.now s.source.tokens.now s.source.spans.now count) (min s.equation 16384) };
+
+    ghost no = { λ s count. 0 < count → HasNoMoreIn
+        (front_text s.source.text.now s.source.tokens.now s.source.spans.now count) s.equation };
+
+    fn ask(&self, alloc: Global, count: usize) -> Result<bool, AllocError> {
+        has_more(alloc, &self.source, count, self.equation)
+    }
+}
+
+/// The item that makes the equation of this number; the number of items where none does.
 pub fn equations_item(alloc: Global, source: &Source, equation: usize) -> Result<usize, AllocError>
     requires { length source.now.text.now ≤ 1048576 }
     ensures { IfOk result (IsManyWith source.now.text.now source.now.tokens.now source.now.spans.now equation) }
 {
-    let mut low = 0;
-    let mut high = source.spans.len();
-    while low < high && high - low > 1 {
-        let middle = low + (high - low) / 2;
-        if has_more(alloc, source, middle, equation)? {
-            high = middle;
-        } else {
-            low = middle;
-        }
-    }
-    Ok(high.saturating_sub(1))
+    let counts = Counts {
+        source: *source,
+        equation,
+    };
+    item_with(alloc, &counts, source.spans.len())
 }

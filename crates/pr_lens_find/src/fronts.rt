@@ -4,7 +4,7 @@ ghost use Rattle.std.specs.Prelude.{◌≡◌, ◌≤◌, length, IfOk, IfNone, 
 ghost use Rattle.std.specs.List.{list_any};
 ghost use Rattle.pr_compile_front.specs.Refusals.{IsRead};
 ghost use Rattle.pr_lens_find.specs.Tokens.{front_text};
-ghost use Rattle.pr_lens_find.specs.Fronts.{IsSeen, IsUnread, IsCutFront};
+ghost use Rattle.pr_lens_find.specs.Fronts.{IsSeen, IsUnread, IsCutFront, front_in, spot_of};
 ghost use Rattle.pr_lens_find.specs.Offences.{IsItemOf};
 ghost use Rattle.pr_lens_find.specs.Made.{is_input, is_output, with_input, with_output, with_ends};
 
@@ -61,11 +61,11 @@ pub struct Part<'a> {
     pub item: &'a Item,
 }
 
-/// The program of the items before this one and as much of it as is kept.
+/// The program of the items before this one, cut off in it.
 pub fn cut_front(alloc: Global, part: &Part, cut: Cut) -> Result<Option<Program>, AllocError>
     requires { length part.now.source.text.now ≤ 1048576 }
-    ensures { let source = part.now.source in IfOk result (λ found. IfSome found
-        (IsCutFront source.text.now source.tokens.now source.spans.now part.now.number part.now.item.now)) }
+    ensures some { IfOk result (λ found. IfSome found (IsCutFront (spot_of part.now) cut)) }
+    ensures none { IfOk result (λ found. IfNone found (IsUnread (front_in (spot_of part.now)))) }
 {
     match front_of(alloc, &part.source, part.number)? {
         None => Ok(None),

@@ -2,21 +2,25 @@
 //! programs that end earlier.
 //!
 //! So the point that is looked for is one of which the passes themselves say that the text is refused with it and not
-//! before it. The contracts say where it stands, not that it is the right one.
+//! before it. It is found by halves, and the contracts say that it is one.
 #![tactic(auto)]
 
 mod counts;
 mod equations;
 mod expected;
 mod fronts;
+mod halves;
 mod introduced;
 mod offences;
 mod sources;
+mod walks;
 mod widths;
 
 pub use equations::equations_item;
 pub use expected::{Expected, expected_at};
+pub use halves::{Question, item_with};
 pub use introduced::introduced_before;
-pub use offences::{find_offence, turns_item};
-pub use sources::{Source, Span, spans_of};
+pub use offences::find_offence;
+pub use sources::{Source, Span, depth_after, spans_of};
+pub use walks::turns_item;
 pub use widths::{Extent, Missing, find_missing};

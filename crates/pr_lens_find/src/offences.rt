@@ -1,16 +1,14 @@
 //! Broken rules of scope.
 
-ghost use Rattle.std.specs.Prelude.{◌≤◌, length, IfOk, IfSome, IsFalse, IsTrue};
-ghost use Rattle.pr_scope.specs.Walk.{too_long};
-ghost use Rattle.pr_compile_front.specs.Refusals.{HasOffence};
-ghost use Rattle.pr_lens_find.specs.Tokens.{front_text};
+ghost use Rattle.std.specs.Prelude.{◌≡◌, ◌≤◌, ◌↔◌, length, IfOk, IfSome, IsFalse, IsTrue};
+ghost use Rattle.pr_lens_find.specs.Fronts.{spot_of};
 ghost use Rattle.pr_lens_find.specs.Spans.{StandsIn};
-ghost use Rattle.pr_lens_find.specs.Fronts.{IsNotLong, IsLongWith};
-ghost use Rattle.pr_lens_find.specs.Offences.{IsAmong, IsWrongWidth, StandsBefore, IsAgain, IsOfFrame, IsOfItem, IsOfTree, IsFoundIn, IsTold};
+ghost use Rattle.pr_lens_find.specs.Offences.{IsAmong, IsWrongWidth, StandsBefore, IsAgain, Breaks, BreaksNot, Turns, IsValue, IsFirstFrame, IsOfFrame, IsOfItem, IsOfTree, IsFoundIn, IsTold, cut_by};
 ghost use Rattle.pr_lens_items.specs.Steps.{entry_of, entries_of};
 
 use crate::counts::{numbered, short};
-use crate::fronts::{Part, Seen, cut_front, front_of, item_of, see};
+use crate::fronts::{Part, Seen, cut_front, item_of, see};
+use crate::halves::{Question, turn_above, turn_between};
 use crate::introduced::introduced_before;
 use crate::sources::Source;
 use pr_lang::{Item, Kind};
@@ -19,22 +17,26 @@ use std::alloc::{AllocError, Global};
 
 /// A rule that is broken by an item.
 #[derive(Clone, Copy)]
-struct Broken<'a> {
-    rule: u8,
-    part: Part<'a>,
+pub struct Broken<'a> {
+    pub rule: u8,
+    pub part: Part<'a>,
 }
 
 /// Whether what is said of a program is that an item breaks the rule.
-fn is_breach(seen: Seen, wanted: u8, number: usize) -> bool {
+fn is_breach(seen: Seen, wanted: u8, number: usize) -> bool
+    ensures { IsTrue result ↔ (seen ≡ Seen.Broken wanted number) }
+{
     match seen {
         Seen::Broken { rule, item } => rule == wanted && item as usize == number,
         Seen::Kept | Seen::TooLong => false,
     }
 }
 
-/// Whether as much of the item as is kept breaks the rule.
+/// Whether the item, cut off so, breaks the rule.
 fn breaks(alloc: Global, broken: &Broken, cut: Cut) -> Result<bool, AllocError>
     requires { length broken.now.part.source.text.now ≤ 1048576 }
+    ensures yes { IfOk result (λ answer. IsTrue answer → Breaks (spot_of broken.now.part) broken.now.rule cut) }
+    ensures no { IfOk result (λ answer. IsFalse answer → BreaksNot (spot_of broken.now.part) broken.now.rule cut) }
 {
     match cut_front(alloc, &broken.part, cut)? {
         None => Ok(false),
@@ -45,53 +47,88 @@ fn breaks(alloc: Global, broken: &Broken, cut: Cut) -> Result<bool, AllocError>
     }
 }
 
-/// What is cut at a count.
+/// What is cut off at a count.
 #[derive(Clone, Copy)]
-enum By {
+pub enum By {
     /// The points of expressions, in so many frames.
-    Values(u32),
+    Values(usize),
     Frames,
     /// The points of constant expressions, of the last of so many frames.
-    Fixeds(u32),
+    Fixeds(usize),
 }
 
-fn cut_by(by: By, kept: u32) -> Cut {
+fn cut_by(by: By, kept: usize) -> Cut
+    ensures { result ≡ cut_by by kept }
+{
     match by {
         By::Values(frames) => Cut {
-            values: kept,
-            frames,
+            values: short(kept),
+            frames: short(frames),
             fixeds: u32::MAX,
         },
         By::Frames => Cut {
             values: 0,
-            frames: kept,
+            frames: short(kept),
             fixeds: u32::MAX,
         },
         By::Fixeds(frames) => Cut {
             values: 0,
-            frames,
-            fixeds: kept,
+            frames: short(frames),
+            fixeds: short(kept),
         },
     }
 }
 
-/// A count in 1..=most with which the rule is broken and with one less it is not, where `most` breaks it and 0 does
-/// not.
-fn first_count(alloc: Global, broken: &Broken, by: By, most: u32) -> Result<u32, AllocError>
-    requires { length broken.now.part.source.text.now ≤ 1048576 }
-    ensures { IfOk result (λ count. count ≤ most) }
-{
-    let mut low = 0;
-    let mut high = most;
-    while low < high && high - low > 1 {
-        let middle = low + (high - low) / 2;
-        if breaks(alloc, broken, cut_by(by, middle))? {
-            high = middle;
-        } else {
-            low = middle;
-        }
+/// Whether an item, cut off at a count, breaks a rule.
+#[derive(Clone, Copy)]
+struct Search<'a> {
+    broken: Broken<'a>,
+    by: By,
+}
+
+impl<'a> Question for Search<'a> {
+    ghost can_ask = { λ s. length s.broken.part.source.text.now ≤ 1048576 };
+
+    ghost yes = { λ s count. Breaks (spot_of s.broken.part) s.broken.rule (cut_by s.by count) };
+
+    ghost no = { λ s count. BreaksNot (spot_of s.broken.part) s.broken.rule (cut_by s.by count) };
+
+    fn ask(&self, alloc: Global, count: usize) -> Result<bool, AllocError> {
+        breaks(alloc, &self.broken, cut_by(self.by, count))
     }
-    Ok(high)
+}
+
+/// A count up to `most` with which the rule is broken and with one less it is not, where it is broken with so many and not
+/// with none.
+fn first_count(
+    alloc: Global,
+    broken: &Broken,
+    by: By,
+    most: usize,
+) -> Result<Option<usize>, AllocError>
+    requires { length broken.now.part.source.text.now ≤ 1048576 }
+    ensures { IfOk result (λ found. IfSome found (Turns (spot_of broken.now.part) broken.now.rule by)) }
+{
+    let search = Search {
+        broken: *broken,
+        by,
+    };
+    turn_between(alloc, &search, 0, most)
+}
+
+/// The number of the first frame with which the rule is broken, whatever the item's expressions are.
+fn first_frame(alloc: Global, broken: &Broken, most: usize) -> Result<Option<usize>, AllocError>
+    requires { length broken.now.part.source.text.now ≤ 1048576 }
+    ensures { IfOk result (λ found. IfSome found (IsFirstFrame (spot_of broken.now.part) broken.now.rule)) }
+{
+    let search = Search {
+        broken: *broken,
+        by: By::Frames,
+    };
+    if search.ask(alloc, 1)? {
+        return Ok(Some(1));
+    }
+    turn_above(alloc, &search, 1, most)
 }
 
 /// Whether a token is a width that is none.
@@ -147,18 +184,35 @@ fn name_again(source: &Source, names: &[u32]) -> Option<usize>
     numbered(names, 1)
 }
 
-/// The token in a frame, the last of so many, that breaks the rule.
+/// The token of a point of constant expressions at which the rule is broken, of the frame of this number.
+fn in_fixeds(
+    alloc: Global,
+    broken: &Broken,
+    frame: &Frame,
+    number: usize,
+) -> Result<Option<usize>, AllocError>
+    requires { length broken.now.part.source.text.now ≤ 1048576 }
+    ensures { IfOk result (λ found. IfSome found
+        (IsOfFrame (spot_of broken.now.part) broken.now.rule number (entry_of frame.now))) }
+{
+    let most = frame.fixeds.len();
+    match first_count(alloc, broken, By::Fixeds(number), most)? {
+        None => Ok(None),
+        Some(count) => Ok(numbered(&frame.fixeds, count)),
+    }
+}
+
+/// The token in the frame of this number that breaks the rule.
 fn in_frame(
     alloc: Global,
     broken: &Broken,
     frame: &Frame,
-    frames: u32,
+    number: usize,
 ) -> Result<Option<usize>, AllocError>
     requires { length broken.now.part.source.text.now ≤ 1048576 }
-    ensures { let source = broken.now.part.source in
-        IfOk result (λ o. IfSome o (IsOfFrame source.text.now source.tokens.now broken.now.rule (entry_of frame.now))) }
+    ensures { IfOk result (λ found. IfSome found
+        (IsOfFrame (spot_of broken.now.part) broken.now.rule number (entry_of frame.now))) }
 {
-    let most = short(frame.fixeds.len());
     match broken.rule {
         1 => {
             return Ok(name_again(&broken.part.source, &frame.names));
@@ -167,11 +221,10 @@ fn in_frame(
             return Ok(wrong_width(&broken.part.source, &frame.widths));
         }
         9 => {
-            return Ok(numbered(&frame.fixeds, most));
+            return Ok(numbered(&frame.fixeds, frame.fixeds.len()));
         }
         _ => {
-            let number = first_count(alloc, broken, By::Fixeds(frames), most)?;
-            return Ok(numbered(&frame.fixeds, number));
+            return in_fixeds(alloc, broken, frame, number);
         }
     }
 }
@@ -181,41 +234,78 @@ fn in_values(
     alloc: Global,
     broken: &Broken,
     points: &Points,
-    frames: u32,
+    frames: usize,
 ) -> Result<Option<usize>, AllocError>
     requires { length broken.now.part.source.text.now ≤ 1048576 }
-    ensures { IfOk result (λ o. IfSome o (IsAmong points.now.values.items)) }
+    ensures { IfOk result (λ found. IfSome found
+        (IsValue (spot_of broken.now.part) broken.now.rule frames points.now.values.items)) }
 {
-    let most = short(points.values.len());
-    let number = first_count(alloc, broken, By::Values(frames), most)?;
-    Ok(numbered(&points.values, number))
+    let most = points.values.len();
+    match first_count(alloc, broken, By::Values(frames), most)? {
+        None => Ok(None),
+        Some(count) => Ok(numbered(&points.values, count)),
+    }
 }
 
-/// The token at which the rule is broken, where some frame breaks it: an expression in the frames before the first such
-/// one can break it earlier.
+/// The token in the frame of this number that breaks the rule, where the item has so many.
+fn in_numbered(
+    alloc: Global,
+    broken: &Broken,
+    points: &Points,
+    number: usize,
+) -> Result<Option<usize>, AllocError>
+    requires short { length broken.now.part.source.text.now ≤ 1048576 }
+    requires first { IsFirstFrame (spot_of broken.now.part) broken.now.rule number }
+    ensures { IfOk result (λ found. IfSome found (IsOfItem (spot_of broken.now.part) broken.now.rule
+        points.now.values.items (entries_of points.now.frames.items))) }
+{
+    match points.frames.get(number.saturating_sub(1)) {
+        None => {
+            return Ok(None);
+        }
+        Some(frame) => {
+            return in_frame(alloc, broken, frame, number);
+        }
+    }
+}
+
+/// The token at which the rule is broken, where the frame of this number is the first that breaks it: an expression in
+/// the frames before it can break it earlier.
 fn among_frames(
+    alloc: Global,
+    broken: &Broken,
+    points: &Points,
+    number: usize,
+) -> Result<Option<usize>, AllocError>
+    requires short { length broken.now.part.source.text.now ≤ 1048576 }
+    requires first { IsFirstFrame (spot_of broken.now.part) broken.now.rule number }
+    ensures { IfOk result (λ found. IfSome found (IsOfItem (spot_of broken.now.part) broken.now.rule
+        points.now.values.items (entries_of points.now.frames.items))) }
+{
+    if number <= 1 {
+        return in_numbered(alloc, broken, points, number);
+    }
+    match in_values(alloc, broken, points, number - 1)? {
+        None => {
+            return in_numbered(alloc, broken, points, number);
+        }
+        Some(token) => {
+            return Ok(Some(token));
+        }
+    }
+}
+
+/// The token of an expression's point at which the rule is broken, in all frames.
+fn in_all_frames(
     alloc: Global,
     broken: &Broken,
     points: &Points,
 ) -> Result<Option<usize>, AllocError>
     requires { length broken.now.part.source.text.now ≤ 1048576 }
-    ensures { let source = broken.now.part.source in IfOk result (λ o. IfSome o (IsOfItem source.text.now
-        source.tokens.now broken.now.rule points.now.values.items (entries_of points.now.frames.items))) }
+    ensures { IfOk result (λ found. IfSome found (IsOfItem (spot_of broken.now.part) broken.now.rule
+        points.now.values.items (entries_of points.now.frames.items))) }
 {
-    let most = short(points.frames.len());
-    let frames = first_count(alloc, broken, By::Frames, most)?;
-    let before = frames.saturating_sub(1);
-    if 0 < before && breaks(alloc, broken, cut_by(By::Values(before), u32::MAX))? {
-        return in_values(alloc, broken, points, before);
-    }
-    match points.frames.get(before as usize) {
-        None => {
-            return Ok(None);
-        }
-        Some(frame) => {
-            return in_frame(alloc, broken, frame, frames);
-        }
-    }
+    in_values(alloc, broken, points, usize::MAX)
 }
 
 fn among_points(
@@ -224,20 +314,23 @@ fn among_points(
     points: &Points,
 ) -> Result<Option<usize>, AllocError>
     requires { length broken.now.part.source.text.now ≤ 1048576 }
-    ensures { let source = broken.now.part.source in IfOk result (λ o. IfSome o (IsOfItem source.text.now
-        source.tokens.now broken.now.rule points.now.values.items (entries_of points.now.frames.items))) }
+    ensures { IfOk result (λ found. IfSome found (IsOfItem (spot_of broken.now.part) broken.now.rule
+        points.now.values.items (entries_of points.now.frames.items))) }
 {
-    if breaks(alloc, broken, cut_by(By::Frames, u32::MAX))? {
-        return among_frames(alloc, broken, points);
+    match first_frame(alloc, broken, points.frames.len())? {
+        None => {
+            return in_all_frames(alloc, broken, points);
+        }
+        Some(number) => {
+            return among_frames(alloc, broken, points, number);
+        }
     }
-    in_values(alloc, broken, points, u32::MAX)
 }
 
 /// The token at which an item breaks the rule.
 fn token_of(alloc: Global, broken: &Broken) -> Result<Option<usize>, AllocError>
     requires { length broken.now.part.source.text.now ≤ 1048576 }
-    ensures { let part = broken.now.part in IfOk result (λ o. IfSome o (IsOfTree part.source.text.now
-        part.source.tokens.now part.source.spans.now broken.now.rule part.number part.item.now)) }
+    ensures { IfOk result (λ found. IfSome found (IsOfTree (spot_of broken.now.part) broken.now.rule)) }
 {
     let first = short(broken.part.source.first(broken.part.number));
     let points = points_of(alloc, first, broken.part.item)?;
@@ -271,9 +364,9 @@ fn offending(
 
 /// The token at which an item breaks a rule of scope; the item's first token where none is found.
 ///
-/// What is looked for is the point behind which the item, cut off there, breaks the rule, and cut off before does not.
-/// Where the item breaks the rule at several points, that is the first of them, but for loops that break it in other
-/// turns. Proved is that the token is the item's first, or one that its tree has.
+/// What is found is a point behind which the item, cut off there, breaks the rule, and cut off before it does not; of a
+/// frame, that is a statement without its expressions, also a name or a width. Where the item breaks the rule at several
+/// points, it is the first of them, but for loops that break it in other turns.
 pub fn find_offence(
     alloc: Global,
     source: &Source,
@@ -287,40 +380,4 @@ pub fn find_offence(
 {
     let found = offending(alloc, source, rule, number)?;
     Ok(source.held(number, found))
-}
-
-/// Whether the walk over the items before this one is too long.
-fn is_too_long(alloc: Global, source: &Source, item: usize) -> Result<bool, AllocError>
-    requires { length source.now.text.now ≤ 1048576 }
-    ensures long { let front = front_text source.now.text.now source.now.tokens.now source.now.spans.now item in
-        IfOk result (λ long. IsTrue long → HasOffence front too_long) }
-    ensures short { let front = front_text source.now.text.now source.now.tokens.now source.now.spans.now item in
-        IfOk result (λ long. IsFalse long → IsNotLong front) }
-{
-    match front_of(alloc, source, item)? {
-        None => Ok(false),
-        Some(program) => match see(alloc, program)? {
-            Seen::TooLong => Ok(true),
-            Seen::Kept => Ok(false),
-            Seen::Broken { rule: _, item: _ } => Ok(false),
-        },
-    }
-}
-
-/// The item with which the walk over a program becomes too long.
-pub fn turns_item(alloc: Global, source: &Source) -> Result<usize, AllocError>
-    requires { length source.now.text.now ≤ 1048576 }
-    ensures { IfOk result (IsLongWith source.now.text.now source.now.tokens.now source.now.spans.now) }
-{
-    let mut low = 0;
-    let mut high = source.spans.len();
-    while low < high && high - low > 1 {
-        let middle = low + (high - low) / 2;
-        if is_too_long(alloc, source, middle)? {
-            high = middle;
-        } else {
-            low = middle;
-        }
-    }
-    Ok(high.saturating_sub(1))
 }

@@ -2,6 +2,7 @@
 
 ghost use Rattle.std.specs.Prelude.{◌≡◌, ◌≤◌, ◌⊎◌, ℕ, Some, length, nat_le, position, IfOk, All};
 ghost use Rattle.pr_lens_find.specs.Tokens.{kind_of, start_of, end_of, bytes_of, text_before, first_of, last_of, front_text};
+ghost use Rattle.pr_lens_find.specs.Depths.{depth_after};
 ghost use Rattle.pr_lens_find.specs.Spans.{IsSpanWithin, IsItemAt, StandsIn};
 
 use pr_lang::{Keyword, Kind, Symbol, Token};
@@ -144,7 +145,9 @@ fn first_ending(spans: &[Span], token: usize) -> Option<usize>
 }
 
 /// How deep brackets are open after a token.
-fn depth_after(depth: usize, kind: Kind) -> usize {
+pub fn depth_after(depth: usize, kind: Kind) -> usize
+    ensures { result ≡ depth_after depth kind }
+{
     match kind {
         Kind::Mark(symbol) => match symbol {
             Symbol::OpenRound | Symbol::OpenSquare | Symbol::OpenCurly => depth.saturating_add(1),

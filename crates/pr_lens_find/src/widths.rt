@@ -1,16 +1,18 @@
 //! Equations without widths.
 
-ghost use Rattle.std.specs.Prelude.{◌≡◌, ◌≤◌, ◌⊎◌, [], length, vec_len, IfOk, MatchOption};
+ghost use Rattle.std.specs.Prelude.{◌≡◌, ◌≤◌, ◌⊎◌, [], length, vec_len, IfOk, IfSome, IsFalse, IsTrue, MatchOption};
 ghost use Rattle.pr_flat.specs.Flats.{equations_of};
 ghost use Rattle.pr_flat.specs.Shape.{equation_shape};
 ghost use Rattle.pr_flat.specs.Widths.{IsFirstWithout};
-ghost use Rattle.pr_lens_find.specs.Widths.{HaveWidths, IsEquation, IsUnknown, IsToldOf, IsToldCut, IsToldIn};
+ghost use Rattle.pr_lens_find.specs.Widths.{HaveWidths, IsEquation, IsUnknown, IsToldOf, LacksWidth, LacksNone, LacksFirst, IsToldCut, IsToldOfSpot, IsToldIn};
+ghost use Rattle.pr_lens_find.specs.Fronts.{spot_of};
 ghost use Rattle.pr_lens_find.specs.Spans.{StandsIn};
 ghost use Rattle.pr_lens_find.specs.Made.{IsMadeAt};
 
 use crate::counts::{numbered, short};
 use crate::equations::{Made, equations_item, made_with};
 use crate::fronts::{Part, item_of};
+use crate::halves::{Question, turn_between};
 use crate::sources::Source;
 use pr_base::bits_of;
 use pr_flat::{Equation, Flat, Op, Operand};
@@ -37,32 +39,46 @@ fn first_without(alloc: Global, flat: &Flat) -> Result<Option<u32>, AllocError>
 }
 
 /// Whether some equation has no width with so many points of the item's expressions.
-fn lacks(alloc: Global, part: &Part, values: u32) -> Result<bool, AllocError>
+fn lacks(alloc: Global, part: &Part, count: usize) -> Result<bool, AllocError>
     requires { length part.now.source.text.now ≤ 1048576 }
+    ensures yes { IfOk result (λ answer. IsTrue answer → LacksWidth (spot_of part.now) count) }
+    ensures no { IfOk result (λ answer. IsFalse answer → LacksNone (spot_of part.now) count) }
 {
-    let Made::Flat(flat) = made_with(alloc, part, values)? else {
-        return Ok(false);
-    };
-    let found = first_without(alloc, &flat)?;
-    Ok(found.is_some())
+    match made_with(alloc, part, count)? {
+        Made::Flat(flat) => match first_without(alloc, &flat)? {
+            None => Ok(false),
+            Some(_equation) => Ok(true),
+        },
+        Made::TooMany => Ok(false),
+        Made::Refused => Ok(false),
+    }
 }
 
-/// A count of points with which some equation of the item has no width, and with one less all have.
-fn first_count(alloc: Global, part: &Part, most: u32) -> Result<u32, AllocError>
-    requires { length part.now.source.text.now ≤ 1048576 }
-    ensures { IfOk result (λ count. count ≤ most) }
-{
-    let mut low = 0;
-    let mut high = most;
-    while low < high && high - low > 1 {
-        let middle = low + (high - low) / 2;
-        if lacks(alloc, part, middle)? {
-            high = middle;
-        } else {
-            low = middle;
-        }
+/// Whether some equation has no width with so many points of an item's expressions.
+#[derive(Clone, Copy)]
+struct Lacking<'a> {
+    part: Part<'a>,
+}
+
+impl<'a> Question for Lacking<'a> {
+    ghost can_ask = { λ s. length s.part.source.text.now ≤ 1048576 };
+
+    ghost yes = { λ s count. LacksWidth (spot_of s.part) count };
+
+    ghost no = { λ s count. LacksNone (spot_of s.part) count };
+
+    fn ask(&self, alloc: Global, count: usize) -> Result<bool, AllocError> {
+        lacks(alloc, &self.part, count)
     }
-    Ok(high)
+}
+
+/// A count of points with which some equation of the item has no width, and with one less none lacks one.
+fn first_count(alloc: Global, part: &Part, most: usize) -> Result<Option<usize>, AllocError>
+    requires { length part.now.source.text.now ≤ 1048576 }
+    ensures { IfOk result (λ found. IfSome found (LacksFirst (spot_of part.now))) }
+{
+    let lacking = Lacking { part: *part };
+    turn_between(alloc, &lacking, 0, most)
 }
 
 /// How wide an operand is.
@@ -220,35 +236,40 @@ fn missing_in(
 }
 
 /// What is known of the first equation without a width, with so many points of the item's expressions.
-fn missing_at(alloc: Global, part: &Part, token: usize, values: u32) -> Result<Missing, AllocError>
+fn missing_at(alloc: Global, part: &Part, token: usize, count: usize) -> Result<Missing, AllocError>
     requires { length part.now.source.text.now ≤ 1048576 }
     ensures token { IfOk result (λ missing. missing.token ≡ token) }
-    ensures told { let source = part.now.source in IfOk result
-        (IsToldCut source.text.now source.tokens.now source.spans.now part.now.number part.now.item.now) }
+    ensures told { IfOk result (IsToldCut (spot_of part.now) count) }
 {
-    let Made::Flat(flat) = made_with(alloc, part, values)? else {
+    let Made::Flat(flat) = made_with(alloc, part, count)? else {
         return Ok(unknown(alloc, token));
     };
-    let Made::Flat(before) = made_with(alloc, part, values.saturating_sub(1))? else {
+    let Made::Flat(before) = made_with(alloc, part, count.saturating_sub(1))? else {
         return Ok(unknown(alloc, token));
     };
     missing_in(alloc, token, &flat, &before)
 }
 
 /// The same, at the first point with which an equation of the item has no width.
-fn missing_of(alloc: Global, part: &Part, first: usize) -> Result<Missing, AllocError>
+fn missing_of(alloc: Global, part: &Part) -> Result<Missing, AllocError>
     requires { length part.now.source.text.now ≤ 1048576 }
     ensures stands { let source = part.now.source in
         IfOk result (λ missing. StandsIn source.tokens.now source.spans.now part.now.number missing.token) }
-    ensures told { let source = part.now.source in IfOk result
-        (IsToldCut source.text.now source.tokens.now source.spans.now part.now.number part.now.item.now) }
+    ensures told { IfOk result (IsToldOfSpot (spot_of part.now)) }
 {
+    let first = part.source.first(part.number);
     let points = points_of(alloc, short(first), part.item)?;
-    let values = first_count(alloc, part, short(points.values.len()))?;
-    let token = part
-        .source
-        .held(part.number, numbered(&points.values, values));
-    missing_at(alloc, part, token, values)
+    match first_count(alloc, part, points.values.len())? {
+        None => {
+            let token = part.source.held(part.number, None);
+            return Ok(unknown(alloc, token));
+        }
+        Some(count) => {
+            let found = numbered(&points.values, count);
+            let token = part.source.held(part.number, found);
+            return missing_at(alloc, part, token, count);
+        }
+    }
 }
 
 /// Where the first equation without a width, which has this number, is made: the token of the first point with which it
@@ -270,5 +291,5 @@ pub fn find_missing(alloc: Global, source: &Source, equation: usize) -> Result<M
         number,
         item: &item,
     };
-    missing_of(alloc, &part, first)
+    missing_of(alloc, &part)
 }

@@ -1,12 +1,10 @@
 -- Texts that end earlier, with an output more.
-use Rattle.std.proofs.Common.{◌≡◌, ◌∙◌, ◌≢◌, ◌<◌, ◌≤◌, ◌+◌, ◌-◌, ℕ, Bool, None, Some, List, length, sym, subst, inr, arith}
+use Rattle.std.proofs.Common.{◌≡◌, ◌∙◌, ◌≢◌, ℕ, Bool, None, Some, List, sym, inr}
 use Rattle.pr_base.specs.declared.caps.Cap.{Cap}
-use Rattle.pr_lang.specs.declared.tokens.Token.{Token}
 use Rattle.pr_flat.specs.declared.flat.Flat.{Flat}
 use Rattle.pr_cut_units.specs.Flats.{flat_net}
 use Rattle.pr_cut_units.specs.Nets.{limit_passed}
-use Rattle.pr_lens_find.specs.declared.sources.Span.{Span}
-use Rattle.pr_lens_fits.specs.Targets.{HasFewUnits, HasManyUnits, HasFewUnitsBefore, IsManyUnitsWith}
+use Rattle.pr_lens_fits.specs.Targets.{HasFewUnits}
 use Rattle.pr_lens_fits.specs.Unfits.{IsReadyOf}
 use Rattle.pr_lens_fits.proofs.UnfitLemmas.{of_net}
 
@@ -24,12 +22,3 @@ within_limits narrowed text flat widths r is = other_net narrowed text flat widt
 
 pub other_limit : (narrowed : Bool) (text : List ℕ) (flat : Flat) (widths : List ℕ) (which : Cap) → IsReadyOf narrowed text flat widths → limit_passed 64 (flat_net flat widths) ≡ Some which → which ≢ Cap.Units → HasFewUnits narrowed text
 other_limit narrowed text flat widths which r is other = other_net narrowed text flat widths r (λ many. other (let both = sym is ∙ many in cc))
-
--- the item before the first front that is known to have too many units
-pub units_with : (narrowed : Bool) (text : List ℕ) (tokens : List Token) (spans : List Span) (low high item : ℕ) → item ≡ high - 1 → high ≤ length spans → (0 < length spans → low < high) → high ≤ low + 1
-    → (high < length spans → HasManyUnits narrowed text tokens spans high) → (0 < low → HasFewUnitsBefore narrowed text tokens spans low) → IsManyUnitsWith narrowed text tokens spans item
-units_with narrowed text tokens spans low high item is within order near many few = record {
-  within = omega arith;
-  many = λ more. (let same : high ≡ item + 1 = omega arith in subst (λ (k : ℕ). HasManyUnits narrowed text tokens spans k) same (many (omega arith)));
-  few = λ some. (let same : low ≡ item = omega arith in subst (λ (k : ℕ). HasFewUnitsBefore narrowed text tokens spans k) same (few (omega arith)));
-}

@@ -43,20 +43,26 @@ ready_told false program flat widths ready news h all narrow whole outputs =
     whole_ready (λ es ws qs. AreTold ready news es ws qs) program flat widths h all
     (record { equations = ap (λ (f : Flat). flats.equations_of f) (whole refl).0; widths_are = (whole refl).1; outputs_are = outputs })
 
--- what holds of their net holds of the program's net
-pub of_net : (Holds : NetShape → Type 0) (narrowed : Bool) (program : Program) (given : List ℕ) (flat : Flat) (widths : List ℕ)
-    → OfReadyBy narrowed program given (λ ready news. AreTold flat widths ready news (equations_of program).outputs) → Holds (net_of (flats.equations_of flat) widths flat.outputs.items)
-    → OfReadyBy narrowed program given (λ ready news. Holds (net_by program ready news))
-of_net Holds narrowed program given flat widths are is = record {
+-- what holds of them holds of the program's
+pub of_told : (Holds : List EquationShape → List ℕ → List Operand → Type 0) (narrowed : Bool) (program : Program) (given : List ℕ) (flat : Flat) (widths : List ℕ)
+    → OfReadyBy narrowed program given (λ ready news. AreTold flat widths ready news (equations_of program).outputs) → Holds (flats.equations_of flat) widths flat.outputs.items
+    → OfReadyBy narrowed program given (λ ready news. Holds ready news (equations_of program).outputs)
+of_told Holds narrowed program given flat widths are is = record {
   flat = are.flat;
   widths_are = are.widths_are;
   ready = are.ready;
   news = are.news;
   are = are.are;
-  holds = subst (λ (qs : List Operand). Holds (net_of are.ready are.news qs)) are.holds.outputs_are
-      (subst (λ (ws : List ℕ). Holds (net_of are.ready ws flat.outputs.items)) are.holds.widths_are
-      (subst (λ (es : List EquationShape). Holds (net_of es widths flat.outputs.items)) are.holds.equations is));
+  holds = subst (λ (qs : List Operand). Holds are.ready are.news qs) are.holds.outputs_are
+      (subst (λ (ws : List ℕ). Holds are.ready ws flat.outputs.items) are.holds.widths_are
+      (subst (λ (es : List EquationShape). Holds es widths flat.outputs.items) are.holds.equations is));
 }
+
+-- the same of their net
+pub of_net : (Holds : NetShape → Type 0) (narrowed : Bool) (program : Program) (given : List ℕ) (flat : Flat) (widths : List ℕ)
+    → OfReadyBy narrowed program given (λ ready news. AreTold flat widths ready news (equations_of program).outputs) → Holds (net_of (flats.equations_of flat) widths flat.outputs.items)
+    → OfReadyBy narrowed program given (λ ready news. Holds (net_by program ready news))
+of_net Holds = of_told (λ es ws qs. Holds (net_of es ws qs))
 
 pub has_unfit : (narrowed : Bool) (text : List ℕ) (flat : Flat) (widths : List ℕ) (unit : ℕ) (found : Unfit) → IsReadyOf narrowed text flat widths → IsUnfit (flat_net flat widths) unit found → HasUnfit narrowed text unit found
 has_unfit narrowed text flat widths unit found r is = record {

@@ -1,5 +1,5 @@
 -- Texts that end earlier, with an output more.
-use Rattle.std.specs.Prelude.{ℕ, ◌≡◌, ◌≢◌, ◌≤◌, ◌-◌, ◌+◌, ◌<◌, ◌⊎◌, ◌++◌, [], Bool, Some, List, All, codes, length, replicate, slice_range}
+use Rattle.std.specs.Prelude.{ℕ, ◌≡◌, ◌≢◌, ◌≤◌, ◌-◌, ◌<◌, ◌⊎◌, ◌++◌, [], Bool, Some, List, All, codes, length, replicate, slice_range}
 use Rattle.pr_base.specs.declared.caps.Cap.{Cap}
 use Rattle.pr_lang.specs.declared.tokens.Token.{Token}
 use Rattle.pr_lang.specs.declared.trees.Program.{Program}
@@ -8,6 +8,7 @@ use Rattle.pr_compile_front.specs.Refusals.{HasWidths}
 use Rattle.pr_compile.specs.Configured.{OfReadyBy, net_by}
 use Rattle.pr_lens_find.specs.declared.sources.Span.{Span}
 use Rattle.pr_lens_find.specs.Tokens.{front_text}
+use Rattle.pr_lens_find.specs.Turns.{IsItemWith}
 use Rattle.pr_lens_fits.specs.Unfits.{HasRefusal, PassesLimit}
 
 -- a token has at most so many bytes
@@ -58,9 +59,8 @@ pub record HasFewUnitsBefore (narrowed : Bool) (text : List ℕ) (tokens : List 
   pub output : IsWithOutput text tokens (front_text text tokens spans items) longer
   pub few : HasFewUnits narrowed longer
 
--- it is an item, or 0 where there is none; unless it is the last, the items up to it have too many units so; those before it
--- have not
-pub record IsManyUnitsWith (narrowed : Bool) (text : List ℕ) (tokens : List Token) (spans : List Span) (item : ℕ) : Type 0 where
-  pub within : item ≤ length spans - 1
-  pub many : item + 1 < length spans → HasManyUnits narrowed text tokens spans (item + 1)
-  pub few : 0 < item → HasFewUnitsBefore narrowed text tokens spans item
+-- the item with which they have too many units so
+abbrev pub IsManyUnitsWith : Bool → List ℕ → List Token → List Span → ℕ → Type 0
+IsManyUnitsWith narrowed text tokens spans item =
+    IsItemWith (λ items. HasFewUnitsBefore narrowed text tokens spans items) (λ items. HasManyUnits narrowed text tokens spans items)
+    (length spans) item

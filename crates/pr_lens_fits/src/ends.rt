@@ -2,28 +2,42 @@
 
 ghost use Rattle.std.specs.Prelude.{◌≡◌, ◌<◌, length};
 ghost use Rattle.pr_lang.specs.declared.tokens.Keyword.TheVariants.{Input, Output};
-ghost use Rattle.pr_lens_fits.specs.Ends.{BeginsWith};
+ghost use Rattle.pr_lens_fits.specs.Ends.{BeginsWith, PassesWith, input_bytes, output_count, width_bytes};
 
 use pr_lang::{Keyword, Kind};
 use pr_lens_find::Source;
 
-/// The bytes of an input in a sample; 0 for another item.
-fn input_bytes(source: &Source, item: usize) -> usize
-    ensures { 0 < result → BeginsWith Input source.now.tokens.now source.now.spans.now item }
+/// The bytes of a width; 0 for another token.
+fn width_bytes(kind: Kind) -> usize
+    ensures { result ≡ width_bytes kind }
 {
-    let first = source.first(item);
-    if !matches!(source.kind(first), Kind::Word(Keyword::Input)) {
-        return 0;
-    }
-    match source.kind(first.saturating_add(3)) {
+    match kind {
         Kind::Number(bits) => (bits.min(128) as usize).div_ceil(8),
         _ => 0,
     }
 }
 
-/// The input with which all inputs together have more bytes than this.
+/// The bytes of an input in a sample; 0 for another item.
+fn input_bytes(source: &Source, item: usize) -> usize
+    ensures bytes { result ≡ input_bytes source.now.tokens.now source.now.spans.now item }
+    ensures begins { 0 < result → BeginsWith Input source.now.tokens.now source.now.spans.now item }
+{
+    let first = source.first(item);
+    match source.kind(first) {
+        Kind::Word(Keyword::Input) => {
+            return width_bytes(source.kind(first.saturating_add(3)));
+        }
+        _ => {
+            return 0;
+        }
+    }
+}
+
+/// The first input with which all inputs together have more bytes than this; the number of items where they have not.
 pub fn input_item(source: &Source, most: usize) -> usize
-    ensures { result < length source.now.spans.now →
+    ensures first { PassesWith (input_bytes source.now.tokens.now source.now.spans.now) most
+        (length source.now.spans.now) result }
+    ensures begins { result < length source.now.spans.now →
         BeginsWith Input source.now.tokens.now source.now.spans.now result }
 {
     let mut bytes: usize = 0;
@@ -38,17 +52,24 @@ pub fn input_item(source: &Source, most: usize) -> usize
 
 /// How many outputs an item is: 1 or none.
 fn outputs_of(source: &Source, item: usize) -> usize
-    ensures { 0 < result → BeginsWith Output source.now.tokens.now source.now.spans.now item }
+    ensures count { result ≡ output_count source.now.tokens.now source.now.spans.now item }
+    ensures begins { 0 < result → BeginsWith Output source.now.tokens.now source.now.spans.now item }
 {
     match source.kind(source.first(item)) {
-        Kind::Word(Keyword::Output) => 1,
-        _ => 0,
+        Kind::Word(Keyword::Output) => {
+            return 1;
+        }
+        _ => {
+            return 0;
+        }
     }
 }
 
-/// The output that follows so many others.
+/// The output that follows so many others; the number of items where none does.
 pub fn output_item(source: &Source, most: usize) -> usize
-    ensures { result < length source.now.spans.now →
+    ensures first { PassesWith (output_count source.now.tokens.now source.now.spans.now) most
+        (length source.now.spans.now) result }
+    ensures begins { result < length source.now.spans.now →
         BeginsWith Output source.now.tokens.now source.now.spans.now result }
 {
     let mut outputs: usize = 0;

@@ -1,55 +1,27 @@
 //! Groups of units that fit in no stripe.
 
-ghost use Rattle.std.specs.Prelude.{◌≡◌, ◌≤◌, ◌-◌, Err, Some, length, IfOk};
+ghost use Rattle.std.specs.Prelude.{◌≡◌, ◌≤◌, ◌⊎◌, Err, Some, length, IfOk};
 ghost use Rattle.pr_base.specs.declared.caps.Cap.{Cap};
 ghost use Rattle.pr_flat.specs.Flats.{equations_of};
 ghost use Rattle.pr_flat.specs.Widths.{AreWidths};
 ghost use Rattle.pr_net.specs.Shape.{cells_of};
 ghost use Rattle.pr_net.specs.Whole.{shape_of};
-ghost use Rattle.pr_cut_units.specs.Flats.{flat_net};
+ghost use Rattle.pr_cut_units.specs.Flats.{flat_net, flat_plan};
 ghost use Rattle.pr_cut_units.specs.Nets.{limit_passed};
 ghost use Rattle.pr_cut_plan.specs.declared.faults.CutFault.{CutFault};
+ghost use Rattle.pr_lens_fits.specs.Makers.{HasMaker, IsMaker};
 ghost use Rattle.pr_lens_fits.specs.Unfits.{cell_count, ends_with, group_ending, IsUnfit, IsFound};
 
 use crate::kept::kept_before;
+use crate::makers::unit_equation;
 use crate::ready::ready;
 use pr_cut::cut;
-use pr_cut_plan::{CutFault, Plan, plan_of};
-use pr_flat::{Flat, Operand};
+use pr_cut_plan::{CutFault, plan_of};
+use pr_flat::Flat;
 use pr_lens_find::{Source, equations_item};
 use pr_net::Net;
 use pr_width::Widths;
 use std::alloc::{AllocError, Global};
-
-/// Whether the first unit of an equation widens its only operand.
-fn widens_first(flat: &Flat, widths: &Widths, number: usize) -> bool {
-    let Some(equation) = flat.equations.get(number) else {
-        return false;
-    };
-    if equation.args.len() != 1 || equation.kinds.first().copied() != Some(true) {
-        return false;
-    }
-    match equation.args.first().copied() {
-        Some(Operand::Eq(operand)) => {
-            let own = widths.of.get(number).copied().unwrap_or(0);
-            widths.of.get(operand as usize).copied().unwrap_or(0) < own
-        }
-        _ => false,
-    }
-}
-
-/// The equation that makes the unit of this number: the last one with units whose first unit is not behind it.
-fn unit_equation(flat: &Flat, widths: &Widths, plan: &Plan, unit: u32) -> usize {
-    let mut found = 0;
-    for (number, hold) in plan.hold_units.iter().enumerate() {
-        // The unit that widens an operand stands before the hold units.
-        let first = hold.saturating_sub(u32::from(widens_first(flat, widths, number)));
-        if first <= unit && plan.reached.get(number).copied() == Some(true) {
-            found = number;
-        }
-    }
-    found
-}
 
 /// How many cells a unit has.
 fn cells_of(net: &Net, unit: u32) -> usize
@@ -115,6 +87,7 @@ fn group_of(
 ) -> Result<(usize, Unfit), CutFault>
     requires widths { AreWidths (equations_of flat.now) widths.now }
     requires columns { (1 ≤ columns) × (columns ≤ 64) }
+    ensures maker { IfOk result (λ r. IsMaker (flat_plan flat.now widths.now) unit r.0) }
     ensures found { IfOk result (λ r. IsUnfit (flat_net flat.now widths.now) unit r.1) }
     ensures limit { (cap : Cap) → result ≡ Err (CutFault.Limit cap) →
         limit_passed columns (flat_net flat.now widths.now) ≡ Some cap }
@@ -141,7 +114,8 @@ pub fn find_unfit(
 ) -> Result<Unfit, AllocError>
     requires short { length source.now.text.now ≤ 1048576 }
     requires columns { (1 ≤ columns) × (columns ≤ 64) }
-    ensures item { IfOk result (λ found. found.item ≤ length source.now.spans.now - 1) }
+    ensures item { IfOk result (λ found. (found.item ≡ 0) ⊎
+        HasMaker narrowed source.now.text.now source.now.tokens.now source.now.spans.now unit found.item) }
     ensures found { IfOk result (IsFound columns narrowed source.now.text.now unit) }
 {
     let nothing = Unfit {

@@ -5,6 +5,7 @@
 mod ends;
 mod groups;
 mod kept;
+mod makers;
 mod ready;
 mod targets;
 mod units;

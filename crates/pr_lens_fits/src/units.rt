@@ -1,6 +1,6 @@
 //! Units that are too many.
 
-ghost use Rattle.std.specs.Prelude.{◌≡◌, ◌↔◌, IfOk, IsFalse, IsTrue};
+ghost use Rattle.std.specs.Prelude.{◌≡◌, ◌<◌, ◌↔◌, IfOk, IsFalse, IsTrue, ⊤};
 ghost use Rattle.pr_base.specs.declared.caps.Cap.{Cap};
 ghost use Rattle.pr_lens_fits.specs.Targets.{HasFewUnits, HasFewUnitsBefore, HasManyUnits, IsManyUnitsWith};
 ghost use Rattle.pr_lens_fits.specs.Unfits.{PassesLimit};
@@ -9,7 +9,7 @@ use crate::ready::ready;
 use crate::targets::with_output;
 use pr_base::Cap;
 use pr_cut_plan::{CutFault, plan_of};
-use pr_lens_find::Source;
+use pr_lens_find::{Question, Source, item_with};
 use std::alloc::{AllocError, Global};
 
 /// Whether a limit is that of units.
@@ -56,20 +56,36 @@ fn has_many_before(
     has_many_units(alloc, &text, narrowed)
 }
 
-/// An item with which the program has too many units, where it has not without it and those behind it.
+/// Whether so many items have too many units.
+#[derive(Clone, Copy)]
+struct Crowds<'a> {
+    source: Source<'a>,
+    narrowed: bool,
+}
+
+impl<'a> Question for Crowds<'a> {
+    ghost can_ask = { λ s. ⊤ };
+
+    ghost yes = { λ s count.
+        HasManyUnits s.narrowed s.source.text.now s.source.tokens.now s.source.spans.now count };
+
+    ghost no = { λ s count. 0 < count →
+        HasFewUnitsBefore s.narrowed s.source.text.now s.source.tokens.now s.source.spans.now count };
+
+    fn ask(&self, alloc: Global, count: usize) -> Result<bool, AllocError> {
+        has_many_before(alloc, &self.source, self.narrowed, count)
+    }
+}
+
+/// An item with which the program has too many units, where it has not without it and those behind it; the number of
+/// items where it has not.
 pub fn units_item(alloc: Global, source: &Source, narrowed: bool) -> Result<usize, AllocError>
     ensures { IfOk result
         (IsManyUnitsWith narrowed source.now.text.now source.now.tokens.now source.now.spans.now) }
 {
-    let mut low = 0;
-    let mut high = source.spans.len();
-    while low < high && high - low > 1 {
-        let middle = low + (high - low) / 2;
-        if has_many_before(alloc, source, narrowed, middle)? {
-            high = middle;
-        } else {
-            low = middle;
-        }
-    }
-    Ok(high.saturating_sub(1))
+    let crowds = Crowds {
+        source: *source,
+        narrowed,
+    };
+    item_with(alloc, &crowds, source.spans.len())
 }

@@ -1,4 +1,4 @@
-pub mod Heads
+pub mod Cuts
 pub mod Steps
 pub mod Tokens
 pub mod Walks

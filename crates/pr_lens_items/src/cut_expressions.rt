@@ -1,17 +1,34 @@
 //! Expressions that are cut off. What is kept waits in boxes for what is read after it.
 
+ghost use Rattle.std.specs.Prelude.{◌≡◌, ◌-◌, map, IfOk, OnOk};
+ghost use Rattle.pr_lang.specs.Is.{name_tree, number_tree, sign_tree};
+ghost use Rattle.pr_lang.specs.Tree as tree;
+ghost use Rattle.pr_lang.specs.Shape.{fixed_shape, index_shape, ref_shape, expr_shape, sign_of};
+ghost use Rattle.pr_lens_items.specs.Cuts.{points, cut_off, fixed_part, index_points, expr_part, all_points, parts_left};
+ghost use Rattle.pr_lens_items.specs.Cuts.{low_bit, both, all_of, holding, index_alone, refer, delayed, delay, bounded, ranged, operation, chosen, not_of, called, joined, assigned};
+
 use crate::cut_fixed::{fixed, target, times_zero};
 use crate::cuts::Left;
 use pr_lang::{BinOp, Expr, Fixed, Name, Ref};
 use std::alloc::{AllocError, Global};
 
+fn number(alloc: Global, value: u64) -> Result<Box<Expr>, AllocError>
+    ensures { IfOk result (λ made. expr_shape made.value ≡ number_tree value) }
+{
+    Ok(Box::new(alloc, Expr::Number(value))?)
+}
+
 /// What is left where nothing is reached.
-fn nothing(alloc: Global) -> Result<Box<Expr>, AllocError> {
-    Ok(Box::new(alloc, Expr::Number(0))?)
+pub fn nothing(alloc: Global) -> Result<Box<Expr>, AllocError>
+    ensures { IfOk result (λ made. expr_shape made.value ≡ number_tree 0) }
+{
+    number(alloc, 0)
 }
 
 /// The lowest bit of an expression.
-fn low_bit(alloc: Global, value: Box<Expr>) -> Result<Box<Expr>, AllocError> {
+fn low_bit(alloc: Global, value: Box<Expr>) -> Result<Box<Expr>, AllocError>
+    ensures { IfOk result (λ made. expr_shape made.value ≡ low_bit (expr_shape value.value)) }
+{
     let bit = Expr::Slice(value, Fixed::Number(0), Fixed::Number(0));
     Ok(Box::new(alloc, bit)?)
 }
@@ -21,30 +38,37 @@ fn binary(
     op: BinOp,
     one: Box<Expr>,
     other: Box<Expr>,
-) -> Result<Box<Expr>, AllocError> {
+) -> Result<Box<Expr>, AllocError>
+    ensures { IfOk result (λ made. expr_shape made.value
+        ≡ tree.binary (sign_tree (sign_of op)) (expr_shape one.value) (expr_shape other.value)) }
+{
     Ok(Box::new(alloc, Expr::Binary(op, one, other))?)
 }
 
 /// An expression in which both of these are walked, one after the other, and that has a width where they have.
-fn both(alloc: Global, one: Box<Expr>, other: Box<Expr>) -> Result<Box<Expr>, AllocError> {
+fn both(alloc: Global, one: Box<Expr>, other: Box<Expr>) -> Result<Box<Expr>, AllocError>
+    ensures { IfOk result (λ made. expr_shape made.value ≡ both (expr_shape one.value) (expr_shape other.value)) }
+{
     binary(alloc, BinOp::Equal, one, other)
 }
 
 /// The same of all of these.
-fn all_of(alloc: Global, mut parts: Vec<Expr>) -> Result<Box<Expr>, AllocError> {
+fn all_of(alloc: Global, mut parts: Vec<Expr>) -> Result<Box<Expr>, AllocError>
+    ensures { IfOk result (λ made. expr_shape made.value ≡ all_of (map expr_shape parts.items)) }
+{
     let mut all = nothing(alloc)?;
-    for _ in 0..parts.len() {
-        if let Some(part) = parts.pop() {
-            let part = Box::new(alloc, part)?;
-            all = both(alloc, part, all)?;
-        }
+    while let Some(part) = parts.pop() {
+        let part = Box::new(alloc, part)?;
+        all = both(alloc, part, all)?;
     }
     Ok(all)
 }
 
 /// An expression in which a constant expression is walked, and nothing else: bit 0 of 0, so that it has a width
 /// whatever the number is.
-fn holding(alloc: Global, value: Box<Fixed>) -> Result<Box<Expr>, AllocError> {
+fn holding(alloc: Global, value: Box<Fixed>) -> Result<Box<Expr>, AllocError>
+    ensures { IfOk result (λ made. expr_shape made.value ≡ holding (fixed_shape value.value)) }
+{
     let zero = nothing(alloc)?;
     let high = times_zero(alloc, value)?;
     let bit = Expr::Slice(zero, Box::into_inner(high), Fixed::Number(0));
@@ -52,7 +76,9 @@ fn holding(alloc: Global, value: Box<Fixed>) -> Result<Box<Expr>, AllocError> {
 }
 
 /// An expression in which the index of a target is walked, and nothing else.
-fn index_alone(alloc: Global, target: Ref) -> Result<Box<Expr>, AllocError> {
+fn index_alone(alloc: Global, target: Ref) -> Result<Box<Expr>, AllocError>
+    ensures { IfOk result (λ made. expr_shape made.value ≡ index_alone (index_shape target.index)) }
+{
     let Ref { name: _name, index } = target;
     match index {
         None => nothing(alloc),
@@ -63,12 +89,32 @@ fn index_alone(alloc: Global, target: Ref) -> Result<Box<Expr>, AllocError> {
     }
 }
 
-fn refer(alloc: Global, left: &mut Left, name: &Ref) -> Result<Box<Expr>, AllocError> {
+fn refer(alloc: Global, left: &mut Left, name: &Ref) -> Result<Box<Expr>, AllocError>
+    ensures tree { IfOk result (λ kept. expr_shape kept.value ≡ refer name.now left.old.from) }
+    ensures from { OnOk result (left.new.from ≡ left.old.from - index_points name.now.index - 1) }
+{
     let name = target(alloc, left, name)?;
-    if !left.take() {
+    if left.misses() {
         return index_alone(alloc, name);
     }
     Ok(Box::new(alloc, Expr::Refer(name))?)
+}
+
+/// A stream so many samples earlier.
+fn earlier(alloc: Global, name: Box<Ref>, back: Box<Fixed>) -> Result<Box<Expr>, AllocError>
+    ensures { IfOk result (λ made. expr_shape made.value
+        ≡ tree.delay (ref_shape name.value) (fixed_shape back.value)) }
+{
+    let delay = Expr::Delay(Box::into_inner(name), Box::into_inner(back));
+    Ok(Box::new(alloc, delay)?)
+}
+
+/// A stream one sample earlier.
+fn one_earlier(alloc: Global, name: Box<Ref>) -> Result<Box<Expr>, AllocError>
+    ensures { IfOk result (λ made. expr_shape made.value ≡ tree.delay (ref_shape name.value) (number_tree 1)) }
+{
+    let delay = Expr::Delay(Box::into_inner(name), Fixed::Number(1));
+    Ok(Box::new(alloc, delay)?)
 }
 
 /// A delay whose name is reached.
@@ -77,27 +123,30 @@ fn go_back(
     left: &mut Left,
     name: Box<Ref>,
     back: &Fixed,
-) -> Result<Box<Expr>, AllocError> {
+) -> Result<Box<Expr>, AllocError>
+    ensures tree { IfOk result (λ kept. expr_shape kept.value
+        ≡ delayed (ref_shape name.value) (fixed_part back.now) left.old.from) }
+    ensures from { OnOk result (left.new.from ≡ left.old.from - points (fixed_part back.now) - 1) }
+{
     if left.is_out() {
-        let next = Expr::Delay(Box::into_inner(name), Fixed::Number(1));
-        return Ok(Box::new(alloc, next)?);
+        return one_earlier(alloc, name);
     }
     let back = fixed(alloc, left, back)?;
-    if !left.take() {
-        return holding(alloc, back);
+    if left.misses() {
+        let next = one_earlier(alloc, name)?;
+        let back = holding(alloc, back)?;
+        return both(alloc, next, back);
     }
-    let delay = Expr::Delay(Box::into_inner(name), Box::into_inner(back));
-    Ok(Box::new(alloc, delay)?)
+    earlier(alloc, name, back)
 }
 
-fn delay(
-    alloc: Global,
-    left: &mut Left,
-    name: &Ref,
-    back: &Fixed,
-) -> Result<Box<Expr>, AllocError> {
+fn delay(alloc: Global, left: &mut Left, name: &Ref, back: &Fixed) -> Result<Box<Expr>, AllocError>
+    ensures tree { IfOk result (λ kept. expr_shape kept.value ≡ delay name.now (fixed_part back.now) left.old.from) }
+    ensures from { OnOk result
+        (left.new.from ≡ left.old.from - index_points name.now.index - 1 - points (fixed_part back.now) - 1) }
+{
     let name = target(alloc, left, name)?;
-    if !left.take() {
+    if left.misses() {
         return index_alone(alloc, name);
     }
     let name = Box::new(alloc, name)?;
@@ -111,8 +160,12 @@ fn sliced(
     inner: Box<Expr>,
     high: Box<Fixed>,
     low: Box<Fixed>,
-) -> Result<Box<Expr>, AllocError> {
-    if !left.take() {
+) -> Result<Box<Expr>, AllocError>
+    ensures tree { IfOk result (λ kept. expr_shape kept.value
+        ≡ ranged (expr_shape inner.value) (fixed_shape high.value) (fixed_shape low.value) left.old.from) }
+    ensures from { OnOk result (left.new.from ≡ left.old.from - 1) }
+{
+    if left.misses() {
         let high = holding(alloc, high)?;
         let low = holding(alloc, low)?;
         let bounds = both(alloc, high, low)?;
@@ -129,7 +182,12 @@ fn slice(
     inner: Box<Expr>,
     high: &Fixed,
     low: &Fixed,
-) -> Result<Box<Expr>, AllocError> {
+) -> Result<Box<Expr>, AllocError>
+    ensures tree { IfOk result (λ kept. expr_shape kept.value
+        ≡ bounded (expr_shape inner.value) (fixed_part high.now) (fixed_part low.now) left.old.from) }
+    ensures from { OnOk result (left.new.from
+        ≡ left.old.from - points (fixed_part high.now) - points (fixed_part low.now) - 1) }
+{
     if left.is_out() {
         return Ok(inner);
     }
@@ -149,48 +207,100 @@ fn operation(
     op: BinOp,
     one: Box<Expr>,
     other: Box<Expr>,
-) -> Result<Box<Expr>, AllocError> {
-    if !left.take() {
+) -> Result<Box<Expr>, AllocError>
+    ensures tree { IfOk result (λ kept. expr_shape kept.value
+        ≡ operation op (expr_shape one.value) (expr_shape other.value) left.old.from) }
+    ensures from { OnOk result (left.new.from ≡ left.old.from - 1) }
+{
+    if left.misses() {
         return both(alloc, one, other);
     }
     binary(alloc, op, one, other)
 }
 
-/// A choice, two of whose parts are reached.
+/// A choice whose parts are reached.
 fn choose(
     alloc: Global,
     left: &mut Left,
     condition: Box<Expr>,
     one: Box<Expr>,
     other: Box<Expr>,
-) -> Result<Box<Expr>, AllocError> {
-    if !left.take() {
+) -> Result<Box<Expr>, AllocError>
+    ensures tree { IfOk result (λ kept. expr_shape kept.value
+        ≡ chosen (expr_shape condition.value) (expr_shape one.value) (expr_shape other.value) left.old.from) }
+    ensures from { OnOk result (left.new.from ≡ left.old.from - 1) }
+{
+    if left.misses() {
         let branches = both(alloc, one, other)?;
         return both(alloc, condition, branches);
     }
     Ok(Box::new(alloc, Expr::Choose(condition, one, other))?)
 }
 
-fn number(alloc: Global, left: &mut Left, value: u64) -> Result<Box<Expr>, AllocError> {
-    left.take();
-    Ok(Box::new(alloc, Expr::Number(value))?)
+/// A complement whose operand is reached.
+fn complement(alloc: Global, left: &mut Left, inner: Box<Expr>) -> Result<Box<Expr>, AllocError>
+    ensures tree { IfOk result (λ kept. expr_shape kept.value ≡ not_of (expr_shape inner.value) left.old.from) }
+    ensures from { OnOk result (left.new.from ≡ left.old.from - 1) }
+{
+    if left.misses() {
+        return Ok(inner);
+    }
+    Ok(Box::new(alloc, Expr::Not(inner))?)
 }
 
-/// As much of an expression as is left. Of a whole that is not reached, its parts that are.
+/// A call whose arguments are reached.
+fn called(
+    alloc: Global,
+    left: &mut Left,
+    name: &Name,
+    parts: Vec<Expr>,
+) -> Result<Box<Expr>, AllocError>
+    ensures tree { IfOk result (λ kept. expr_shape kept.value
+        ≡ called name.now (map expr_shape parts.items) left.old.from) }
+    ensures from { OnOk result (left.new.from ≡ left.old.from - 1) }
+{
+    if left.misses() {
+        return all_of(alloc, parts);
+    }
+    let name = name.copy(alloc)?;
+    Ok(Box::new(alloc, Expr::Call(name, parts))?)
+}
+
+/// Parts beside one another that are reached.
+fn joined(alloc: Global, left: &mut Left, parts: Vec<Expr>) -> Result<Box<Expr>, AllocError>
+    ensures tree { IfOk result (λ kept. expr_shape kept.value ≡ joined (map expr_shape parts.items) left.old.from) }
+    ensures from { OnOk result (left.new.from ≡ left.old.from - 1) }
+{
+    if left.misses() {
+        return all_of(alloc, parts);
+    }
+    Ok(Box::new(alloc, Expr::Cat(parts))?)
+}
+
+/// What is left of an expression. Of a whole that is not reached, its parts that are.
 #[cycle(expr)]
-pub fn expr(alloc: Global, left: &mut Left, value: &Expr) -> Result<Box<Expr>, AllocError> {
+pub fn expr(alloc: Global, left: &mut Left, value: &Expr) -> Result<Box<Expr>, AllocError>
+    ensures tree { IfOk result (λ kept. expr_shape kept.value ≡ cut_off (expr_part value.now) left.old.from) }
+    ensures from { OnOk result (left.new.from ≡ left.old.from - points (expr_part value.now)) }
+{
     if left.is_out() {
         return nothing(alloc);
     }
     match value {
-        Expr::Number(value) => number(alloc, left, *value),
+        Expr::Number(value) => {
+            left.misses();
+            number(alloc, *value)
+        }
         Expr::Refer(name) => refer(alloc, left, name),
         Expr::Delay(name, back) => delay(alloc, left, name, back),
         Expr::Slice(inner, high, low) => {
             let inner = expr(alloc, left, inner)?;
             slice(alloc, left, inner, high, low)
         }
-        Expr::Not(inner) => not(alloc, left, inner),
+        Expr::Not(inner) => {
+            let inner = expr(alloc, left, inner)?;
+            complement(alloc, left, inner)
+        }
         Expr::Binary(op, one, other) => {
             let one = expr(alloc, left, one)?;
             if left.is_out() {
@@ -208,54 +318,28 @@ pub fn expr(alloc: Global, left: &mut Left, value: &Expr) -> Result<Box<Expr>, A
             let other = expr(alloc, left, other)?;
             choose(alloc, left, condition, one, other)
         }
-        Expr::Call(name, parts) => call(alloc, left, name, parts),
-        Expr::Cat(parts) => cat(alloc, left, parts),
-        Expr::Paren(inner) => paren(alloc, left, inner),
+        Expr::Call(name, parts) => {
+            let parts = exprs(alloc, left, parts)?;
+            called(alloc, left, name, parts)
+        }
+        Expr::Cat(parts) => {
+            let parts = exprs(alloc, left, parts)?;
+            joined(alloc, left, parts)
+        }
+        Expr::Paren(inner) => {
+            let inner = expr(alloc, left, inner)?;
+            Ok(Box::new(alloc, Expr::Paren(inner))?)
+        }
     }
-}
-
-#[cycle(expr)]
-fn not(alloc: Global, left: &mut Left, inner: &Expr) -> Result<Box<Expr>, AllocError> {
-    let inner = expr(alloc, left, inner)?;
-    if !left.take() {
-        return Ok(inner);
-    }
-    Ok(Box::new(alloc, Expr::Not(inner))?)
-}
-
-#[cycle(expr)]
-fn paren(alloc: Global, left: &mut Left, inner: &Expr) -> Result<Box<Expr>, AllocError> {
-    let inner = expr(alloc, left, inner)?;
-    Ok(Box::new(alloc, Expr::Paren(inner))?)
-}
-
-#[cycle(expr)]
-fn call(
-    alloc: Global,
-    left: &mut Left,
-    name: &Name,
-    parts: &[Expr],
-) -> Result<Box<Expr>, AllocError> {
-    let parts = exprs(alloc, left, parts)?;
-    if !left.take() {
-        return all_of(alloc, parts);
-    }
-    let name = name.copy(alloc)?;
-    Ok(Box::new(alloc, Expr::Call(name, parts))?)
-}
-
-#[cycle(expr)]
-fn cat(alloc: Global, left: &mut Left, parts: &[Expr]) -> Result<Box<Expr>, AllocError> {
-    let parts = exprs(alloc, left, parts)?;
-    if !left.take() {
-        return all_of(alloc, parts);
-    }
-    Ok(Box::new(alloc, Expr::Cat(parts))?)
 }
 
 /// The parts that are reached, the last of them perhaps in part.
 #[cycle(expr)]
-fn exprs(alloc: Global, left: &mut Left, parts: &[Expr]) -> Result<Vec<Expr>, AllocError> {
+fn exprs(alloc: Global, left: &mut Left, parts: &[Expr]) -> Result<Vec<Expr>, AllocError>
+    ensures tree { IfOk result (λ kept. map expr_shape kept.items
+        ≡ parts_left (map expr_part parts.now) left.old.from) }
+    ensures from { OnOk result (left.new.from ≡ left.old.from - all_points (map expr_part parts.now)) }
+{
     let mut kept = Vec::new(alloc);
     for part in parts {
         if left.is_out() {
@@ -267,9 +351,12 @@ fn exprs(alloc: Global, left: &mut Left, parts: &[Expr]) -> Result<Vec<Expr>, Al
     Ok(kept)
 }
 
-/// As much as is left of the expression that a statement or an item assigns. Of one that is not kept whole it is the
-/// lowest bit, so that a declared width is not that of an operator inside.
-pub fn assigned(alloc: Global, left: &mut Left, value: &Expr) -> Result<Box<Expr>, AllocError> {
+/// What is left of the expression that a statement or an item assigns. Of one that is not kept whole it is the lowest
+/// bit, so that a declared width is not that of an operator inside.
+pub fn assigned(alloc: Global, left: &mut Left, value: &Expr) -> Result<Box<Expr>, AllocError>
+    ensures tree { IfOk result (λ kept. expr_shape kept.value ≡ assigned (expr_part value.now) left.old.from) }
+    ensures from { OnOk result (left.new.from ≡ left.old.from - points (expr_part value.now)) }
+{
     if left.is_out() {
         return nothing(alloc);
     }

@@ -1,6 +1,7 @@
 //! How much of an item is kept.
 
-ghost use Rattle.std.specs.Prelude.{◌≡◌, ◌<◌, ◌-◌, ◌↔◌, true, false, IsTrue};
+ghost use Rattle.std.specs.Prelude.{◌≡◌, ◌+◌, ◌-◌, ◌<◌, ◌↔◌, IsTrue, IsFalse};
+ghost use Rattle.pr_lens_items.specs.Cuts.{is_out, fixeds_from};
 
 /// How much of an item is kept.
 #[derive(Clone, Copy)]
@@ -13,48 +14,51 @@ pub struct Cut {
     pub fixeds: u32,
 }
 
-/// How many points or frames are left to be kept, and whether one was not.
+/// From which point or frame on what follows is cut off, counted from 1; 0 where that was before.
 #[derive(Clone, Copy)]
 pub struct Left {
-    count: u32,
-    missed: bool,
+    from: u64,
 }
 
 impl Left {
-    /// So many.
+    /// So many are kept.
     pub fn of(count: u32) -> Left
-        ensures count { result.count ≡ count }
-        ensures missed { result.missed ≡ false }
+        ensures { result.from ≡ count + 1 }
     {
         Left {
-            count,
-            missed: false,
+            from: u64::from(count) + 1,
         }
     }
 
-    /// One less; whether there was one.
-    pub fn take(&mut self) -> bool
-        ensures test { IsTrue result ↔ (0 < self.old.count) }
-        ensures count { self.new.count ≡ self.old.count - 1 }
-        ensures kept { 0 < self.old.count → self.new.missed ≡ self.old.missed }
-        ensures missed { self.old.count ≡ 0 → self.new.missed ≡ true }
+    /// So many are kept, the first of which is passed.
+    pub fn behind_first(count: u32) -> Left
+        ensures { result.from ≡ count }
     {
-        if self.is_out() {
-            return false;
+        Left {
+            from: u64::from(count),
         }
-        self.count -= 1;
-        true
     }
 
-    /// Whether none is left for what follows.
+    /// Passes one; whether it is not kept.
+    pub fn misses(&mut self) -> bool
+        ensures test { result ≡ is_out self.old.from }
+        ensures below { IsTrue result ↔ (self.old.from < 2) }
+        ensures from { self.new.from ≡ self.old.from - 1 }
+    {
+        let missed = self.from < 2;
+        self.from = self.from.saturating_sub(1);
+        missed
+    }
+
+    /// Whether nothing is kept of what follows, of which there is something.
     pub fn is_out(&mut self) -> bool
-        ensures test { IsTrue result ↔ (self.old.count ≡ 0) }
-        ensures count { self.new.count ≡ self.old.count }
-        ensures kept { 0 < self.old.count → self.new.missed ≡ self.old.missed }
-        ensures missed { self.old.count ≡ 0 → self.new.missed ≡ true }
+        ensures test { result ≡ is_out self.old.from }
+        ensures below { IsTrue result ↔ (self.old.from < 2) }
+        ensures out { IsTrue result → self.new.from ≡ 0 }
+        ensures kept { IsFalse result → self.new.from ≡ self.old.from }
     {
-        if self.count == 0 {
-            self.missed = true;
+        if self.from < 2 {
+            self.from = 0;
             return true;
         }
         false
@@ -62,9 +66,9 @@ impl Left {
 
     /// Whether one was not kept.
     pub fn has_missed(&self) -> bool
-        ensures { result ≡ self.now.missed }
+        ensures { IsTrue result ↔ (self.now.from ≡ 0) }
     {
-        self.missed
+        self.from == 0
     }
 }
 
@@ -78,24 +82,22 @@ pub struct Rest {
 }
 
 impl Rest {
-    /// All that a cut keeps.
+    /// All that a cut keeps behind the item's own frame.
     pub fn of(cut: Cut) -> Rest
-        ensures values { result.values ≡ record { count = cut.values; missed = false } }
-        ensures frames { result.frames ≡ record { count = cut.frames; missed = false } }
+        ensures values { result.values.from ≡ cut.values + 1 }
+        ensures frames { result.frames.from ≡ cut.frames }
         ensures last { result.last ≡ cut.fixeds }
     {
         Rest {
             values: Left::of(cut.values),
-            frames: Left::of(cut.frames),
+            frames: Left::behind_first(cut.frames),
             last: cut.fixeds,
         }
     }
 
-    /// The points of constant expressions that the frame that was just taken keeps: all, unless it is the last one.
+    /// The points of constant expressions that the frame that was just passed keeps: all, unless it is the last one.
     pub fn fixeds(&self) -> Left
-        ensures last { self.now.frames.count ≡ 0 → result.count ≡ self.now.last }
-        ensures all { 0 < self.now.frames.count → result.count ≡ u32.MAX }
-        ensures missed { result.missed ≡ false }
+        ensures { result.from ≡ fixeds_from self.now.frames.from self.now.last }
     {
         let mut frames = self.frames;
         if frames.is_out() {

@@ -1,6 +1,6 @@
 use Rattle.std.proofs.Common.{inl}
-use Rattle.pr_lens_find.proofs.Items.{kept_short, broken_short}
-use Rattle.pr_lens_find.proofs.offences.is_too_long.Goals as goal
+use Rattle.pr_lens_find.proofs.WalkLemmas.{kept_short, broken_short}
+use Rattle.pr_lens_find.proofs.walks.is_too_long.Goals as goal
 
 pub returns-in-None-clause-short : goal.returns-in-None-clause-short
 returns-in-None-clause-short c = λ _. inl (rw c.in-None.is at c.in_ok-front_of.ensures.none)
