@@ -1,16 +1,7 @@
 //! Brackets, and what stands in them.
 
 use pr_lang::{Kind, Symbol};
-use pr_lens_find::Source;
-
-/// How deep brackets are open after a token.
-fn depth_after(depth: usize, kind: Kind) -> usize {
-    match kind {
-        Kind::Mark(Symbol::OpenRound) | Kind::Mark(Symbol::OpenSquare) => depth.saturating_add(1),
-        Kind::Mark(Symbol::CloseRound) | Kind::Mark(Symbol::CloseSquare) => depth.saturating_sub(1),
-        _ => depth,
-    }
-}
+use pr_lens_find::{Source, depth_after};
 
 /// How many parts, told apart by commas, stand in the brackets that open at a token.
 pub fn parts_in(source: &Source, open: usize) -> usize {
@@ -68,19 +59,4 @@ pub fn square_around(source: &Source, token: usize) -> Option<usize> {
         }
     }
     None
-}
-
-/// The name before an `@`, where the token is one; else the token.
-pub fn name_before(source: &Source, token: usize) -> usize {
-    if source.kind(token) != Kind::Mark(Symbol::At) {
-        return token;
-    }
-    let last = token.saturating_sub(1);
-    if source.kind(last) == Kind::Name {
-        return last;
-    }
-    match square_around(source, last) {
-        Some(open) => open.saturating_sub(1),
-        None => token,
-    }
 }

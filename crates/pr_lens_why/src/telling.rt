@@ -3,7 +3,6 @@
 ghost use Rattle.std.specs.Prelude.{◌≤◌, true, length, IfOk, OnOk, IsTrue};
 ghost use Rattle.pr_lens_why.specs.Verdicts.{HasConfiguration, TellsOf, PointsRight};
 
-use crate::brackets::name_before;
 use crate::{fits, limits, rules, syntax, widths};
 use pr_base::Cap;
 use pr_compile::{CompileFault, compile_counted};
@@ -144,12 +143,7 @@ fn tell_scope(
 ) -> Result<usize, AllocError>
     requires { length source.now.text.now ≤ 1048576 }
 {
-    let found = find_offence(alloc, source, rule, item)?;
-    let token = if rule == 2 {
-        name_before(source, found)
-    } else {
-        found
-    };
+    let token = find_offence(alloc, source, rule, item)?;
     rules::tell(message, source, rule, token)?;
     Ok(token)
 }
