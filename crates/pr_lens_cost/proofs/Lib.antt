@@ -1,4 +1,3 @@
-mod AnswerLemmas
 mod CostLemmas
 mod RateLemmas
 mod TextLemmas

@@ -1,6 +1,6 @@
 use Rattle.std.proofs.Common.{arith, rules}
 use Rattle.std.proofs.lemmas.Result.{err_from_is_err_and}
-use Rattle.pr_lens_cost.proofs.AnswerLemmas.{front_exit, net_exit}
+use Rattle.pr_compile.proofs.Steps.{front_answer, net_answer, at_exit}
 use Rattle.pr_lens_cost.proofs.CostLemmas.{cost_is}
 use Rattle.pr_lens_cost.proofs.costs.cost_of.Goals as goal
 
@@ -11,13 +11,15 @@ compile_front-requires g c =
 
 pub returns-in_err-front-clause-refused : goal.returns-in_err-front-clause-refused
 returns-in_err-front-clause-refused g c =
-    front_exit g.row.N g.row.P c.args.narrowed c.args.text.now c.from_residual.result _ (err_from_is_err_and c.from_residual.result c.from_residual.ensures.1) c.in_err-front.ensures.refused
+    let p = err_from_is_err_and c.from_residual.result c.from_residual.ensures.1 in
+    at_exit g.row.N g.row.P c.args.narrowed c.args.text.now c.from_residual.result _ p (front_answer g.row.N g.row.P c.args.narrowed c.args.text.now _ c.in_err-front.ensures.refused)
 
 pub returns-in_err-compiled-clause-refused : goal.returns-in_err-compiled-clause-refused
 returns-in_err-compiled-clause-refused g c =
     let front = c.in_ok-front.front in
     let r = c.from_residual-in_err-compiled in
-    net_exit g.row.N g.row.P c.args.narrowed c.args.text.now r.result front.scoped.program front.widths _ (err_from_is_err_and r.result r.ensures.1) c.in_ok-front.ensures.passed.widths c.in_err-compiled.ensures.refused
+    let p = err_from_is_err_and r.result r.ensures.1 in
+    at_exit g.row.N g.row.P c.args.narrowed c.args.text.now r.result _ p (net_answer g.row.N g.row.P c.args.narrowed c.args.text.now front.scoped.program front.widths _ c.in_ok-front.ensures.passed.widths c.in_err-compiled.ensures.refused)
 
 pub returns-clause-cost : goal.returns-clause-cost
 returns-clause-cost g c =

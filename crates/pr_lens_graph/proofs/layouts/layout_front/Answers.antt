@@ -5,7 +5,7 @@ use Rattle.pr_flat.specs.Shape.{EquationShape, shapes_of}
 use Rattle.pr_cut_units.specs.Nets.{net_of}
 use Rattle.pr_compile.specs.Refusals.{IsNetAnswer, IsFrontAnswer}
 use Rattle.pr_compile.proofs.Ready.{whole_ready, narrowed_ready}
-use Rattle.pr_lens_graph.proofs.AnswerLemmas.{flat_widths, whole_answer, narrowed_answer}
+use Rattle.pr_compile.proofs.Steps.{flat_widths, whole_answer, narrowed_answer}
 use Rattle.pr_lens_graph.specs.Layouts.{IsLaidOut}
 use Rattle.pr_lens_graph.proofs.layouts.layout_front.Goals as goal
 

@@ -1,5 +1,5 @@
 use Rattle.std.proofs.lemmas.Result.{err_from_is_err_and}
-use Rattle.pr_lens_graph.proofs.AnswerLemmas.{front_exit, net_exit}
+use Rattle.pr_compile.proofs.Steps.{front_answer, net_answer, at_exit}
 use Rattle.pr_lens_graph.proofs.layouts.layout_of.Goals as goal
 
 pub layout_front-requires-clause-equations : goal.layout_front-requires-clause-equations
@@ -10,10 +10,12 @@ layout_front-requires-clause-widths g c = c.in_ok-front.ensures.passed.widths.ar
 
 pub returns-in_err-front-clause-refused : goal.returns-in_err-front-clause-refused
 returns-in_err-front-clause-refused g c =
-    front_exit g.row.N g.row.P c.args.narrowed c.args.text.now c.from_residual.result _ (err_from_is_err_and c.from_residual.result c.from_residual.ensures.1) c.in_err-front.ensures.refused
+    let p = err_from_is_err_and c.from_residual.result c.from_residual.ensures.1 in
+    at_exit g.row.N g.row.P c.args.narrowed c.args.text.now c.from_residual.result _ p (front_answer g.row.N g.row.P c.args.narrowed c.args.text.now _ c.in_err-front.ensures.refused)
 
 pub returns-in_err-layout-clause-refused : goal.returns-in_err-layout-clause-refused
 returns-in_err-layout-clause-refused g c =
     let front = c.in_ok-front.front in
     let r = c.from_residual-in_err-layout in
-    net_exit g.row.N g.row.P c.args.narrowed c.args.text.now r.result front.scoped.program front.widths _ (err_from_is_err_and r.result r.ensures.1) c.in_ok-front.ensures.passed.widths c.in_err-layout.ensures.refused
+    let p = err_from_is_err_and r.result r.ensures.1 in
+    at_exit g.row.N g.row.P c.args.narrowed c.args.text.now r.result _ p (net_answer g.row.N g.row.P c.args.narrowed c.args.text.now front.scoped.program front.widths _ c.in_ok-front.ensures.passed.widths c.in_err-layout.ensures.refused)
