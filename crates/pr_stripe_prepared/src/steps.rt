@@ -122,7 +122,7 @@ fn pad<const LONG: usize>(wide: &mut [u8; LONG], bus: &[u8])
     copy_row(&mut wide[..bus.len()], bus);
 }
 
-/// The step of a first stage that has more registers than the base fabric, or reads a longer sample.
+/// The step of a first stage of another fabric, or that reads a longer sample.
 #[inline(never)]
 fn far_step(
     q: &Prepared,
@@ -154,7 +154,7 @@ fn far_step(
 }
 
 /// The step of a first stage, which reads a sample, and passes on zeros.
-#[inline(always)]
+#[inline(never)]
 pub fn first_step(
     q: &Prepared,
     registers: &mut [u8],
@@ -174,8 +174,8 @@ pub fn first_step(
         → registers.new ≡ registers_to count 16 true pes (made_from 16 bus.now state.old [] pes) bus.now }
     ensures state { (pes : List Pe) → IsPrepared q.now pes count → state.new ≡ state_map 16 pes state.old bus.now }
 {
-    // Of 112 bytes is a row of the base fabric.
-    if q.reach.max(bus.len()) <= 112 {
+    // The base fabric has seven registers beside the state, in 112 bytes; the number is known where it is tested.
+    if count == 7 && bus.len() <= 112 {
         let mut wide = [0; 112];
         pad(&mut wide, bus);
         wide_step(q, registers, state, &wide, zeros, count);
