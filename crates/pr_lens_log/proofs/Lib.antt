@@ -1,4 +1,5 @@
 pub mod CycleLaws
 pub mod LineLaws
+pub mod PictureLaws
 pub mod WaveLaws
 pub mod WordLaws
