@@ -14,6 +14,7 @@ mod cut_fixed;
 mod cut_items;
 mod cut_statements;
 mod cuts;
+mod laws;
 mod point_expressions;
 mod point_items;
 mod point_statements;
@@ -21,5 +22,6 @@ mod points;
 
 pub use cut_items::cut_item;
 pub use cuts::Cut;
+pub use laws::{points_law, whole_law};
 pub use point_items::points_of;
 pub use points::{Frame, Points};
