@@ -6,6 +6,7 @@ use Rattle.pr_tool_modes.specs.Files.{IsText, IsLong}
 use Rattle.pr_lens_log.specs.declared.logs.Log.{Log}
 use Rattle.pr_lens_log.specs.Logs.{IsBadAt, IsLogOf}
 use Rattle.pr_lens_log.specs.Scenes.{wave_text}
+use Rattle.pr_lens_log.specs.Pictures.{chart_text}
 use Rattle.pr_lens_tool.specs.declared.orders.Drawing.{Drawing}
 use Rattle.pr_lens_tool.specs.declared.orders.Drawing.TheVariants.{Wave, Chart}
 use Rattle.pr_lens_tool.specs.declared.outcomes.Outcome.{Outcome}
@@ -31,15 +32,15 @@ abbrev pub HasBadLine : Told → List ℕ → ℕ → Type 0
 HasBadLine told name line = HasShortText told name (λ text. IsBadAt text line)
 
 -- a log is drawn so
-abbrev pub IsDrawn : Drawing → Log → List ℕ → Type 0
-IsDrawn Wave log written = written ≡ wave_text log.stripes log.cycles.items log.written.items
-IsDrawn Chart log written = ⊤
+abbrev pub drawn_text : Drawing → Log → List ℕ
+drawn_text Wave log = wave_text log.stripes log.cycles.items log.written.items
+drawn_text Chart log = chart_text log.stages log.stripes log.cycles.items
 
 -- the log of a file is drawn
 pub record IsDrawing (drawing : Drawing) (told : Told) (name written : List ℕ) : Type 0 where
   pub log : Log
   pub has : HasLog told name log
-  pub is : IsDrawn drawing log written
+  pub is : written ≡ drawn_text drawing log
 
 -- why nothing is drawn of the log of a file
 abbrev pub IsNoLog : Told → List ℕ → ℕ → ℕ → Outcome → Type 0

@@ -111,8 +111,8 @@ pub fn pipelens<S: Shelf, K: Sink>(
     shelf: &mut S,
     out: &mut K,
 ) -> Reply
-    // Lawful words are followed: the text that they ask for is written whole, unless a write fails, or nothing is, for its
-    // cause. Other words get the help or are refused. Memory may want in any call.
+    // Lawful words are followed: what they ask for is written whole, unless a write fails, or nothing is, for its cause.
+    // Other words get the help or are refused. Memory may want in any call.
     ensures called { IsCalled (asked_by words.now) (call
         (S.told shelf.old) (S.faults shelf.old) (S.faults shelf.new)
         (K.told out.old) (K.told out.new) (K.faults out.old) (K.faults out.new)) result.outcome }

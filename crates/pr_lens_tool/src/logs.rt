@@ -4,7 +4,7 @@ ghost use Rattle.std.specs.Prelude.{◌≡◌, ◌≤◌, IfOk, IfErr, length};
 ghost use Rattle.pr_tool_answers.specs.declared.answers.Answer.{Answer};
 ghost use Rattle.pr_tool_modes.specs.Files.{IsText};
 ghost use Rattle.pr_lens_tool.specs.declared.outcomes.Outcome.TheVariants.{Plain};
-ghost use Rattle.pr_lens_tool.specs.Logs.{HasLog, IsDrawing, IsDrawn, IsNoLog, most_log_bytes};
+ghost use Rattle.pr_lens_tool.specs.Logs.{HasLog, IsDrawing, IsNoLog, drawn_text, most_log_bytes};
 
 use crate::orders::Drawing;
 use crate::outcomes::{Outcome, Output};
@@ -52,7 +52,7 @@ fn log_of<S: Shelf>(alloc: Global, shelf: &mut S, name: &str) -> Result<Log, Out
 
 /// The drawing of a log.
 fn drawn(alloc: Global, drawing: Drawing, log: &Log) -> Result<Vec<u8>, AllocError>
-    ensures { IfOk result (λ text. IsDrawn drawing log.now text.items) }
+    ensures { IfOk result (λ text. text.items ≡ drawn_text drawing log.now) }
 {
     match drawing {
         Drawing::Wave => wave(alloc, log),

@@ -1,4 +1,4 @@
-use Rattle.std.proofs.Common.{◌∙◌, ap, arith}
+use Rattle.std.proofs.Common.{arith}
 use Rattle.std.proofs.lemmas.Result.{on_ok_weaker}
 use Rattle.pr_lens_tool.proofs.TextLemmas.{source_shown}
 use Rattle.pr_lens_tool.proofs.explanations.put_source.Goals as goal
