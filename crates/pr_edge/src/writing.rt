@@ -34,9 +34,8 @@ pub trait Sink {
 pub struct WriteFault;
 
 /// Writes all bytes, in as many calls as the sink asks for.
-///
-/// Where a call fails, the first bytes were written, as many as the calls before it took.
-pub fn write_all<K: Sink>(sink: &mut K, bytes: &[u8]) -> Result<(), WriteFault>
+#[inline(never)]
+fn write_pieces<K: Sink>(sink: &mut K, bytes: &[u8]) -> Result<(), WriteFault>
     ensures all { OnOk result (Appends (K.told sink.old) (K.told sink.new) bytes.now) }
     ensures front { OnErr result (AppendsFront (K.told sink.old) (K.told sink.new) bytes.now) }
     ensures cause { OnErr result (Rose (K.faults sink.old) (K.faults sink.new)) }
@@ -50,4 +49,28 @@ pub fn write_all<K: Sink>(sink: &mut K, bytes: &[u8]) -> Result<(), WriteFault>
         }
     }
     Ok(())
+}
+
+/// Writes all bytes, in as many calls as the sink asks for, which is one mostly.
+///
+/// Where a call fails, the first bytes were written, as many as the calls before it took.
+#[inline(always)]
+pub fn write_all<K: Sink>(sink: &mut K, bytes: &[u8]) -> Result<(), WriteFault>
+    ensures all { OnOk result (Appends (K.told sink.old) (K.told sink.new) bytes.now) }
+    ensures front { OnErr result (AppendsFront (K.told sink.old) (K.told sink.new) bytes.now) }
+    ensures cause { OnErr result (Rose (K.faults sink.old) (K.faults sink.new)) }
+    ensures later { K.faults sink.old ≤ K.faults sink.new }
+{
+    if bytes.is_empty() {
+        return Ok(());
+    }
+    match sink.write(bytes) {
+        Err(_) => Err(WriteFault),
+        Ok(count) => {
+            if count == bytes.len() {
+                return Ok(());
+            }
+            write_pieces(sink, &bytes[count..])
+        }
+    }
 }

@@ -47,6 +47,7 @@ pub struct Loaded<const N: usize, const P: usize> {
 }
 
 /// Takes the sample that enters into its buffer, and says whether one does. On a bubble the buffer is as it was.
+#[inline(always)]
 fn enter<const N: usize>(buffers: &mut Buffers<N>, first: Option<usize>) -> bool
     requires { vec_len buffers.old.sample ≡ buffers.old.input.size }
     ensures bus { row_if result buffers.new.sample.items ≡ bus_of buffers.old.input.waiting first }
@@ -63,6 +64,7 @@ fn enter<const N: usize>(buffers: &mut Buffers<N>, first: Option<usize>) -> bool
 }
 
 /// Puts the result that left into its queue.
+#[inline(always)]
 fn put_result<const N: usize>(buffers: &mut Buffers<N>, left: bool)
     requires { left ≡ true → length buffers.old.result.items ≡ buffers.old.output.size }
     ensures put { HasRoom buffers.old.output.waiting (row_if left buffers.old.result.items)
@@ -77,6 +79,7 @@ fn put_result<const N: usize>(buffers: &mut Buffers<N>, left: bool)
 }
 
 /// A number, where something has it.
+#[inline(always)]
 fn numbered(holds: bool, number: u64) -> Option<u64>
     ensures { result ≡ (if holds then Some number else None) }
 {
@@ -84,6 +87,7 @@ fn numbered(holds: bool, number: u64) -> Option<u64>
 }
 
 /// One, where it holds.
+#[inline(always)]
 fn counted(holds: bool) -> u64
     ensures is { result ≡ (if holds then 1 else 0) }
     ensures few { result ≤ 1 }
@@ -92,6 +96,7 @@ fn counted(holds: bool) -> u64
 }
 
 /// The place from which on no stripe has a stage, after an event.
+#[inline(always)]
 fn live_after(live: usize, event: Option<(u32, u32)>) -> usize
     ensures more { live ≤ result }
     ensures event { IfSome event (λ e. e.0 < result) }
@@ -107,6 +112,7 @@ fn live_after(live: usize, event: Option<(u32, u32)>) -> usize
 }
 
 /// An event as (stage, stripe).
+#[inline(always)]
 fn configured(event: Option<(u32, u32)>) -> Option<(u32, u32)>
     ensures { result ≡ turned event }
 {
@@ -153,6 +159,7 @@ impl<const N: usize, const P: usize> Loaded<N, P> {
     }
 
     /// What the next cycle is to do.
+    #[inline(always)]
     pub(crate) fn schedule(&self) -> Schedule
         ensures scheduled { IsScheduled (vec_len self.now.conf.stages) (vec_len self.now.places)
             self.now.plan.time result }
@@ -167,6 +174,7 @@ impl<const N: usize, const P: usize> Loaded<N, P> {
     }
 
     /// Whether the next cycle is stalled.
+    #[inline(always)]
     pub(crate) fn is_held(&self, schedule: &Schedule) -> bool
         requires { IsScheduled (vec_len self.now.conf.stages) (vec_len self.now.places)
             self.now.plan.time schedule.now }
@@ -184,6 +192,7 @@ impl<const N: usize, const P: usize> Loaded<N, P> {
     }
 
     /// A cycle that is not stalled.
+    #[inline(always)]
     pub(crate) fn advance(&mut self, schedule: &Schedule) -> Turn
         requires schedule { IsScheduled (vec_len self.old.conf.stages) (vec_len self.old.places)
             self.old.plan.time schedule.now }
@@ -224,6 +233,7 @@ impl<const N: usize, const P: usize> Loaded<N, P> {
 }
 
 /// Whether a sample would enter.
+#[inline(always)]
 fn may_enter(first: Option<usize>, waiting: usize) -> bool
     ensures { result ≡ will_enter waiting first }
 {

@@ -148,6 +148,7 @@ impl<const N: usize, const P: usize> Machine<N, P, Running> {
     /// # Errors
     ///
     /// `InFull` exactly where 16 samples wait; the machine is then as it was.
+    #[inline(always)]
     pub fn offer(&mut self, piece: &[u8]) -> Result<(), InFull>
         requires { length piece.now ≡ sample_bytes_of self.old }
         ensures stands { (c : Shape) (p : ℕ) (h : History) → Stands self.old c p h →
@@ -171,6 +172,7 @@ impl<const N: usize, const P: usize> Machine<N, P, Running> {
     /// # Errors
     ///
     /// `OutEmpty` exactly where no result waits; the machine and the buffer are then as they were.
+    #[inline(always)]
     pub fn take(&mut self, into: &mut [u8]) -> Result<(), OutEmpty>
         requires { length into.old ≡ result_bytes_of self.old }
         ensures stands { (c : Shape) (p : ℕ) (h : History) → Stands self.old c p h →
@@ -278,6 +280,14 @@ impl<const N: usize, const P: usize> Machine<N, P, Running> {
         ensures few { result ≤ 16 }
     {
         self.parts.buffers.output.len()
+    }
+
+    /// The bytes of a result: 1,024 at most.
+    pub fn result_bytes(&self) -> usize
+        ensures is { result ≡ result_bytes_of self.now }
+        ensures most { result ≤ 1024 }
+    {
+        self.parts.buffers.output.piece_bytes()
     }
 
     /// The configuration.

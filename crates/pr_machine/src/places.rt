@@ -32,6 +32,7 @@ pub enum Place<const N: usize, const P: usize> {
 }
 
 /// A stage of a configuration, which is lawful at its number.
+#[inline(always)]
 fn stage_at<const N: usize, const P: usize>(conf: &Configuration<N, P>, number: u32) -> &Stage<N>
     requires { number < vec_len conf.now.stages }
     ensures pes { slice_index_or (shape_of conf.now).stages number [] ≡ result.now.pes.items }
@@ -128,7 +129,7 @@ fn renew<const N: usize, const P: usize>(place: &mut Place<N, P>, store: &mut St
 }
 
 /// One place computes, and reads what a later place shows.
-#[inline(never)]
+#[inline(always)]
 #[tactic(auto, using(crate::proofs::Here::there))]
 fn step_below<const N: usize, const P: usize>(
     places: &mut [Place<N, P>],
@@ -236,6 +237,7 @@ fn step_ring<const N: usize, const P: usize>(
 
 /// Each place computes, and the first one last: it holds stage 0, which reads no other place, or no stage. From place
 /// `live` on there is no stage, so that nothing is to be done.
+#[inline(always)]
 fn step_line<const N: usize, const P: usize>(
     places: &mut [Place<N, P>],
     conf: &Configuration<N, P>,
@@ -263,6 +265,7 @@ fn step_line<const N: usize, const P: usize>(
 }
 
 /// Each place computes, but that of the cycle's event where every cycle has one.
+#[inline(always)]
 fn compute<const N: usize, const P: usize>(
     places: &mut [Place<N, P>],
     conf: &Configuration<N, P>,
@@ -300,6 +303,7 @@ fn stage_in_place<const N: usize, const P: usize>(place: &Place<N, P>) -> Option
 }
 
 /// The event of a cycle, if there is one: the stage that was saved for it.
+#[inline(always)]
 fn replace_stage<const N: usize, const P: usize>(
     places: &mut [Place<N, P>],
     store: &mut Store<N>,
@@ -365,6 +369,7 @@ fn will_leave<const N: usize, const P: usize>(
 }
 
 /// Whether the last stage would compute a valid row while 16 results wait.
+#[inline(always)]
 pub(crate) fn is_stalled<const N: usize, const P: usize>(
     places: &[Place<N, P>],
     stages: usize,
@@ -381,6 +386,7 @@ pub(crate) fn is_stalled<const N: usize, const P: usize>(
 }
 
 /// Reads the result that leaves, if one does.
+#[inline(always)]
 #[tactic(auto, using(crate::proofs::Here::there))]
 fn leaving<const N: usize, const P: usize>(
     places: &[Place<N, P>],
@@ -411,6 +417,7 @@ fn leaving<const N: usize, const P: usize>(
 
 /// A whole cycle of the stripes and the store, with the sample in its buffer where it enters. A result that
 /// leaves is in the buffer for it.
+#[inline(always)]
 pub(crate) fn pass<const N: usize, const P: usize>(
     places: &mut [Place<N, P>],
     conf: &Configuration<N, P>,

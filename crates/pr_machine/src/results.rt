@@ -13,6 +13,7 @@ use pr_conf::{Configuration, Output, Tap};
 use pr_stripe::Row;
 
 /// The byte that a tap reads.
+#[inline(always)]
 fn read_tap<const N: usize, const P: usize>(row: &Row<N, P>, tap: Tap) -> u8
     requires { is_lawful_tap N P tap ≡ true }
     ensures { result ≡ tap_byte N (bytes_of row.now) tap }
@@ -24,6 +25,7 @@ fn read_tap<const N: usize, const P: usize>(row: &Row<N, P>, tap: Tap) -> u8
 }
 
 /// Appends the bytes of an output. There is room for them, so no memory is taken.
+#[inline(always)]
 fn append_output<const N: usize, const P: usize>(into: &mut Vec<u8>, row: &Row<N, P>, taps: &[Tap])
     requires lawful { list_all (is_lawful_tap N P) taps.now ≡ true }
     requires room { vec_len into.old + length taps.now ≤ vec_capacity into.old }
@@ -36,6 +38,7 @@ fn append_output<const N: usize, const P: usize>(into: &mut Vec<u8>, row: &Row<N
 }
 
 /// Appends the bytes of outputs. There is room for them, so no memory is taken.
+#[inline(always)]
 fn append_outputs<const N: usize, const P: usize>(
     into: &mut Vec<u8>,
     row: &Row<N, P>,
@@ -53,6 +56,7 @@ fn append_outputs<const N: usize, const P: usize>(
 }
 
 /// Fills a buffer with the result that a configuration reads from a row of its last stage. No memory is taken.
+#[inline(always)]
 pub(crate) fn read_result<const N: usize, const P: usize>(
     conf: &Configuration<N, P>,
     row: &Row<N, P>,

@@ -41,7 +41,7 @@ impl Model for Queue {
 
     ghost view = { λ q. record { size = q.size; waiting = pieces_from q.head q.count q.size q.slots.items } };
 
-    ghost invariant = { λ q. (vec_len q.slots ≡ 16 * q.size) × (q.count ≤ 16) × (q.head < 16) × (0 < q.size) };
+    ghost invariant = { λ q. (vec_len q.slots ≡ 16 * q.size) × (q.count ≤ 16) × (q.head < 16) × (0 < q.size) × (q.size ≤ 1024) };
 }
 
 /// Fills a slot of as many bytes as the piece has.
@@ -85,6 +85,14 @@ impl Queue {
         ensures few { result ≤ 16 }
     {
         self.count
+    }
+
+    /// The bytes of a piece: 1,024 at most.
+    pub fn piece_bytes(&self) -> usize
+        ensures size { result ≡ self.now.size }
+        ensures most { result ≤ 1024 }
+    {
+        self.size
     }
 
     /// Appends a piece of the queue's size.

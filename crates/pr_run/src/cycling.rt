@@ -52,6 +52,7 @@ fn write_line<K: Sink>(out: &mut K, turn: &Turn, time: u64, state: &[u8]) -> Res
 }
 
 /// Asks the machine for one cycle, and writes its line where the log is asked for.
+#[inline(always)]
 pub fn cycle_step<const N: usize, const P: usize, K: Sink>(
     machine: &mut Machine<N, P, Running>,
     out: &mut K,

@@ -31,6 +31,7 @@ pub fn put_widths<const N: usize, const P: usize>(
 }
 
 /// Takes a result, which waits, and writes its line.
+#[inline(always)]
 fn write_one<const N: usize, const P: usize, K: Sink>(
     machine: &mut Machine<N, P, Running>,
     out: &mut K,
@@ -55,6 +56,7 @@ fn write_one<const N: usize, const P: usize, K: Sink>(
 }
 
 /// Takes all results that wait, and writes their lines.
+#[inline(always)]
 fn drain<const N: usize, const P: usize, K: Sink>(
     machine: &mut Machine<N, P, Running>,
     out: &mut K,
@@ -81,6 +83,7 @@ fn drain<const N: usize, const P: usize, K: Sink>(
 }
 
 /// Takes all results that wait and writes their lines, unless the output side is held.
+#[inline(always)]
 pub fn drain_step<const N: usize, const P: usize, K: Sink>(
     machine: &mut Machine<N, P, Running>,
     out: &mut K,
@@ -104,6 +107,6 @@ pub fn drain_step<const N: usize, const P: usize, K: Sink>(
     if machine.waiting_out() == 0 {
         return Ok(());
     }
-    let size = machine.conf().result_bytes();
+    let size = machine.result_bytes();
     drain(machine, out, widths, &mut bytes[..size])
 }

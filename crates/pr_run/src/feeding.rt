@@ -54,6 +54,7 @@ fn put_sample(into: &mut [u8], widths: &[u8], numbers: &[Num]) -> usize
 }
 
 /// Offers a sample of these numbers, for which there is room. The first bytes of the buffer of 64 are overwritten.
+#[inline(always)]
 pub fn offer_sample<const N: usize, const P: usize>(
     machine: &mut Machine<N, P, Running>,
     bytes: &mut [u8],
@@ -86,6 +87,7 @@ fn may_read(held: bool, last: Got, waiting: usize) -> bool
 }
 
 /// Reads a sample and offers it, and gives the feed's answer.
+#[inline(always)]
 fn read_one<const N: usize, const P: usize, S: Shelf>(
     machine: &mut Machine<N, P, Running>,
     feed: &mut Feed,
@@ -115,6 +117,7 @@ fn read_one<const N: usize, const P: usize, S: Shelf>(
 }
 
 /// Reads a sample into the first of 64 numbers and offers it, and gives the feed's answer.
+#[inline(always)]
 fn read_sample<const N: usize, const P: usize, S: Shelf>(
     machine: &mut Machine<N, P, Running>,
     feed: &mut Feed,

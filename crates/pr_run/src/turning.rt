@@ -32,6 +32,7 @@ pub enum Turned {
 }
 
 /// Whether the samples have ended, every offered sample has left, and no result waits.
+#[inline(always)]
 fn is_over<const N: usize, const P: usize>(
     machine: &Machine<N, P, Running>,
     feed: &Feed,
@@ -46,6 +47,7 @@ fn is_over<const N: usize, const P: usize>(
 }
 
 /// The end of a turn: the run is over, or the machine is asked for one cycle.
+#[inline(always)]
 fn close_turn<const N: usize, const P: usize, K: Sink>(
     machine: &mut Machine<N, P, Running>,
     feed: &Feed,
@@ -90,6 +92,7 @@ pub struct Walk<'a> {
 impl<'a> Walk<'a> {
     /// One turn: a sample is read and offered, all waiting results are taken and written, and where the run is not over
     /// then, the machine is asked for one cycle.
+    #[inline(always)]
     pub fn turn<const N: usize, const P: usize, S: Shelf, K: Sink>(
         &mut self,
         machine: &mut Machine<N, P, Running>,

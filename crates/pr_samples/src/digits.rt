@@ -7,6 +7,7 @@ ghost use Rattle.pr_samples.specs.Fed.{is_digit, value_after};
 const MOST: usize = 18;
 
 /// How many digits stand at the front, as far as they are read at once, and the number that they write.
+#[inline(always)]
 pub fn front_number(bytes: &[u8]) -> (usize, u64)
     ensures within { result.0 ≤ length bytes.now }
     ensures digits { list_all is_digit (take result.0 bytes.now) ≡ true }
@@ -25,6 +26,7 @@ pub fn front_number(bytes: &[u8]) -> (usize, u64)
 }
 
 /// Whether a number is below 2 to the power of the width, and of 63.
+#[inline(always)]
 pub fn is_low(n: u64, width: u8) -> bool
     ensures { IsTrue result → n < 2 ^ width }
 {

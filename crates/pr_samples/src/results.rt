@@ -99,6 +99,7 @@ fn short_number(bytes: &[u8]) -> u64
 }
 
 /// Writes the line of one number, which is put into its buffer from the end on.
+#[inline(always)]
 fn put_short<K: Sink>(sink: &mut K, n: u64) -> Result<(), WriteFault>
     ensures all { OnOk result (Appends (K.told sink.old) (K.told sink.new) (row_line (n ∷ []))) }
     ensures front { OnErr result (AppendsFront (K.told sink.old) (K.told sink.new) (row_line (n ∷ []))) }

@@ -84,6 +84,7 @@ impl Stall {
     }
 
     /// The next turn. After the end of the text every turn is free.
+    #[inline(always)]
     pub fn next(&mut self) -> Held
         ensures turn { result ≡ next_turn (turns_left self.old) }
         ensures left { turns_left self.new ≡ drop 1 (turns_left self.old) }

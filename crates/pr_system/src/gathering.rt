@@ -34,6 +34,7 @@ impl<W: Write + Drop> Gathering<W> {
     }
 
     /// Takes a piece, or its first bytes.
+    #[inline(always)]
     fn put(&mut self, bytes: &[u8]) -> io::Result<usize>
         ensures bound { IfOk result (λ k. k ≤ length bytes.now) }
         ensures bytes { WriteAppends (writer_contents W.contents self.old.stream)
@@ -88,6 +89,7 @@ pub struct Gathered<'a, W: Write + Drop> {
 }
 
 impl<'a, W: Write + Drop> Write for Gathered<'a, W> {
+    #[inline(always)]
     fn write(&mut self, bytes: &[u8]) -> io::Result<usize> {
         match self.results.try_borrow_mut() {
             Ok(mut gathering) => gathering.put(bytes),

@@ -40,14 +40,15 @@ pub fn flush_once<W: Write>(inner: &mut W) -> bool
     false
 }
 
-/// Writes some bytes of the piece, one at least, and says how many.
-fn write_once<W: Write>(inner: &mut W, bytes: &[u8]) -> Option<usize>
+/// Writes some bytes of the piece, one at least, and says how many, after a call that was interrupted.
+#[inline(never)]
+fn write_again<W: Write>(inner: &mut W, bytes: &[u8]) -> Option<usize>
     ensures some { IfSome result (λ k. (0 < k) × (k ≤ length bytes.now)) }
     ensures bytes { IfSome result (λ k.
         known.Appends (W.contents inner.old) (W.contents inner.new) (take k bytes.now)) }
     ensures none { IfNone result (known.Keeps (W.contents inner.old) (W.contents inner.new)) }
 {
-    for _ in 0..TRIES {
+    for _ in 1..TRIES {
         match inner.write(bytes) {
             Ok(0) => return None,
             Ok(count) => return Some(count),
@@ -58,6 +59,22 @@ fn write_once<W: Write>(inner: &mut W, bytes: &[u8]) -> Option<usize>
     None
 }
 
+/// Writes some bytes of the piece, one at least, and says how many.
+#[inline(always)]
+fn write_once<W: Write>(inner: &mut W, bytes: &[u8]) -> Option<usize>
+    ensures some { IfSome result (λ k. (0 < k) × (k ≤ length bytes.now)) }
+    ensures bytes { IfSome result (λ k.
+        known.Appends (W.contents inner.old) (W.contents inner.new) (take k bytes.now)) }
+    ensures none { IfNone result (known.Keeps (W.contents inner.old) (W.contents inner.new)) }
+{
+    match inner.write(bytes) {
+        Ok(0) => None,
+        Ok(count) => Some(count),
+        Err(e) if e.kind() == ErrorKind::Interrupted => write_again(inner, bytes),
+        Err(_) => None,
+    }
+}
+
 impl<W: Write> Sink for OutSink<W> {
     ghost told = { λ _. record { bytes = None; keeps = 0 } };
 
@@ -65,6 +82,7 @@ impl<W: Write> Sink for OutSink<W> {
 
     ghost counted = { λ s. s.in_range };
 
+    #[inline(always)]
     fn write(&mut self, bytes: &[u8]) -> Result<usize, Failed>
         ensures bound { IfOk result (λ k. k ≤ length bytes.now) }
         ensures some { IfOk result (λ k. 0 < length bytes.now → 0 < k) }

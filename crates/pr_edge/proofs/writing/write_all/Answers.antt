@@ -1,11 +1,10 @@
-use Rattle.std.proofs.Common.{arith}
+use Rattle.std.proofs.Common.{◌+◌}
 use Rattle.std.proofs.lemmas.List.{take_rest}
+use Rattle.std.proofs.lemmas.Result.{on_err_weaker}
 use Rattle.pr_edge.proofs.Appending.{appends_more}
 use Rattle.pr_edge.proofs.writing.write_all.Goals as goal
 
-pub loop-done-preserved : goal.loop-done-preserved
-loop-done-preserved g c = record {
-  within = omega (arith, c.in-Ok.ensures.bound);
-  front = appends_more _ _ _ _ _ _ c.loop-done.invariant.front (rw take_rest at c.in-Ok.ensures.appended);
-  later = omega (arith, c.write.ensures.later);
-}
+pub returns-else-count-bytes-clause-front : goal.returns-else-count-bytes-clause-front
+returns-else-count-bytes-clause-front g c = on_err_weaker c.write_pieces.result
+    (λ front. (c.in-Ok.count + front.0, appends_more _ _ _ _ _ _ c.in-Ok.ensures.appended (rw take_rest at front.1)))
+    c.write_pieces.ensures.front

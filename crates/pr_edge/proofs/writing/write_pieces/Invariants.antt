@@ -1,6 +1,6 @@
 use Rattle.std.proofs.Common.{◌≤◌, ◌-◌, length, take}
 use Rattle.pr_edge.specs.Tape.{Appends}
-use Rattle.pr_edge.proofs.writing.write_all.Given as goal
+use Rattle.pr_edge.proofs.writing.write_pieces.Given as goal
 
 abbrev pub invariant-loop-done : goal.invariant-loop-done
 invariant-loop-done g l = record {
