@@ -209,6 +209,7 @@ fn turn_over<const N: usize, const P: usize>(
 
 /// Each place but `q` computes in place, from the one before `q` back to the one after it, so that each reads what the
 /// place before it showed at the start.
+#[inline(always)]
 fn step_ring<const N: usize, const P: usize>(
     places: &mut [Place<N, P>],
     conf: &Configuration<N, P>,

@@ -154,7 +154,7 @@ fn far_step(
 }
 
 /// The step of a first stage, which reads a sample, and passes on zeros.
-#[inline(never)]
+#[inline(always)]
 pub fn first_step(
     q: &Prepared,
     registers: &mut [u8],
