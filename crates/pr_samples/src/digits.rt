@@ -25,10 +25,13 @@ pub fn front_number(bytes: &[u8]) -> (usize, u64)
     (most, n)
 }
 
-/// Whether a number is below 2 to the power of the width, and of 63.
+/// Whether a number is below 2 to the power of the width.
 #[inline(always)]
 pub fn is_low(n: u64, width: u8) -> bool
     ensures { IsTrue result → n < 2 ^ width }
 {
-    n < 1 << width.min(63)
+    if width > 63 {
+        return true;
+    }
+    n < 1 << width
 }
