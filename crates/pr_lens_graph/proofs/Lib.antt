@@ -1,1 +1,3 @@
 mod LayoutLemmas
+mod NodeLaws
+mod ReadLaws

@@ -1,1 +1,5 @@
+pub mod Arrows
+pub mod Graphs
 pub mod Layouts
+pub mod Nodes
+pub mod Reads

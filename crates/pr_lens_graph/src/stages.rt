@@ -1,46 +1,65 @@
 //! The stages with their units.
 
+ghost use Rattle.std.specs.Prelude.{◌≡◌, ◌+◌, ◌++◌, [], IfOk, OnOk, replicate};
+ghost use Rattle.pr_lens_graph.specs.Nodes.{Gain, cells_word, last_of, node_in, node_text, nodes_by_stage, nodes_from, stage_text, stages_with, texts_of, work_by, work_of};
+
 use pr_base::{Mode, Next};
 use pr_lens_text::{put, put_counted};
 use pr_net::{Cell, Unit};
 use std::alloc::{AllocError, Global};
 
+/// What a cell mainly does.
+fn cell_work(cell: &Cell) -> &'static str
+    ensures { result.now ≡ work_by cell.now.next cell.now.mode }
+{
+    match cell.next {
+        Next::Output | Next::A => "keeps",
+        Next::Keep => match cell.mode {
+            Mode::Plain => "looks up",
+            Mode::Sum => "adds",
+            Mode::Zero => "compares",
+        },
+    }
+}
+
 /// What a unit mainly does.
-fn what(cells: &[Cell]) -> &'static str {
+fn work(cells: &[Cell]) -> &'static str
+    ensures { result.now ≡ work_of cells.now }
+{
     match cells.first() {
         None => "nothing",
-        Some(cell) => {
-            if cell.next != Next::Keep {
-                return "keeps";
-            }
-            match cell.mode {
-                Mode::Sum => "adds",
-                Mode::Zero => "compares",
-                Mode::Plain => "looks up",
-            }
-        }
+        Some(cell) => cell_work(cell),
+    }
+}
+
+/// The word behind a number of cells, and the end of a node.
+fn cells_word(count: usize) -> &'static str
+    ensures { result.now ≡ cells_word count }
+{
+    if count == 1 {
+        " cell\"];\n"
+    } else {
+        " cells\"];\n"
     }
 }
 
 /// Adds the node of a unit.
-fn put_unit(text: &mut Vec<u8>, number: usize, unit: &Unit) -> Result<(), AllocError> {
+#[tactic(auto, unfolding(crate::specs::Nodes::node_text))]
+fn put_node(text: &mut Vec<u8>, number: usize, cells: &[Cell]) -> Result<(), AllocError>
+    ensures { OnOk result (text.new.items ≡ text.old.items ++ node_text number cells.now) }
+{
     put_counted(text, "    u", number)?;
     put_counted(text, " [label=\"", number)?;
     put(text, " ")?;
-    put(text, what(&unit.cells))?;
-    put_counted(text, "\\n", unit.cells.len())?;
-    put(
-        text,
-        if unit.cells.len() == 1 {
-            " cell\"];\n"
-        } else {
-            " cells\"];\n"
-        },
-    )
+    put(text, work(cells))?;
+    put_counted(text, "\\n", cells.len())?;
+    put(text, cells_word(cells.len()))
 }
 
 /// The last of stages; 0 where there are none.
-fn last_of(stages: &[u32]) -> u32 {
+fn last_of(stages: &[u32]) -> u32
+    ensures { result ≡ last_of stages.now }
+{
     let mut last = 0;
     for stage in stages {
         last = last.max(*stage);
@@ -49,7 +68,10 @@ fn last_of(stages: &[u32]) -> u32 {
 }
 
 /// So many texts, all empty.
-fn empty_texts(alloc: Global, count: usize) -> Result<Vec<Vec<u8>>, AllocError> {
+#[tactic(auto, using(std::proofs::lemmas::List::replicate_more))]
+fn empty_texts(alloc: Global, count: usize) -> Result<Vec<Vec<u8>>, AllocError>
+    ensures { IfOk result (λ texts. texts_of texts.items ≡ replicate count []) }
+{
     let mut texts = Vec::new(alloc);
     for _ in 0..count {
         texts.push(Vec::new(alloc))?;
@@ -57,26 +79,63 @@ fn empty_texts(alloc: Global, count: usize) -> Result<Vec<Vec<u8>>, AllocError> 
     Ok(texts)
 }
 
-/// Adds the nodes of units, each to the text of its stage.
-fn put_units(texts: &mut [Vec<u8>], units: &[Unit], stages: &[u32]) -> Result<(), AllocError> {
-    for (number, unit) in units.iter().enumerate() {
-        if number < stages.len() {
-            let stage = stages[number] as usize;
-            if stage < texts.len() {
-                put_unit(&mut texts[stage], number, unit)?;
-            }
+/// Adds the node of a unit to the text of its stage, where it has one.
+fn put_unit(
+    texts: &mut [Vec<u8>],
+    number: usize,
+    cells: &[Cell],
+    stages: &[u32],
+) -> Result<(), AllocError>
+    ensures { OnOk result (Gain (node_in stages.now number cells.now) texts.old texts.new) }
+{
+    if number < stages.len() {
+        let stage = stages[number] as usize;
+        if stage < texts.len() {
+            return put_node(&mut texts[stage], number, cells);
         }
     }
     Ok(())
 }
 
+/// Adds the nodes of units, each to the text of its stage.
+fn put_units(texts: &mut [Vec<u8>], units: &[Unit], stages: &[u32]) -> Result<(), AllocError>
+    ensures { OnOk result (Gain (nodes_from 0 units.now stages.now) texts.old texts.new) }
+{
+    for (number, unit) in units.iter().enumerate() {
+        put_unit(texts, number, &unit.cells, stages)?;
+    }
+    Ok(())
+}
+
+/// The nodes of each stage.
+fn nodes_of(alloc: Global, units: &[Unit], stages: &[u32]) -> Result<Vec<Vec<u8>>, AllocError>
+    ensures { IfOk result (λ nodes. texts_of nodes.items ≡ nodes_by_stage units.now stages.now) }
+{
+    let mut nodes = empty_texts(alloc, last_of(stages) as usize + 1)?;
+    put_units(&mut nodes, units, stages)?;
+    Ok(nodes)
+}
+
 /// Adds a stage with the nodes of its units.
-fn put_stage(text: &mut Vec<u8>, stage: usize, nodes: &[u8]) -> Result<(), AllocError> {
+#[tactic(auto, unfolding(crate::specs::Nodes::stage_text))]
+fn put_stage(text: &mut Vec<u8>, stage: usize, nodes: &[u8]) -> Result<(), AllocError>
+    ensures { OnOk result (text.new.items ≡ text.old.items ++ stage_text stage nodes.now) }
+{
     put_counted(text, "  subgraph cluster_", stage)?;
     put_counted(text, " {\n    label=\"stage ", stage)?;
     put(text, "\";\n")?;
     text.extend_from_slice(nodes)?;
     put(text, "  }\n")
+}
+
+/// Adds stages with these nodes.
+fn put_each(text: &mut Vec<u8>, nodes: &[Vec<u8>]) -> Result<(), AllocError>
+    ensures { OnOk result (text.new.items ≡ text.old.items ++ stages_with 0 (texts_of nodes.now)) }
+{
+    for (stage, nodes) in nodes.iter().enumerate() {
+        put_stage(text, stage, nodes)?;
+    }
+    Ok(())
 }
 
 /// Adds all stages.
@@ -85,11 +144,9 @@ pub fn put_stages(
     text: &mut Vec<u8>,
     units: &[Unit],
     stages: &[u32],
-) -> Result<(), AllocError> {
-    let mut nodes = empty_texts(alloc, last_of(stages) as usize + 1)?;
-    put_units(&mut nodes, units, stages)?;
-    for (stage, nodes) in nodes.iter().enumerate() {
-        put_stage(text, stage, nodes)?;
-    }
-    Ok(())
+) -> Result<(), AllocError>
+    ensures { OnOk result (text.new.items ≡ text.old.items ++ stages_with 0 (nodes_by_stage units.now stages.now)) }
+{
+    let nodes = nodes_of(alloc, units, stages)?;
+    put_each(text, &nodes)
 }

@@ -1,49 +1,79 @@
 //! The wires between units, and to outputs.
 
+ghost use Rattle.std.specs.Prelude.{◌≡◌, ◌++◌, ◌∷◌, [], List, ℕ, IfOk, OnOk, map, if◌then◌else◌};
+ghost use Rattle.pr_cut_units.specs.Groups.{cell_wires};
+ghost use Rattle.pr_net.specs.declared.cells.Wire.{Wire};
+ghost use Rattle.pr_net.specs.Shape.{wire_of};
+ghost use Rattle.pr_lens_graph.specs.declared.wires.Reader.TheVariants as reader;
+ghost use Rattle.pr_lens_graph.specs.Reads.{AreReads, firsts, unit_wires};
+ghost use Rattle.pr_lens_graph.specs.Arrows.{arrow_text, arrows_from, arrows_text, is_unit, output_name, output_text, outputs_text, reads_text, units_arrows};
+
 use pr_lens_text::{put, put_counted};
-use pr_net::{Cell, Net, NetOutput, Slice, Wire, WireBit};
+use pr_net::{Cell, NetOutput, Slice, Unit, Wire, WireBit};
 use std::alloc::{AllocError, Global};
 
 /// The units that are read: their bytes, and their states.
 #[derive(Drop)]
-struct Reads {
+pub struct Reads {
     bytes: Vec<u32>,
     states: Vec<u32>,
 }
 
 /// What reads them, by its number.
-#[derive(Clone, Copy, PartialEq, Eq)]
-enum Reader {
+#[derive(Clone, Copy)]
+pub enum Reader {
     Unit(usize),
     Output(usize),
 }
 
 impl Reader {
-    fn number(self) -> usize {
+    ghost use Rattle.pr_lens_graph.specs.Arrows.{arrow_to, number_of};
+
+    fn number(self) -> usize
+        ensures { result ≡ number_of self }
+    {
         match self {
             Reader::Unit(number) | Reader::Output(number) => number,
         }
     }
 
     /// An arrow, and the letter of its name.
-    fn arrow(self) -> &'static str {
+    fn arrow(self) -> &'static str
+        ensures { result.now ≡ arrow_to self }
+    {
         match self {
             Reader::Unit(_) => " -> u",
             Reader::Output(_) => " -> y",
         }
     }
+
+    /// Whether it is this unit.
+    fn is_unit(self, unit: usize) -> bool
+        ensures { result ≡ is_unit self unit }
+    {
+        match self {
+            Reader::Unit(number) => number == unit,
+            Reader::Output(_) => false,
+        }
+    }
 }
 
 /// Notes a number, unless it is there already.
-fn note(all: &mut Vec<u32>, number: u32) -> Result<(), AllocError> {
-    if !all.iter().any(|n| *n == number) {
-        all.push(number)?;
+fn note(all: &mut Vec<u32>, number: u32) -> Result<(), AllocError>
+    ensures { OnOk result ((seen : List ℕ) → all.old.items ≡ firsts seen
+        → all.new.items ≡ firsts (seen ++ number ∷ [])) }
+{
+    if all.contains(&number) {
+        return Ok(());
     }
+    all.push(number)?;
     Ok(())
 }
 
 /// Notes what a wire reads.
-fn note_wire(reads: &mut Reads, wire: Wire) -> Result<(), AllocError> {
+fn note_wire(reads: &mut Reads, wire: Wire) -> Result<(), AllocError>
+    ensures { OnOk result ((seen : List Wire) → AreReads reads.old seen → AreReads reads.new (seen ++ wire ∷ [])) }
+{
     match wire {
         Wire::Const(_) | Wire::Bus(_) => Ok(()),
         Wire::Of(unit, _) => note(&mut reads.bytes, unit),
@@ -52,7 +82,10 @@ fn note_wire(reads: &mut Reads, wire: Wire) -> Result<(), AllocError> {
 }
 
 /// Notes what a cell reads.
-fn note_cell(reads: &mut Reads, cell: &Cell) -> Result<(), AllocError> {
+fn note_cell(reads: &mut Reads, cell: &Cell) -> Result<(), AllocError>
+    ensures { OnOk result ((seen : List Wire) → AreReads reads.old seen
+        → AreReads reads.new (seen ++ cell_wires cell.now)) }
+{
     note_wire(reads, cell.a)?;
     note_wire(reads, cell.hi)?;
     note_wire(reads, cell.lo)?;
@@ -62,35 +95,78 @@ fn note_cell(reads: &mut Reads, cell: &Cell) -> Result<(), AllocError> {
     }
 }
 
-/// Notes what a byte of an output reads.
-fn note_slice(reads: &mut Reads, slice: Slice) -> Result<(), AllocError> {
+/// What cells read.
+#[tactic(auto, unfolding(crate::specs::Reads::firsts))]
+fn reads_of_cells(alloc: Global, cells: &[Cell]) -> Result<Reads, AllocError>
+    ensures { IfOk result (λ reads. AreReads reads (unit_wires cells.now)) }
+{
+    let mut reads = Reads {
+        bytes: Vec::new(alloc),
+        states: Vec::new(alloc),
+    };
+    for cell in cells {
+        note_cell(&mut reads, cell)?;
+    }
+    Ok(reads)
+}
+
+/// The wire of a byte of an output.
+fn wire_of(slice: Slice) -> Wire
+    ensures { result ≡ wire_of slice }
+{
     match slice {
-        Slice::Const(_) => Ok(()),
-        Slice::Of(unit, _) => note(&mut reads.bytes, unit),
-        Slice::State(unit, _) => note(&mut reads.states, unit),
+        Slice::Const(byte) => Wire::Const(byte),
+        Slice::Of(unit, place) => Wire::Of(unit, place),
+        Slice::State(unit, place) => Wire::State(unit, place),
     }
 }
 
-/// Adds the wires from these units, but for one from a unit to itself.
-fn put_from(
-    text: &mut Vec<u8>,
-    units: &[u32],
-    reader: Reader,
-    end: &str,
-) -> Result<(), AllocError> {
+/// What the bytes of an output read.
+#[tactic(auto, unfolding(crate::specs::Reads::firsts))]
+fn reads_of_slices(alloc: Global, slices: &[Slice]) -> Result<Reads, AllocError>
+    ensures { IfOk result (λ reads. AreReads reads (map wire_of slices.now)) }
+{
+    let mut reads = Reads {
+        bytes: Vec::new(alloc),
+        states: Vec::new(alloc),
+    };
+    for slice in slices {
+        note_wire(&mut reads, wire_of(*slice))?;
+    }
+    Ok(reads)
+}
+
+/// Adds the arrow from a unit, but for one to itself.
+#[tactic(auto, unfolding(crate::specs::Arrows::arrow_text))]
+fn put_arrow(text: &mut Vec<u8>, unit: usize, reader: Reader, end: &str) -> Result<(), AllocError>
+    ensures { OnOk result (text.new.items ≡ text.old.items
+        ++ (if is_unit reader unit then [] else arrow_text reader end.now unit)) }
+{
+    if reader.is_unit(unit) {
+        return Ok(());
+    }
+    put_counted(text, "  u", unit)?;
+    put_counted(text, reader.arrow(), reader.number())?;
+    put(text, end)
+}
+
+/// Adds the arrows from these units, but for one from a unit to itself.
+#[tactic(auto, unfolding(crate::specs::Arrows::arrows_from))]
+fn put_from(text: &mut Vec<u8>, units: &[u32], reader: Reader, end: &str) -> Result<(), AllocError>
+    ensures { OnOk result (text.new.items ≡ text.old.items ++ arrows_from reader end.now units.now) }
+{
     for unit in units {
-        let unit = *unit as usize;
-        if reader != Reader::Unit(unit) {
-            put_counted(text, "  u", unit)?;
-            put_counted(text, reader.arrow(), reader.number())?;
-            put(text, end)?;
-        }
+        put_arrow(text, *unit as usize, reader, end)?;
     }
     Ok(())
 }
 
-/// Adds the wires to a unit or an output; those that read a state are dashed.
-fn put_reads(text: &mut Vec<u8>, reads: &Reads, reader: Reader) -> Result<(), AllocError> {
+/// Adds the arrows to a unit or an output; those from states are dashed.
+#[tactic(auto, unfolding(crate::specs::Arrows::arrows_text))]
+fn put_reads(text: &mut Vec<u8>, reads: &Reads, reader: Reader) -> Result<(), AllocError>
+    ensures { OnOk result (text.new.items ≡ text.old.items
+        ++ arrows_text reader reads.now.bytes.items reads.now.states.items) }
+{
     put_from(text, &reads.bytes, reader, ";\n")?;
     put_from(
         text,
@@ -100,54 +176,63 @@ fn put_reads(text: &mut Vec<u8>, reads: &Reads, reader: Reader) -> Result<(), Al
     )
 }
 
-/// Adds the wires to a unit.
+/// Adds the arrows to a unit.
 fn put_unit(
     alloc: Global,
     text: &mut Vec<u8>,
     number: usize,
     cells: &[Cell],
-) -> Result<(), AllocError> {
-    let mut reads = Reads {
-        bytes: Vec::new(alloc),
-        states: Vec::new(alloc),
-    };
-    for cell in cells {
-        note_cell(&mut reads, cell)?;
-    }
+) -> Result<(), AllocError>
+    ensures { OnOk result (text.new.items ≡ text.old.items
+        ++ reads_text (reader.Unit number) (unit_wires cells.now)) }
+{
+    let reads = reads_of_cells(alloc, cells)?;
     put_reads(text, &reads, Reader::Unit(number))
 }
 
-/// Adds the wires between units.
-pub fn put_wires(alloc: Global, text: &mut Vec<u8>, net: &Net) -> Result<(), AllocError> {
-    for (number, unit) in net.units.iter().enumerate() {
+/// Adds the arrows between units.
+pub fn put_wires(alloc: Global, text: &mut Vec<u8>, units: &[Unit]) -> Result<(), AllocError>
+    ensures { OnOk result (text.new.items ≡ text.old.items ++ units_arrows 0 units.now) }
+{
+    for (number, unit) in units.iter().enumerate() {
         put_unit(alloc, text, number, &unit.cells)?;
     }
     Ok(())
 }
 
-/// Adds an output with the wires to it.
+/// Adds the name of an output.
+#[tactic(auto, unfolding(crate::specs::Arrows::output_name))]
+fn put_name(text: &mut Vec<u8>, number: usize) -> Result<(), AllocError>
+    ensures { OnOk result (text.new.items ≡ text.old.items ++ output_name number) }
+{
+    put_counted(text, "  y", number)?;
+    put_counted(text, " [shape=plaintext, label=\"output ", number)?;
+    put(text, "\"];\n")
+}
+
+/// Adds an output with the arrows to it.
 fn put_output(
     alloc: Global,
     text: &mut Vec<u8>,
     number: usize,
     output: &NetOutput,
-) -> Result<(), AllocError> {
-    put_counted(text, "  y", number)?;
-    put_counted(text, " [shape=plaintext, label=\"output ", number)?;
-    put(text, "\"];\n")?;
-    let mut reads = Reads {
-        bytes: Vec::new(alloc),
-        states: Vec::new(alloc),
-    };
-    for slice in &output.slices {
-        note_slice(&mut reads, *slice)?;
-    }
+) -> Result<(), AllocError>
+    ensures { OnOk result (text.new.items ≡ text.old.items ++ output_text (number, output.now)) }
+{
+    put_name(text, number)?;
+    let reads = reads_of_slices(alloc, &output.slices)?;
     put_reads(text, &reads, Reader::Output(number))
 }
 
 /// Adds the outputs.
-pub fn put_outputs(alloc: Global, text: &mut Vec<u8>, net: &Net) -> Result<(), AllocError> {
-    for (number, output) in net.outputs.iter().enumerate() {
+pub fn put_outputs(
+    alloc: Global,
+    text: &mut Vec<u8>,
+    outputs: &[NetOutput],
+) -> Result<(), AllocError>
+    ensures { OnOk result (text.new.items ≡ text.old.items ++ outputs_text 0 outputs.now) }
+{
+    for (number, output) in outputs.iter().enumerate() {
         put_output(alloc, text, number, output)?;
     }
     Ok(())

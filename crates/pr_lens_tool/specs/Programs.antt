@@ -19,6 +19,7 @@ use Rattle.pr_lens_cost.specs.declared.tables.Savings.{Savings}
 use Rattle.pr_lens_cost.specs.Costs.{IsCost}
 use Rattle.pr_lens_cost.specs.Texts.{IsCostText}
 use Rattle.pr_lens_graph.specs.declared.layouts.Layout.{Layout}
+use Rattle.pr_lens_graph.specs.Graphs.{graph_of}
 use Rattle.pr_lens_graph.specs.Layouts.{IsLayout}
 use Rattle.pr_lens_tool.specs.declared.orders.Question.{Question}
 use Rattle.pr_lens_tool.specs.declared.orders.Question.TheVariants.{Why, Cost, Graph}
@@ -76,17 +77,18 @@ pub record IsCosted (N P : ℕ) (order : Asked) (text written : List ℕ) : Type
   pub told : IsCostText cost savings N order.samples written
 
 -- ---- graph
--- a text has units with stages
-pub record HasLayout (N P : ℕ) (narrowed : Bool) (text : List ℕ) : Type 0 where
+-- a text has units with stages, and their graph is written
+pub record IsGraphed (N P : ℕ) (narrowed : Bool) (text written : List ℕ) : Type 0 where
   pub layout : Layout
   pub is : IsLayout N P narrowed text layout
+  pub told : written ≡ graph_of layout
 
 -- ---- all three
 -- what is told of a text that is asked so, and what is written
 abbrev pub IsTold : Question → ℕ → ℕ → Asked → List ℕ → Outcome → List ℕ → Type 0
 IsTold Why N P order text outcome written = IsSaid N P order text outcome written
 IsTold Cost N P order text outcome written = (outcome ≡ Plain Answer.Ok) × IsCosted N P order text written
-IsTold Graph N P order text outcome written = (outcome ≡ Plain Answer.Ok) × HasLayout N P order.narrowed text
+IsTold Graph N P order text outcome written = (outcome ≡ Plain Answer.Ok) × IsGraphed N P order.narrowed text written
 
 -- the same of the program of a file
 pub record IsToldOf (question : Question) (told : Told) (order : Asked) (outcome : Outcome) (written : List ℕ) : Type 0 where
