@@ -17,7 +17,7 @@ use Rattle.pr_net.specs.declared.cells.Cell.{Cell}
 use Rattle.pr_cut_units.specs.Parts.{Making, kept}
 use Rattle.pr_cut_units.specs.Widening.{Argument}
 use Rattle.pr_cut_units.specs.States.{held, delayed}
-use Rattle.pr_cut_units.specs.Table.{argument_forms}
+use Rattle.pr_cut_units.specs.Table.{argument_forms, units_at}
 use Rattle.pr_cut_units.specs.Reached.{reached, hold_count}
 use Rattle.pr_cut_units.specs.Equations.{Plan, plan_of, arguments, equation_units, has_units, next_units, cut_whole}
 use Rattle.pr_cut_units.proofs.CountNets.{forms_are, count_whole}
@@ -88,6 +88,12 @@ operator_of Op.Input i d r = absurd (i refl)
 operator_of (Op.Delay c) i d r = absurd (d c refl)
 operator_of (Op.Rec init first) i d r = absurd (r init first refl)
 operator_of op i d r = refl
+
+pub operator_units : (plan : Plan) (i : ℕ) (op : Op) (args : List Argument) → (op ≡ Op.Input → ⊥) → ((c : ℕ) → op ≡ Op.Delay c → ⊥) → ((init first : ℕ) → op ≡ Op.Rec init first → ⊥) → equation_units plan i op args ≡ units_at (slice_index plan.widths i) op args
+operator_units plan i Op.Input args n d r = absurd (n refl)
+operator_units plan i (Op.Delay c) args n d r = absurd (d c refl)
+operator_units plan i (Op.Rec init first) args n d r = absurd (r init first refl)
+operator_units plan i op args n d r = refl
 
 pub rec_not_input : (op : Op) → is_rec op ≡ true → is_input op ≡ false
 rec_not_input (Op.Rec init first) h = refl

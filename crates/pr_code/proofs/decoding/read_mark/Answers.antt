@@ -1,5 +1,5 @@
 use Rattle.std.proofs.Common.{◌≡◌, ◌∙◌, sym, subst, None}
-use Rattle.std.proofs.lemmas.Result.{err_from_is_err_and}
+use Rattle.std.proofs.lemmas.Result.{IfOk-from_err, err_from_is_err_and}
 use Rattle.pr_conf.specs.Configuration.{shape_of}
 use Rattle.pr_code.specs.Reading.{words_of_bytes}
 use Rattle.pr_code.specs.Marks.{IsMark, bad_mark, count_of}
@@ -25,3 +25,15 @@ returns-clause-reads g c =
 
 pub returns-clause-shape : goal.returns-clause-shape
 returns-clause-shape g c = c.in_ok-conf.ensures.1 ∙ marked_shape g.row.N c.args.bytes.now
+
+pub returns-in_err-count-clause-count : goal.returns-in_err-count-clause-count
+returns-in_err-count-clause-count g c = IfOk-from_err _ _ c.from_residual.ensures.0
+
+pub returns-in_err-count-clause-shape : goal.returns-in_err-count-clause-shape
+returns-in_err-count-clause-shape g c = IfOk-from_err _ _ c.from_residual.ensures.0
+
+pub returns-in_err-conf-clause-count : goal.returns-in_err-conf-clause-count
+returns-in_err-conf-clause-count g c = IfOk-from_err _ _ c.from_residual-in_err-conf.ensures.0
+
+pub returns-in_err-conf-clause-shape : goal.returns-in_err-conf-clause-shape
+returns-in_err-conf-clause-shape g c = IfOk-from_err _ _ c.from_residual-in_err-conf.ensures.0

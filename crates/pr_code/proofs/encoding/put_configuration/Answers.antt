@@ -1,4 +1,5 @@
 use Rattle.std.proofs.Common.{true, ◌≡◌, ◌≤◌, ◌++◌, length, map, arith, sym, ◌∷◌}
+use Rattle.std.proofs.lemmas.Result.{IfOk-from_err}
 use Rattle.std.specs.List.{flat_map}
 use Rattle.std.proofs.lemmas.List.{length-map}
 use Rattle.pr_conf.specs.Rules.{bytes_in}
@@ -31,3 +32,15 @@ returns-clause-words g c =
     let second : c.put_outputs.new.out.items ≡ c.put_inputs.new.out.items ++ bytes_of_words (length outputs ∷ flat_map output_words outputs) = rw (← count', ← c.deref-2.ensures.value) c.in_ok-put_outputs.ensures.words in
     let third : c.put_stages.new.out.items ≡ c.put_outputs.new.out.items ++ bytes_of_words (flat_map (stage_words true g.row.N) stages) = rw (← c.deref-3.ensures.value) c.in_ok-put_stages.ensures.words in
     four_parts out _ _ _ _ (head_words format_2 g.row.N g.row.P (length stages)) (length conf.inputs.items ∷ conf.inputs.items) (length outputs ∷ flat_map output_words outputs) (flat_map (stage_words true g.row.N) stages) head first second third
+
+pub returns-in_err-put_words : goal.returns-in_err-put_words
+returns-in_err-put_words g c = let h = c.from_residual.ensures.0 in record { words = IfOk-from_err _ _ h; bytes = IfOk-from_err _ _ h }
+
+pub returns-in_err-put_inputs : goal.returns-in_err-put_inputs
+returns-in_err-put_inputs g c = let h = c.from_residual-in_err-put_inputs.ensures.0 in record { words = IfOk-from_err _ _ h; bytes = IfOk-from_err _ _ h }
+
+pub returns-in_err-put_outputs : goal.returns-in_err-put_outputs
+returns-in_err-put_outputs g c = let h = c.from_residual-in_err-put_outputs.ensures.0 in record { words = IfOk-from_err _ _ h; bytes = IfOk-from_err _ _ h }
+
+pub returns-in_err-put_stages : goal.returns-in_err-put_stages
+returns-in_err-put_stages g c = let h = c.from_residual-in_err-put_stages.ensures.0 in record { words = IfOk-from_err _ _ h; bytes = IfOk-from_err _ _ h }

@@ -1,4 +1,5 @@
 use Rattle.std.proofs.Common.{◌∷◌, [], length, map, arith, refl}
+use Rattle.std.proofs.lemmas.Result.{IfOk-from_err}
 use Rattle.std.specs.List.{flat_map, list_all}
 use Rattle.pr_conf.specs.Shape.{output_shape}
 use Rattle.pr_code.specs.Spelling.{output_words, have_tap_bytes}
@@ -19,3 +20,9 @@ loop-output-preserved c = record {
 
 pub returns-clause-words : goal.returns-clause-words
 returns-clause-words c = parts_done (λ os. flat_map output_words (map output_shape os)) c.loop-output.out.items _ c.args.outputs.now c.loop-output.output-index (omega arith) refl c.loop-output.invariant.words
+
+pub returns-in_err-put_word : goal.returns-in_err-put_word
+returns-in_err-put_word c = let h = c.from_residual.ensures.0 in record { words = IfOk-from_err _ _ h; bytes = IfOk-from_err _ _ h }
+
+pub returns-in_err-put_output : goal.returns-in_err-put_output
+returns-in_err-put_output c = let h = c.from_residual-in_err-put_output.ensures.0 in record { words = IfOk-from_err _ _ h; bytes = IfOk-from_err _ _ h }

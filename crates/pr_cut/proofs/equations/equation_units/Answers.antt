@@ -13,7 +13,7 @@ use Rattle.pr_cut_cells.specs.Arguments.{argument_of}
 use Rattle.pr_cut.specs.Operators.{arguments_of, is_operator}
 use Rattle.pr_cut.specs.Sources.{equations_in, plan_in}
 use Rattle.pr_cut.proofs.ItemLemmas.{one_argument}
-use Rattle.pr_cut.proofs.EquationLemmas.{rec_units, hold_some, operator_of}
+use Rattle.pr_cut.proofs.EquationLemmas.{rec_units, hold_some, operator_of, operator_units}
 use Rattle.pr_cut.proofs.equations.equation_units.Goals as goal
 
 pub held-requires-clause-some : goal.held-requires-clause-some
@@ -68,3 +68,13 @@ returns-in-Rec-clause-units c =
     let w = slice_index s.widths.now number in
     let same = rec_units (plan_in s) number op c.in-Rec.init c.in-Rec.first (arguments_of c.args.args.now) body c.in-Rec.is one ∙ ap (λ (k : ℕ). held w c.in-Rec.init k body) (sym count) in
     subst (λ (m : Making). IfOk c.held.result (λ s. c.held.new.units.items ≡ c.args.units.now.items ++ (m (length c.args.units.now.items)).units)) (sym same) c.held.ensures.units
+
+pub returns-in_default-clause-units : goal.returns-in_default-clause-units
+returns-in_default-clause-units c =
+    let same = operator_units (plan_in c.args.source.now) c.args.turn.now.number c.args.turn.now.equation.now.op (arguments_of c.args.args.now) c.in_default.not-Input c.in_default.not-Delay c.in_default.not-Rec in
+    subst (λ (m : Making). IfOk c.units_at.result (λ s. c.units_at.new.units.items ≡ c.args.units.now.items ++ (m (length c.args.units.now.items)).units)) (sym same) c.units_at.ensures.units
+
+pub returns-in_default-clause-slices : goal.returns-in_default-clause-slices
+returns-in_default-clause-slices c =
+    let same = operator_units (plan_in c.args.source.now) c.args.turn.now.number c.args.turn.now.equation.now.op (arguments_of c.args.args.now) c.in_default.not-Input c.in_default.not-Delay c.in_default.not-Rec in
+    subst (λ (m : Making). IfOk c.units_at.result (λ s. s.items ≡ (m (length c.args.units.now.items)).slices)) (sym same) c.units_at.ensures.slices

@@ -1,4 +1,5 @@
 use Rattle.std.proofs.Common.{◌≡◌, Bool, false, true, ◌||◌, length, get_or, subst, sym, ap, ◌∙◌, arith}
+use Rattle.std.proofs.lemmas.Result.{IfOk-from_err}
 use Rattle.std.proofs.lemmas.List.{length-map}
 use Rattle.pr_cut_units.specs.Reached.{reached}
 use Rattle.pr_cut_cells.specs.Arguments.{argument_of}
@@ -56,3 +57,9 @@ arguments-requires c =
       ready = operands_ready (equations_in s) s.flat.now.outputs.items s.widths.now number c.args.units.now.items c.args.values.now e flat p.widths p.few c.requires.cut there (sym c.has_units.ensures ∙ c.if-has_units.true);
       kinds = omega (arith, flat.args number e there, flat.kinds number e there, c.args.turn.now.equation.now.args.ok.0, c.args.turn.now.equation.now.kinds.ok.0);
     }
+
+pub returns-in_err-args : goal.returns-in_err-args
+returns-in_err-args c = let h = c.from_residual.ensures.0 in record { units = IfOk-from_err _ _ h; slices = IfOk-from_err _ _ h }
+
+pub returns-in_err-all : goal.returns-in_err-all
+returns-in_err-all c = let h = c.from_residual-in_err-all.ensures.0 in record { units = IfOk-from_err _ _ h; slices = IfOk-from_err _ _ h }

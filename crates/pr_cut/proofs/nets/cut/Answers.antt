@@ -1,4 +1,5 @@
 use Rattle.std.proofs.Common.{◌≡◌, ◌≤◌, ℕ, List, length, subst, sym, ap, ◌∙◌}
+use Rattle.std.proofs.lemmas.Result.{IfOk-from_err}
 use Rattle.pr_flat.specs.Shape.{EquationShape, shapes_of}
 use Rattle.pr_flat.specs.Widths.{AreWidths}
 use Rattle.pr_cut_units.specs.Equations.{plan_of, cut_whole}
@@ -25,3 +26,15 @@ pub returns-clause-net : goal.returns-clause-net
 returns-clause-net c =
     let same : c.deref.result.now ≡ c.args.widths.now = cc (c.deref.ensures.value, c.widths.view_is) in
     c.in_ok-net.ensures ∙ ap (λ (ws : List ℕ). net_of (shapes_of c.args.flat.now.equations.items) ws c.args.flat.now.outputs.items) same
+
+pub returns-in_err-plan-clause-net : goal.returns-in_err-plan-clause-net
+returns-in_err-plan-clause-net c = IfOk-from_err _ _ c.from_residual.ensures.0
+
+pub returns-in_err-plan-clause-within : goal.returns-in_err-plan-clause-within
+returns-in_err-plan-clause-within c = IfOk-from_err _ _ c.from_residual.ensures.0
+
+pub returns-in_err-net-clause-net : goal.returns-in_err-net-clause-net
+returns-in_err-net-clause-net c = IfOk-from_err _ _ c.from_residual-in_err-net.ensures.0
+
+pub returns-in_err-net-clause-within : goal.returns-in_err-net-clause-within
+returns-in_err-net-clause-within c = IfOk-from_err _ _ c.from_residual-in_err-net.ensures.0

@@ -1,4 +1,5 @@
 use Rattle.std.proofs.Common.{◌≡◌, Bool, List, length, map, subst, sym, ap, ap₂, ◌∙◌, arith}
+use Rattle.std.proofs.lemmas.Result.{IfOk-from_err}
 use Rattle.pr_net.specs.declared.cells.Slice.{Slice}
 use Rattle.pr_net.specs.declared.cells.Cell.{Cell}
 use Rattle.pr_cut_units.specs.Equations.{cut_whole}
@@ -38,3 +39,18 @@ returns c =
     net_made (equations_in s) s.widths.now s.flat.now.outputs.items _ c.in_ok-made.made.values.items c.in_ok-made.ensures.units c.in_ok-made.ensures.values
     (c.in_ok-groups.ensures ∙ ap₂ (λ (us : List (List Cell)) (hs : List Holds). groups_of us hs) c.deref-3.ensures.value holds)
     c.in_ok-inputs.ensures (c.in_ok-outputs.ensures ∙ ap (λ (vs : List (List Slice)). map (output_of plan vs) s.flat.now.outputs.items) c.deref-2.ensures.value)
+
+pub returns-in_err-inputs : goal.returns-in_err-inputs
+returns-in_err-inputs c = IfOk-from_err _ _ c.from_residual.ensures.0
+
+pub returns-in_err-made : goal.returns-in_err-made
+returns-in_err-made c = IfOk-from_err _ _ c.from_residual-in_err-made.ensures.0
+
+pub returns-in_err-outputs : goal.returns-in_err-outputs
+returns-in_err-outputs c = IfOk-from_err _ _ c.from_residual-in_err-outputs.ensures.0
+
+pub returns-in_err-holds : goal.returns-in_err-holds
+returns-in_err-holds c = IfOk-from_err _ _ c.from_residual-in_err-holds.ensures.0
+
+pub returns-in_err-groups : goal.returns-in_err-groups
+returns-in_err-groups c = IfOk-from_err _ _ c.from_residual-in_err-groups.ensures.0

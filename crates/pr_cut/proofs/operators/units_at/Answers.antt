@@ -1,4 +1,5 @@
 use Rattle.std.proofs.Common.{◌≡◌, List, ◌++◌, length, subst, sym, ◌∙◌, arith}
+use Rattle.std.proofs.lemmas.Result.{IfOk-from_err}
 use Rattle.pr_flat.specs.declared.equations.Op.{Op}
 use Rattle.pr_cut_units.specs.Widening.{Argument}
 use Rattle.pr_cut_units.specs.Table.{units_at}
@@ -29,3 +30,12 @@ returns-in_ok-all-in-len3-clause-slices c =
     let op : c.args.op ≡ Op.Choose = is_choice c.args.op (sym c.requires.count ∙ omega (arith, c.in-len3)) in
     subst (λ (o : Op). c.in_ok-all-in-len3.all.items ≡ (units_at c.args.w o (arguments_of c.args.args.now) (length c.args.units.now.items)).slices) (sym op)
     (subst (λ (xs : List Argument). c.in_ok-all-in-len3.all.items ≡ (units_at c.args.w Op.Choose xs (length c.args.units.now.items)).slices) (sym three) c.in_ok-all-in-len3.ensures.slices)
+
+pub returns-in_err-all-in-len1 : goal.returns-in_err-all-in-len1
+returns-in_err-all-in-len1 c = let h = c.from_residual.ensures.0 in record { units = IfOk-from_err _ _ h; slices = IfOk-from_err _ _ h }
+
+pub returns-in_err-all-in-len2 : goal.returns-in_err-all-in-len2
+returns-in_err-all-in-len2 c = let h = c.from_residual-in_err-all-in-len2.ensures.0 in record { units = IfOk-from_err _ _ h; slices = IfOk-from_err _ _ h }
+
+pub returns-in_err-all-in-len3 : goal.returns-in_err-all-in-len3
+returns-in_err-all-in-len3 c = let h = c.from_residual-in_err-all-in-len3.ensures.0 in record { units = IfOk-from_err _ _ h; slices = IfOk-from_err _ _ h }

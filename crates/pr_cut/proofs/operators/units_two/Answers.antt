@@ -1,4 +1,5 @@
 use Rattle.std.proofs.Common.{◌≡◌, [], ◌∷◌, length, refl, ap, ap₂, ◌∙◌}
+use Rattle.std.proofs.lemmas.Result.{IfOk-from_err}
 use Rattle.pr_flat.specs.declared.forms.Form.{Form}
 use Rattle.pr_flat.specs.Rows.{natural_form}
 use Rattle.pr_cut_units.specs.Table.{computed_bits}
@@ -17,3 +18,9 @@ returns-clause-slices c =
     let natural : c.natural_two-natural.result ≡ natural_form c.args.op ((argument_of c.args.a.now).form ∷ (argument_of c.args.b.now).form ∷ []) = c.natural_two-natural.ensures.form ∙ ap₂ (λ (f g : Form). natural_form c.args.op (f ∷ g ∷ [])) c.form_of.ensures c.form_of-2.ensures in
     let bits : c.computed-e.result ≡ computed_bits c.args.w c.args.op ((argument_of c.args.a.now).form ∷ (argument_of c.args.b.now).form ∷ []) = bits_are c.args.w c.computed-e.result c.args.op ((argument_of c.args.a.now).form ∷ (argument_of c.args.b.now).form ∷ []) c.natural_two-natural.result natural c.computed-e.ensures in
     result_slices c.args.w c.args.op (argument_of c.args.a.now ∷ argument_of c.args.b.now ∷ []) c.args.units.now.items _ c.in_ok-x.x.items c.in_ok-all.all.items c.in_ok-x.x.items c.computed-e.result _ bits (ap (λ (f : Form). f.signed) natural) refl c.in_ok-x.ensures.units c.in_ok-x.ensures.slices c.in_ok-all.ensures.slices
+
+pub returns-in_err-x : goal.returns-in_err-x
+returns-in_err-x c = let h = c.from_residual.ensures.0 in record { units = IfOk-from_err _ _ h; slices = IfOk-from_err _ _ h }
+
+pub returns-in_err-all : goal.returns-in_err-all
+returns-in_err-all c = let h = c.from_residual-in_err-all.ensures.0 in record { units = IfOk-from_err _ _ h; slices = IfOk-from_err _ _ h }

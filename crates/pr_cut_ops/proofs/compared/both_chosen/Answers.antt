@@ -1,4 +1,5 @@
 use Rattle.std.proofs.Common.{◌∙◌, ap₂, List, ◌++◌, length}
+use Rattle.std.proofs.lemmas.Result.{IfOk-from_err}
 use Rattle.pr_net.specs.declared.cells.Slice.{Slice}
 use Rattle.pr_cut_units.specs.Parts.{Making}
 use Rattle.pr_cut_units.specs.Operators.{chosen}
@@ -15,3 +16,9 @@ returns-clause-slices c =
     let us = c.both_widened.new.units.items in
     let making : List Slice → List Slice → Making = chosen c.args.e c.args.c.now in
     c.in_ok-all.ensures.slices ∙ ap₂ (λ (x y : List Slice). (making x y (length us)).slices) c.deref.ensures.value c.deref-2.ensures.value ∙ c.in_ok-both.ensures.slices making
+
+pub returns-in_err-both : goal.returns-in_err-both
+returns-in_err-both c = let h = c.from_residual.ensures.0 in record { grows = IfOk-from_err _ _ h; units = IfOk-from_err _ _ h; slices = IfOk-from_err _ _ h }
+
+pub returns-in_err-all : goal.returns-in_err-all
+returns-in_err-all c = let h = c.from_residual-in_err-all.ensures.0 in record { grows = IfOk-from_err _ _ h; units = IfOk-from_err _ _ h; slices = IfOk-from_err _ _ h }

@@ -1,4 +1,5 @@
 use Rattle.std.proofs.Common.{◌≡◌, ℕ, ◌∙◌, ◌+◌, ap, sym, arith, List, [], ◌∷◌, ◌++◌, length, append_assoc, length-append}
+use Rattle.std.proofs.lemmas.Result.{IfOk-from_err}
 use Rattle.pr_base.specs.Numbers.{slices_of}
 use Rattle.pr_net.specs.declared.cells.Cell.{Cell}
 use Rattle.pr_cut_units.specs.Parts.{each}
@@ -20,3 +21,12 @@ loop-j-preserved c =
       units = pushed ∙ ap (λ (k : List Cell). l.units.items ++ k ∷ []) named ∙ ap (λ (xs : List (List Cell)). xs ++ later l.j ∷ []) l.invariant.units
           ∙ append_assoc us (head ∷ each l.j later) (later l.j ∷ []) ∙ ap (λ (xs : List (List Cell)). us ++ head ∷ xs) (sym (each_more later l.j));
     }
+
+pub returns-in_err-cells : goal.returns-in_err-cells
+returns-in_err-cells c = let h = c.from_residual.ensures.0 in record { units = IfOk-from_err _ _ h; slices = IfOk-from_err _ _ h }
+
+pub returns-in_err-slices : goal.returns-in_err-slices
+returns-in_err-slices c = let h = c.from_residual-in_err-slices.ensures.0 in record { units = IfOk-from_err _ _ h; slices = IfOk-from_err _ _ h }
+
+pub returns-in_err-push_later : goal.returns-in_err-push_later
+returns-in_err-push_later c = let h = c.from_residual-in_err-push_later.ensures.0 in record { units = IfOk-from_err _ _ h; slices = IfOk-from_err _ _ h }

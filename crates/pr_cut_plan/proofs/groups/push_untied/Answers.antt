@@ -1,4 +1,5 @@
 use Rattle.std.proofs.Common.{ℕ, ◌≡◌, ◌<◌, ◌≤◌, ◌++◌, Bool, List, [], ◌∷◌, length, get_or, ap₂, sym, subst, ◌∙◌, arith}
+use Rattle.std.proofs.lemmas.Result.{IfOk-from_err}
 use Rattle.std.specs.Bool.{if◌then◌else◌}
 use Rattle.pr_net.specs.declared.cells.Cell.{Cell}
 use Rattle.pr_cut_units.specs.Groups.{is_tied}
@@ -30,3 +31,9 @@ loop-unit-preserved c =
           (subst (λ (g : List ℕ). AreMarked c.args.from (marks ++ b ∷ []) g) (sym now) (marks_more c.args.from u marks tied b (omega (arith, inv.long, c.loop-unit.marks.ok.0)) low inv.marked));
       groups = low_next units holds c.args.from u x b c.args.groups.now.items c.loop-unit.groups.items c.push_unit.new.groups.items low high c.requires.part is inv.groups c.in_ok-push_unit.ensures.groups;
     }
+
+pub returns-in_err-push : goal.returns-in_err-push
+returns-in_err-push c = let h = c.from_residual.ensures.0 in record { tied = IfOk-from_err _ _ h; groups = IfOk-from_err _ _ h }
+
+pub returns-in_err-push_unit : goal.returns-in_err-push_unit
+returns-in_err-push_unit c = let h = c.from_residual-in_err-push_unit.ensures.0 in record { tied = IfOk-from_err _ _ h; groups = IfOk-from_err _ _ h }

@@ -1,5 +1,5 @@
 use Rattle.std.proofs.Common.{ℕ, ◌≡◌, ◌∙◌, Bool, Some, List, length, ap, sym, arith}
-use Rattle.std.proofs.lemmas.Result.{err_from_is_err_and}
+use Rattle.std.proofs.lemmas.Result.{IfOk-from_err, err_from_is_err_and}
 use Rattle.pr_base.specs.declared.caps.Cap.{Cap}
 use Rattle.pr_flat.specs.Shape.{shapes_of}
 use Rattle.pr_cut_units.specs.Equations.{plan_of, hold_unit}
@@ -71,3 +71,30 @@ returns-clause-units c =
     let few = c.in_ok-hold_units.ensures.within in
     let counted = units_counted es c.args.widths.now outs c.args.flat.now.lawful c.requires in
     omega (arith, few, all, counted)
+
+pub returns-in_err-reached-clause-plan : goal.returns-in_err-reached-clause-plan
+returns-in_err-reached-clause-plan c = IfOk-from_err _ _ c.from_residual.ensures.0
+
+pub returns-in_err-reached-clause-within : goal.returns-in_err-reached-clause-within
+returns-in_err-reached-clause-within c = IfOk-from_err _ _ c.from_residual.ensures.0
+
+pub returns-in_err-reached-clause-units : goal.returns-in_err-reached-clause-units
+returns-in_err-reached-clause-units c = IfOk-from_err _ _ c.from_residual.ensures.0
+
+pub returns-in_err-hold_counts-clause-plan : goal.returns-in_err-hold_counts-clause-plan
+returns-in_err-hold_counts-clause-plan c = IfOk-from_err _ _ c.from_residual-in_err-hold_counts.ensures.0
+
+pub returns-in_err-hold_counts-clause-within : goal.returns-in_err-hold_counts-clause-within
+returns-in_err-hold_counts-clause-within c = IfOk-from_err _ _ c.from_residual-in_err-hold_counts.ensures.0
+
+pub returns-in_err-hold_counts-clause-units : goal.returns-in_err-hold_counts-clause-units
+returns-in_err-hold_counts-clause-units c = IfOk-from_err _ _ c.from_residual-in_err-hold_counts.ensures.0
+
+pub returns-in_err-hold_units-clause-plan : goal.returns-in_err-hold_units-clause-plan
+returns-in_err-hold_units-clause-plan c = IfOk-from_err _ _ c.from_residual-in_err-hold_units.ensures.0
+
+pub returns-in_err-hold_units-clause-within : goal.returns-in_err-hold_units-clause-within
+returns-in_err-hold_units-clause-within c = IfOk-from_err _ _ c.from_residual-in_err-hold_units.ensures.0
+
+pub returns-in_err-hold_units-clause-units : goal.returns-in_err-hold_units-clause-units
+returns-in_err-hold_units-clause-units c = IfOk-from_err _ _ c.from_residual-in_err-hold_units.ensures.0

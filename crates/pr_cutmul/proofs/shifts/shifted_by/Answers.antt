@@ -1,5 +1,5 @@
 use Rattle.std.proofs.Common.{◌≡◌, ◌∙◌, ap, ◌-◌, ◌+◌, ◌++◌, List, length, subst, arith}
-use Rattle.std.proofs.lemmas.Result.{err_from_is_err_and}
+use Rattle.std.proofs.lemmas.Result.{IfOk-from_err, err_from_is_err_and}
 use Rattle.pr_cut_cells.specs.Prefixes.{IsPrefix}
 use Rattle.pr_cut_cells.proofs.PrefixLemmas.{prefix_turn}
 use Rattle.pr_net.specs.declared.cells.Slice.{Slice}
@@ -28,3 +28,21 @@ returns-in_err-before-2-clause-part c =
     let front : IsPrefix c.shift_row.new.units.items (l.units.items ++ (step l.j l.before.items (length l.units.items)).units) = subst (λ (x : List Slice). IsPrefix c.shift_row.new.units.items (l.units.items ++ (step l.j x (length l.units.items)).units)) c.deref.ensures.value c.in_err-before-2.ensures.part in
     let p = err_from_is_err_and c.from_residual-in_err-before-2.result c.from_residual-in_err-before-2.ensures.1 in
     rw (p.1) (prefix_turn step l.j (c.args.shift.now.bits - l.j) (c.args.shift.now.bits - (l.j + 1)) l.before.items l.units.items c.shift_row.new.units.items _ (omega (arith, c.loop-j-test.true)) front l.invariant.units)
+
+pub returns-in_err-before-clause-grows : goal.returns-in_err-before-clause-grows
+returns-in_err-before-clause-grows c = IfOk-from_err _ _ c.from_residual.ensures.0
+
+pub returns-in_err-before-clause-units : goal.returns-in_err-before-clause-units
+returns-in_err-before-clause-units c = IfOk-from_err _ _ c.from_residual.ensures.0
+
+pub returns-in_err-before-clause-slices : goal.returns-in_err-before-clause-slices
+returns-in_err-before-clause-slices c = IfOk-from_err _ _ c.from_residual.ensures.0
+
+pub returns-in_err-before-2-clause-grows : goal.returns-in_err-before-2-clause-grows
+returns-in_err-before-2-clause-grows c = IfOk-from_err _ _ c.from_residual-in_err-before-2.ensures.0
+
+pub returns-in_err-before-2-clause-units : goal.returns-in_err-before-2-clause-units
+returns-in_err-before-2-clause-units c = IfOk-from_err _ _ c.from_residual-in_err-before-2.ensures.0
+
+pub returns-in_err-before-2-clause-slices : goal.returns-in_err-before-2-clause-slices
+returns-in_err-before-2-clause-slices c = IfOk-from_err _ _ c.from_residual-in_err-before-2.ensures.0

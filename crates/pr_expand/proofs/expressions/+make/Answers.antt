@@ -1,4 +1,5 @@
 use Rattle.std.proofs.Common.{◌≡◌, ◌∙◌, ◌<◌, ℕ, IfErr, IfOk, List, take, [], ◌∷◌, option_map, Some, None, length, arith, refl, sym, ap, subst}
+use Rattle.std.proofs.lemmas.Result.{IfOk-from_err}
 use Rattle.pr_scope_names.specs.declared.names.Static.TheVariants.{Index}
 use Rattle.pr_scope_names.specs.Names.{known_in}
 use Rattle.pr_flat.specs.declared.equations.Op.TheVariants as op
@@ -584,3 +585,171 @@ make_stmt-returns-in-For-clause-value t c =
     let v = visible_in c.args.items.now c.args.statics.now in
     let e = for_is c.args.stmt.now c.in-For.index c.in-For.low c.in-For.high c.in-For.body c.deref.result.now v (progress_of c.args.begun) c.value_of-from.result c.value_of-to.result c.in-For.is c.deref.ensures.value c.value_of-from.ensures c.value_of-to.ensures in
     subst (λ (z : Progress). IfOk c.make_turns.result (λ p. progress_of p ≡ z)) (sym e) c.make_turns.ensures.value
+
+pub make-returns-in_err-a-in-Slice-clause-value : goal.make-returns-in_err-a-in-Slice-clause-value
+make-returns-in_err-a-in-Slice-clause-value t c = IfOk-from_err _ _ c.from_residual.ensures.0
+
+pub make-returns-in_err-a-in-Slice-clause-names : goal.make-returns-in_err-a-in-Slice-clause-names
+make-returns-in_err-a-in-Slice-clause-names t c = IfOk-from_err _ _ c.from_residual.ensures.0
+
+pub make-returns-in_err-a-in-Not-clause-value : goal.make-returns-in_err-a-in-Not-clause-value
+make-returns-in_err-a-in-Not-clause-value t c = IfOk-from_err _ _ c.from_residual-in_err-a-in-Not.ensures.0
+
+pub make-returns-in_err-a-in-Not-clause-names : goal.make-returns-in_err-a-in-Not-clause-names
+make-returns-in_err-a-in-Not-clause-names t c = IfOk-from_err _ _ c.from_residual-in_err-a-in-Not.ensures.0
+
+pub make-returns-in_err-a-in-Binary-clause-value : goal.make-returns-in_err-a-in-Binary-clause-value
+make-returns-in_err-a-in-Binary-clause-value t c = IfOk-from_err _ _ c.from_residual-in_err-a-in-Binary.ensures.0
+
+pub make-returns-in_err-a-in-Binary-clause-names : goal.make-returns-in_err-a-in-Binary-clause-names
+make-returns-in_err-a-in-Binary-clause-names t c = IfOk-from_err _ _ c.from_residual-in_err-a-in-Binary.ensures.0
+
+pub make-returns-in_err-b-in-None-clause-value : goal.make-returns-in_err-b-in-None-clause-value
+make-returns-in_err-b-in-None-clause-value t c = IfOk-from_err _ _ c.from_residual-in_err-b-in-None.ensures.0
+
+pub make-returns-in_err-b-in-None-clause-names : goal.make-returns-in_err-b-in-None-clause-names
+make-returns-in_err-b-in-None-clause-names t c = IfOk-from_err _ _ c.from_residual-in_err-b-in-None.ensures.0
+
+pub make-returns-in_err-c-in-Choose-clause-value : goal.make-returns-in_err-c-in-Choose-clause-value
+make-returns-in_err-c-in-Choose-clause-value t c = IfOk-from_err _ _ c.from_residual-in_err-c-in-Choose.ensures.0
+
+pub make-returns-in_err-c-in-Choose-clause-names : goal.make-returns-in_err-c-in-Choose-clause-names
+make-returns-in_err-c-in-Choose-clause-names t c = IfOk-from_err _ _ c.from_residual-in_err-c-in-Choose.ensures.0
+
+pub make-returns-in_err-a-in-Choose-clause-value : goal.make-returns-in_err-a-in-Choose-clause-value
+make-returns-in_err-a-in-Choose-clause-value t c = IfOk-from_err _ _ c.from_residual-in_err-a-in-Choose.ensures.0
+
+pub make-returns-in_err-a-in-Choose-clause-names : goal.make-returns-in_err-a-in-Choose-clause-names
+make-returns-in_err-a-in-Choose-clause-names t c = IfOk-from_err _ _ c.from_residual-in_err-a-in-Choose.ensures.0
+
+pub make-returns-in_err-b-in-Choose-clause-value : goal.make-returns-in_err-b-in-Choose-clause-value
+make-returns-in_err-b-in-Choose-clause-value t c = IfOk-from_err _ _ c.from_residual-in_err-b-in-Choose.ensures.0
+
+pub make-returns-in_err-b-in-Choose-clause-names : goal.make-returns-in_err-b-in-Choose-clause-names
+make-returns-in_err-b-in-Choose-clause-names t c = IfOk-from_err _ _ c.from_residual-in_err-b-in-Choose.ensures.0
+
+pub make-returns-in_err-all-in-Call-clause-value : goal.make-returns-in_err-all-in-Call-clause-value
+make-returns-in_err-all-in-Call-clause-value t c = IfOk-from_err _ _ c.from_residual-in_err-all-in-Call.ensures.0
+
+pub make-returns-in_err-all-in-Call-clause-names : goal.make-returns-in_err-all-in-Call-clause-names
+make-returns-in_err-all-in-Call-clause-names t c = IfOk-from_err _ _ c.from_residual-in_err-all-in-Call.ensures.0
+
+pub make-returns-in_err-all-in-Cat-clause-value : goal.make-returns-in_err-all-in-Cat-clause-value
+make-returns-in_err-all-in-Cat-clause-value t c = IfOk-from_err _ _ c.from_residual-in_err-all-in-Cat.ensures.0
+
+pub make-returns-in_err-all-in-Cat-clause-names : goal.make-returns-in_err-all-in-Cat-clause-names
+make-returns-in_err-all-in-Cat-clause-names t c = IfOk-from_err _ _ c.from_residual-in_err-all-in-Cat.ensures.0
+
+pub make_turn-returns-in_err-was-clause-value : goal.make_turn-returns-in_err-was-clause-value
+make_turn-returns-in_err-was-clause-value t c = IfOk-from_err _ _ c.from_residual.ensures.0
+
+pub make_turn-returns-in_err-was-clause-names : goal.make_turn-returns-in_err-was-clause-names
+make_turn-returns-in_err-was-clause-names t c = IfOk-from_err _ _ c.from_residual.ensures.0
+
+pub make_turn-returns-in_err-ended-clause-value : goal.make_turn-returns-in_err-ended-clause-value
+make_turn-returns-in_err-ended-clause-value t c = IfOk-from_err _ _ c.from_residual-in_err-ended.ensures.0
+
+pub make_turn-returns-in_err-ended-clause-names : goal.make_turn-returns-in_err-ended-clause-names
+make_turn-returns-in_err-ended-clause-names t c = IfOk-from_err _ _ c.from_residual-in_err-ended.ensures.0
+
+pub make_turn-returns-in_err-_turn-clause-value : goal.make_turn-returns-in_err-_turn-clause-value
+make_turn-returns-in_err-_turn-clause-value t c = IfOk-from_err _ _ c.from_residual-in_err-_turn.ensures.0
+
+pub make_turn-returns-in_err-_turn-clause-names : goal.make_turn-returns-in_err-_turn-clause-names
+make_turn-returns-in_err-_turn-clause-names t c = IfOk-from_err _ _ c.from_residual-in_err-_turn.ensures.0
+
+pub make_rec-returns-in_err-set-clause-value : goal.make_rec-returns-in_err-set-clause-value
+make_rec-returns-in_err-set-clause-value t c = IfOk-from_err _ _ c.from_residual.ensures.0
+
+pub make_rec-returns-in_err-set-clause-names : goal.make_rec-returns-in_err-set-clause-names
+make_rec-returns-in_err-set-clause-names t c = IfOk-from_err _ _ c.from_residual.ensures.0
+
+pub make_rec-returns-in_err-counted-clause-value : goal.make_rec-returns-in_err-counted-clause-value
+make_rec-returns-in_err-counted-clause-value t c = IfOk-from_err _ _ c.from_residual-in_err-counted.ensures.0
+
+pub make_rec-returns-in_err-counted-clause-names : goal.make_rec-returns-in_err-counted-clause-names
+make_rec-returns-in_err-counted-clause-names t c = IfOk-from_err _ _ c.from_residual-in_err-counted.ensures.0
+
+pub make_rec-returns-in_err-set-2-clause-value : goal.make_rec-returns-in_err-set-2-clause-value
+make_rec-returns-in_err-set-2-clause-value t c = IfOk-from_err _ _ c.from_residual-in_err-set-2.ensures.0
+
+pub make_rec-returns-in_err-set-2-clause-names : goal.make_rec-returns-in_err-set-2-clause-names
+make_rec-returns-in_err-set-2-clause-names t c = IfOk-from_err _ _ c.from_residual-in_err-set-2.ensures.0
+
+pub make_rec-returns-in_err-made-clause-value : goal.make_rec-returns-in_err-made-clause-value
+make_rec-returns-in_err-made-clause-value t c = IfOk-from_err _ _ c.from_residual-in_err-made.ensures.0
+
+pub make_rec-returns-in_err-made-clause-names : goal.make_rec-returns-in_err-made-clause-names
+make_rec-returns-in_err-made-clause-names t c = IfOk-from_err _ _ c.from_residual-in_err-made.ensures.0
+
+pub make_rec-returns-in_err-set-3-clause-value : goal.make_rec-returns-in_err-set-3-clause-value
+make_rec-returns-in_err-set-3-clause-value t c = IfOk-from_err _ _ c.from_residual-in_err-set-3.ensures.0
+
+pub make_rec-returns-in_err-set-3-clause-names : goal.make_rec-returns-in_err-set-3-clause-names
+make_rec-returns-in_err-set-3-clause-names t c = IfOk-from_err _ _ c.from_residual-in_err-set-3.ensures.0
+
+pub make_rec-returns-in_err-made-2-clause-value : goal.make_rec-returns-in_err-made-2-clause-value
+make_rec-returns-in_err-made-2-clause-value t c = IfOk-from_err _ _ c.from_residual-in_err-made-2.ensures.0
+
+pub make_rec-returns-in_err-made-2-clause-names : goal.make_rec-returns-in_err-made-2-clause-names
+make_rec-returns-in_err-made-2-clause-names t c = IfOk-from_err _ _ c.from_residual-in_err-made-2.ensures.0
+
+pub make_rec-returns-in_err-made-3-clause-value : goal.make_rec-returns-in_err-made-3-clause-value
+make_rec-returns-in_err-made-3-clause-value t c = IfOk-from_err _ _ c.from_residual-in_err-made-3.ensures.0
+
+pub make_rec-returns-in_err-made-3-clause-names : goal.make_rec-returns-in_err-made-3-clause-names
+make_rec-returns-in_err-made-3-clause-names t c = IfOk-from_err _ _ c.from_residual-in_err-made-3.ensures.0
+
+pub make_all-returns-in_err-part-clause-value : goal.make_all-returns-in_err-part-clause-value
+make_all-returns-in_err-part-clause-value t c = IfOk-from_err _ _ c.from_residual.ensures.0
+
+pub make_all-returns-in_err-part-clause-names : goal.make_all-returns-in_err-part-clause-names
+make_all-returns-in_err-part-clause-names t c = IfOk-from_err _ _ c.from_residual.ensures.0
+
+pub call-returns-in_err-made-in-Some-item-clause-value : goal.call-returns-in_err-made-in-Some-item-clause-value
+call-returns-in_err-made-in-Some-item-clause-value t c = IfOk-from_err _ _ c.from_residual.ensures.0
+
+pub call-returns-in_err-made-in-Some-item-clause-names : goal.call-returns-in_err-made-in-Some-item-clause-names
+call-returns-in_err-made-in-Some-item-clause-names t c = IfOk-from_err _ _ c.from_residual.ensures.0
+
+pub call_item-returns-in_err-begun-in-Function-clause-value : goal.call_item-returns-in_err-begun-in-Function-clause-value
+call_item-returns-in_err-begun-in-Function-clause-value t c = IfOk-from_err _ _ c.from_residual.ensures.0
+
+pub call_item-returns-in_err-begun-in-Function-clause-names : goal.call_item-returns-in_err-begun-in-Function-clause-names
+call_item-returns-in_err-begun-in-Function-clause-names t c = IfOk-from_err _ _ c.from_residual.ensures.0
+
+pub run-returns-in_err-env-clause-value : goal.run-returns-in_err-env-clause-value
+run-returns-in_err-env-clause-value t c = IfOk-from_err _ _ c.from_residual.ensures.0
+
+pub run-returns-in_err-env-clause-names : goal.run-returns-in_err-env-clause-names
+run-returns-in_err-env-clause-names t c = IfOk-from_err _ _ c.from_residual.ensures.0
+
+pub make_assigned-returns-in_err-made-clause-value : goal.make_assigned-returns-in_err-made-clause-value
+make_assigned-returns-in_err-made-clause-value t c = IfOk-from_err _ _ c.from_residual.ensures.0
+
+pub make_assigned-returns-in_err-made-clause-names : goal.make_assigned-returns-in_err-made-clause-names
+make_assigned-returns-in_err-made-clause-names t c = IfOk-from_err _ _ c.from_residual.ensures.0
+
+pub make_stmts-returns-in_err-at-clause-value : goal.make_stmts-returns-in_err-at-clause-value
+make_stmts-returns-in_err-at-clause-value t c = IfOk-from_err _ _ c.from_residual.ensures.0
+
+pub make_stmts-returns-in_err-at-clause-names : goal.make_stmts-returns-in_err-at-clause-names
+make_stmts-returns-in_err-at-clause-names t c = IfOk-from_err _ _ c.from_residual.ensures.0
+
+pub make_turns-returns-in_err-now-clause-value : goal.make_turns-returns-in_err-now-clause-value
+make_turns-returns-in_err-now-clause-value t c = IfOk-from_err _ _ c.from_residual.ensures.0
+
+pub make_turns-returns-in_err-now-clause-names : goal.make_turns-returns-in_err-now-clause-names
+make_turns-returns-in_err-now-clause-names t c = IfOk-from_err _ _ c.from_residual.ensures.0
+
+pub make_let-returns-in_err-made-clause-value : goal.make_let-returns-in_err-made-clause-value
+make_let-returns-in_err-made-clause-value t c = IfOk-from_err _ _ c.from_residual.ensures.0
+
+pub make_let-returns-in_err-made-clause-names : goal.make_let-returns-in_err-made-clause-names
+make_let-returns-in_err-made-clause-names t c = IfOk-from_err _ _ c.from_residual.ensures.0
+
+pub make_body-returns-in_err-made-clause-value : goal.make_body-returns-in_err-made-clause-value
+make_body-returns-in_err-made-clause-value t c = IfOk-from_err _ _ c.from_residual.ensures.0
+
+pub make_body-returns-in_err-made-clause-names : goal.make_body-returns-in_err-made-clause-names
+make_body-returns-in_err-made-clause-names t c = IfOk-from_err _ _ c.from_residual.ensures.0

@@ -1,4 +1,5 @@
 use Rattle.std.proofs.Common.{◌≡◌, ◌∙◌, ℕ, Some, length, get_or, refl, sym, ap, arith, slice_get}
+use Rattle.std.proofs.lemmas.Result.{IfOk-from_err}
 use Rattle.std.proofs.lemmas.Option.{slice_get_read}
 use Rattle.pr_expand_spec.specs.Programs.{items_change}
 use Rattle.pr_expand.specs.Worlds.{world_at}
@@ -37,3 +38,9 @@ returns-in_err-world-2-clause-limit c =
     passed_on c.from_residual-in_err-world-2.result c.in_err-world-2.field-0.0 _ _ c.from_residual-in_err-world-2.ensures.1
     (item_within items c.loop-one.one-index c.loop-one.number c.one-item.result (world_at items c.loop-one.number c.loop-one.world) _ (appends_at items c.loop-one.number) (omega arith) c.one-item.is c.loop-one.invariant.rest)
     c.in_err-world-2.ensures.limit
+
+pub returns-in_err-world-clause-value : goal.returns-in_err-world-clause-value
+returns-in_err-world-clause-value c = IfOk-from_err _ _ c.from_residual.ensures.0
+
+pub returns-in_err-world-2-clause-value : goal.returns-in_err-world-2-clause-value
+returns-in_err-world-2-clause-value c = IfOk-from_err _ _ c.from_residual-in_err-world-2.ensures.0

@@ -1,4 +1,5 @@
 use Rattle.std.proofs.Common.{Some, refl, subst}
+use Rattle.std.proofs.lemmas.Result.{IfOk-from_err}
 use Rattle.pr_lang.specs.declared.trees.Item.TheVariants as item
 use Rattle.pr_expand.specs.Code.{progress_of}
 use Rattle.pr_expand.specs.Scopes.{visible_at, after}
@@ -72,3 +73,9 @@ introduce-requires-in-Table-clause-free c = subst (λ (i : Item). IsFree i c.arg
 
 pub introduce-requires-in-Function-clause-free : goal.introduce-requires-in-Function-clause-free
 introduce-requires-in-Function-clause-free c = subst (λ (i : Item). IsFree i c.args.world.statics) c.in-Function.is c.requires.free
+
+pub returns-in_err-entries-in-Table-clause-at : goal.returns-in_err-entries-in-Table-clause-at
+returns-in_err-entries-in-Table-clause-at c = IfOk-from_err _ _ c.from_residual.ensures.0
+
+pub returns-in_err-entries-in-Table-clause-value : goal.returns-in_err-entries-in-Table-clause-value
+returns-in_err-entries-in-Table-clause-value c = IfOk-from_err _ _ c.from_residual.ensures.0

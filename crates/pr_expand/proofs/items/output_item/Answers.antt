@@ -1,4 +1,5 @@
 use Rattle.std.proofs.Common.{◌≡◌, ◌∙◌, ◌++◌, [], ◌∷◌, None, ap}
+use Rattle.std.proofs.lemmas.Result.{IfOk-from_err}
 use Rattle.pr_expand_spec.specs.Making.{Made}
 use Rattle.pr_expand_spec.specs.Expressions.{Visible, assigned}
 use Rattle.pr_expand_spec.specs.Statements.{named}
@@ -25,3 +26,21 @@ returns-clause-outputs c =
     let seen = visible_inside c.args.items.now c.args.world.statics c.enter-frame.new.self c.args.number c.requires c.enter-frame.ensures.known c.enter-frame.ensures.inside in
     let made : made_of c.in_ok-made.made ≡ assigned c.args.value.now.width c.args.value.now.expr.now (visible_at c.args.items.now c.args.number) env es = c.in_ok-made.ensures.value ∙ ap (λ (v : Visible). assigned c.args.value.now.width c.args.value.now.expr.now v env es) seen in
     c.in-Ok.ensures.items ∙ ap (λ (m : Made). c.args.world.outputs.items ++ m.given.operand ∷ []) made
+
+pub returns-in_err-made-clause-progress : goal.returns-in_err-made-clause-progress
+returns-in_err-made-clause-progress c = IfOk-from_err _ _ c.from_residual.ensures.0
+
+pub returns-in_err-made-clause-outputs : goal.returns-in_err-made-clause-outputs
+returns-in_err-made-clause-outputs c = IfOk-from_err _ _ c.from_residual.ensures.0
+
+pub returns-in_err-made-clause-names : goal.returns-in_err-made-clause-names
+returns-in_err-made-clause-names c = IfOk-from_err _ _ c.from_residual.ensures.0
+
+pub returns-in_err-progress-clause-progress : goal.returns-in_err-progress-clause-progress
+returns-in_err-progress-clause-progress c = IfOk-from_err _ _ c.from_residual-in_err-progress.ensures.0
+
+pub returns-in_err-progress-clause-outputs : goal.returns-in_err-progress-clause-outputs
+returns-in_err-progress-clause-outputs c = IfOk-from_err _ _ c.from_residual-in_err-progress.ensures.0
+
+pub returns-in_err-progress-clause-names : goal.returns-in_err-progress-clause-names
+returns-in_err-progress-clause-names c = IfOk-from_err _ _ c.from_residual-in_err-progress.ensures.0

@@ -1,4 +1,5 @@
 use Rattle.std.proofs.Common.{◌∙◌, Option, ap, arith, ℕ, List}
+use Rattle.std.proofs.lemmas.Result.{IfOk-from_err}
 use Rattle.pr_flat.specs.Shape.{equation_shape, shapes_of}
 use Rattle.pr_expand.specs.Keys.{found_in, with_key}
 use Rattle.pr_expand.proofs.KeyLemmas.{found_more, found_there}
@@ -14,3 +15,6 @@ invariant_of-result c = record {
       (c.in_ok-delays.ensures ∙ ap (λ (k : Option (List ℕ)). with_key k c.len-number.result (found_in c.args.ledger.delays)) c.requires))
       c.in-Ok.ensures.items;
 }
+
+pub returns-in_err-delays-clause-value : goal.returns-in_err-delays-clause-value
+returns-in_err-delays-clause-value c = IfOk-from_err _ _ c.from_residual.ensures.0

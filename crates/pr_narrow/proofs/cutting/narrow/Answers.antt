@@ -1,4 +1,5 @@
 use Rattle.std.proofs.Common.{◌≡◌, ℕ, List, length, arith, sym, ap, subst}
+use Rattle.std.proofs.lemmas.Result.{IfOk-from_err}
 use Rattle.pr_flat.specs.Shape.{EquationShape, shapes_of}
 use Rattle.pr_flat.specs.Widths.{AreWidths}
 use Rattle.pr_narrow.proofs.BodyLemmas.{shapes_length, fold_long, cut_is}
@@ -37,3 +38,12 @@ returns-clause-widths c =
     let P : List EquationShape → Type 0 = λ es. AreWidths es c.deref-6.result.now in
     let Q : List ℕ → Type 0 = λ ws. AreWidths (shapes_of c.narrowed-narrowed.result.equations.items) ws in
     subst Q c.deref-6.ensures.value (subst P (sym c.narrowed-narrowed.ensures.equations) cut.wide)
+
+pub returns-in_err-folded : goal.returns-in_err-folded
+returns-in_err-folded c = let h = c.from_residual.ensures.0 in record { narrowed = IfOk-from_err _ _ h; outputs = IfOk-from_err _ _ h; widths = IfOk-from_err _ _ h }
+
+pub returns-in_err-demand : goal.returns-in_err-demand
+returns-in_err-demand c = let h = c.from_residual-in_err-demand.ensures.0 in record { narrowed = IfOk-from_err _ _ h; outputs = IfOk-from_err _ _ h; widths = IfOk-from_err _ _ h }
+
+pub returns-in_err-news : goal.returns-in_err-news
+returns-in_err-news c = let h = c.from_residual-in_err-news.ensures.0 in record { narrowed = IfOk-from_err _ _ h; outputs = IfOk-from_err _ _ h; widths = IfOk-from_err _ _ h }

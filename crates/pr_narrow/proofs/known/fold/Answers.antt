@@ -1,4 +1,5 @@
 use Rattle.std.proofs.Common.{◌≡◌, ℕ, Option, List, length, arith, sym, subst, ap, ap₂, ◌∙◌}
+use Rattle.std.proofs.lemmas.Result.{IfOk-from_err}
 use Rattle.pr_flat.specs.declared.equations.Equation.{Equation}
 use Rattle.pr_flat.specs.declared.equations.Operand.{Operand}
 use Rattle.pr_flat.specs.Facts.{IsFlat}
@@ -24,3 +25,12 @@ invariant_of-result c =
     let P : List EquationShape → Type 0 = λ es. IsFlat es c.in_ok-outputs.outputs.items in
     let Q : List Operand → Type 0 = λ os. IsFlat (folded S W) os in
     record { lawful = subst P (sym made) (subst Q (sym given) (folded_flat S c.args.flat.now.outputs.items W c.args.flat.now.lawful c.requires)) }
+
+pub returns-in_err-known : goal.returns-in_err-known
+returns-in_err-known c = let h = c.from_residual.ensures.0 in record { folded = IfOk-from_err _ _ h; outputs = IfOk-from_err _ _ h }
+
+pub returns-in_err-equations : goal.returns-in_err-equations
+returns-in_err-equations c = let h = c.from_residual-in_err-equations.ensures.0 in record { folded = IfOk-from_err _ _ h; outputs = IfOk-from_err _ _ h }
+
+pub returns-in_err-outputs : goal.returns-in_err-outputs
+returns-in_err-outputs c = let h = c.from_residual-in_err-outputs.ensures.0 in record { folded = IfOk-from_err _ _ h; outputs = IfOk-from_err _ _ h }

@@ -1,5 +1,5 @@
 use Rattle.std.proofs.Common.{◌≡◌, ◌∙◌, ap, ap₂, sym, refl, map}
-use Rattle.std.proofs.lemmas.Result.{on_ok_weaker}
+use Rattle.std.proofs.lemmas.Result.{IfOk-from_err, on_ok_weaker}
 use Rattle.pr_lang.specs.declared.trees.Expr.TheFolds.{fold-roll-Expr}
 use Rattle.pr_lang.specs.declared.trees.Expr.TheViews.{rolls-Delay, rolls-Slice, rolls-Not, rolls-Binary, rolls-Choose, rolls-Call, rolls-Cat, rolls-Paren}
 use Rattle.pr_lang.specs.Tree as tree
@@ -57,3 +57,42 @@ pub put_expr-returns-in_ok-put_expr-in-Paren : goal.put_expr-returns-in_ok-put_e
 put_expr-returns-in_ok-put_expr-in-Paren t c =
     let e : expr_shape c.args.expr.now ≡ tree.paren (expr_shape c.deref-in-Paren.result.now) = ap expr_shape (c.in-Paren.is ∙ sym (rolls-Paren c.in-Paren.inner)) ∙ rw fold-roll-Expr (ap (λ x. tree.paren (expr_shape x)) (sym c.deref-in-Paren.ensures)) in
     on_ok_weaker c.put_symbol-in-Paren-2.result (λ h. shaped e (word_put c.in_ok-put_symbol-in-Paren.ensures (then_put c.in_ok-put_expr-in-Paren.ensures h))) c.put_symbol-in-Paren-2.ensures
+
+pub put_expr-returns-in_err-put_target-in-Delay : goal.put_expr-returns-in_err-put_target-in-Delay
+put_expr-returns-in_err-put_target-in-Delay t c = IfOk-from_err _ _ c.from_residual.ensures.0
+
+pub put_expr-returns-in_err-put_symbol-in-Delay : goal.put_expr-returns-in_err-put_symbol-in-Delay
+put_expr-returns-in_err-put_symbol-in-Delay t c = IfOk-from_err _ _ c.from_residual-in_err-put_symbol-in-Delay.ensures.0
+
+pub put_expr-returns-in_err-put_expr-in-Slice : goal.put_expr-returns-in_err-put_expr-in-Slice
+put_expr-returns-in_err-put_expr-in-Slice t c = IfOk-from_err _ _ c.from_residual-in_err-put_expr-in-Slice.ensures.0
+
+pub put_expr-returns-in_err-put_symbol-in-Not : goal.put_expr-returns-in_err-put_symbol-in-Not
+put_expr-returns-in_err-put_symbol-in-Not t c = IfOk-from_err _ _ c.from_residual-in_err-put_symbol-in-Not.ensures.0
+
+pub put_expr-returns-in_err-put_expr-in-Binary : goal.put_expr-returns-in_err-put_expr-in-Binary
+put_expr-returns-in_err-put_expr-in-Binary t c = IfOk-from_err _ _ c.from_residual-in_err-put_expr-in-Binary.ensures.0
+
+pub put_expr-returns-in_err-put_symbol-in-Binary : goal.put_expr-returns-in_err-put_symbol-in-Binary
+put_expr-returns-in_err-put_symbol-in-Binary t c = IfOk-from_err _ _ c.from_residual-in_err-put_symbol-in-Binary.ensures.0
+
+pub put_expr-returns-in_err-put_expr-in-Choose : goal.put_expr-returns-in_err-put_expr-in-Choose
+put_expr-returns-in_err-put_expr-in-Choose t c = IfOk-from_err _ _ c.from_residual-in_err-put_expr-in-Choose.ensures.0
+
+pub put_expr-returns-in_err-put_symbol-in-Choose : goal.put_expr-returns-in_err-put_symbol-in-Choose
+put_expr-returns-in_err-put_symbol-in-Choose t c = IfOk-from_err _ _ c.from_residual-in_err-put_symbol-in-Choose.ensures.0
+
+pub put_expr-returns-in_err-put_expr-in-Choose-2 : goal.put_expr-returns-in_err-put_expr-in-Choose-2
+put_expr-returns-in_err-put_expr-in-Choose-2 t c = IfOk-from_err _ _ c.from_residual-in_err-put_expr-in-Choose-2.ensures.0
+
+pub put_expr-returns-in_err-put_symbol-in-Choose-2 : goal.put_expr-returns-in_err-put_symbol-in-Choose-2
+put_expr-returns-in_err-put_symbol-in-Choose-2 t c = IfOk-from_err _ _ c.from_residual-in_err-put_symbol-in-Choose-2.ensures.0
+
+pub put_expr-returns-in_err-put_name-in-Call : goal.put_expr-returns-in_err-put_name-in-Call
+put_expr-returns-in_err-put_name-in-Call t c = IfOk-from_err _ _ c.from_residual-in_err-put_name-in-Call.ensures.0
+
+pub put_expr-returns-in_err-put_keyword-in-Cat : goal.put_expr-returns-in_err-put_keyword-in-Cat
+put_expr-returns-in_err-put_keyword-in-Cat t c = IfOk-from_err _ _ c.from_residual-in_err-put_keyword-in-Cat.ensures.0
+
+pub put_expr-returns-in_err-put_expr-in-Paren : goal.put_expr-returns-in_err-put_expr-in-Paren
+put_expr-returns-in_err-put_expr-in-Paren t c = IfOk-from_err _ _ c.from_residual-in_err-put_expr-in-Paren.ensures.0

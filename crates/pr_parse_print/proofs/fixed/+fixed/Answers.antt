@@ -1,5 +1,5 @@
 use Rattle.std.proofs.Common.{◌≡◌, ◌∙◌, ap, ap₂, sym, Some}
-use Rattle.std.proofs.lemmas.Result.{on_ok_weaker}
+use Rattle.std.proofs.lemmas.Result.{IfOk-from_err, on_ok_weaker}
 use Rattle.pr_lang.specs.declared.trees.Fixed.TheFolds.{fold-roll-Fixed}
 use Rattle.pr_lang.specs.declared.trees.Fixed.TheViews.{rolls-Refer, rolls-Binary, rolls-Paren}
 use Rattle.pr_lang.specs.declared.trees.Fixed.TheVariants.{Refer}
@@ -26,3 +26,15 @@ pub put_fixed-returns-in_ok-put_fixed-in-Paren : goal.put_fixed-returns-in_ok-pu
 put_fixed-returns-in_ok-put_fixed-in-Paren t c =
     let e : fixed_shape c.args.fixed.now ≡ tree.paren (fixed_shape c.deref-in-Paren.result.now) = ap fixed_shape (c.in-Paren.is ∙ sym (rolls-Paren c.in-Paren.inner)) ∙ rw fold-roll-Fixed (ap (λ x. tree.paren (fixed_shape x)) (sym c.deref-in-Paren.ensures)) in
     on_ok_weaker c.put_symbol-in-Paren-2.result (λ h. shaped e (word_put c.in_ok-put_symbol-in-Paren.ensures (then_put c.in_ok-put_fixed-in-Paren.ensures h))) c.put_symbol-in-Paren-2.ensures
+
+pub put_fixed-returns-in_err-put_name-in-Refer : goal.put_fixed-returns-in_err-put_name-in-Refer
+put_fixed-returns-in_err-put_name-in-Refer t c = IfOk-from_err _ _ c.from_residual.ensures.0
+
+pub put_fixed-returns-in_err-put_fixed-in-Binary : goal.put_fixed-returns-in_err-put_fixed-in-Binary
+put_fixed-returns-in_err-put_fixed-in-Binary t c = IfOk-from_err _ _ c.from_residual-in_err-put_fixed-in-Binary.ensures.0
+
+pub put_fixed-returns-in_err-put_symbol-in-Binary : goal.put_fixed-returns-in_err-put_symbol-in-Binary
+put_fixed-returns-in_err-put_symbol-in-Binary t c = IfOk-from_err _ _ c.from_residual-in_err-put_symbol-in-Binary.ensures.0
+
+pub put_fixed-returns-in_err-put_fixed-in-Paren : goal.put_fixed-returns-in_err-put_fixed-in-Paren
+put_fixed-returns-in_err-put_fixed-in-Paren t c = IfOk-from_err _ _ c.from_residual-in_err-put_fixed-in-Paren.ensures.0

@@ -1,5 +1,5 @@
 use Rattle.std.proofs.Common.{◌≡◌, ◌∙◌, ap, ap₂, sym, map}
-use Rattle.std.proofs.lemmas.Result.{on_ok_weaker}
+use Rattle.std.proofs.lemmas.Result.{IfOk-from_err, on_ok_weaker}
 use Rattle.pr_lang.specs.Tree as tree
 use Rattle.pr_lang.specs.Is.{name_tree, number_tree}
 use Rattle.pr_lang.specs.Shape.{expr_shape, fixed_shape, param_shape, stmt_shape, item_shape, width_tree, listed, comma_listed}
@@ -30,3 +30,24 @@ pub returns-in-Function : goal.returns-in-Function
 returns-in-Function c =
     let e : item_shape c.args.item.now ≡ tree.function (name_tree c.in-Function.name) (comma_listed (map param_shape c.deref-in-Function.result.now)) (width_tree c.in-Function.width) (listed (map stmt_shape c.deref-in-Function-2.result.now)) (expr_shape c.in-Function.result) = ap item_shape c.in-Function.is ∙ ap₂ (λ ps b. tree.function (name_tree c.in-Function.name) (comma_listed (map param_shape ps)) (width_tree c.in-Function.width) (listed (map stmt_shape b)) (expr_shape c.in-Function.result)) (sym c.deref-in-Function.ensures.value) (sym c.deref-in-Function-2.ensures.value) in
     on_ok_weaker c.put_function.result (λ h. shaped e h) c.put_function.ensures
+
+pub returns-in_err-put_named-in-Input : goal.returns-in_err-put_named-in-Input
+returns-in_err-put_named-in-Input c = IfOk-from_err _ _ c.from_residual.ensures.0
+
+pub returns-in_err-put_width-in-Input : goal.returns-in_err-put_width-in-Input
+returns-in_err-put_width-in-Input c = IfOk-from_err _ _ c.from_residual-in_err-put_width-in-Input.ensures.0
+
+pub returns-in_err-put_named-in-Output : goal.returns-in_err-put_named-in-Output
+returns-in_err-put_named-in-Output c = IfOk-from_err _ _ c.from_residual-in_err-put_named-in-Output.ensures.0
+
+pub returns-in_err-put_width-in-Output : goal.returns-in_err-put_width-in-Output
+returns-in_err-put_width-in-Output c = IfOk-from_err _ _ c.from_residual-in_err-put_width-in-Output.ensures.0
+
+pub returns-in_err-put_named-in-Const : goal.returns-in_err-put_named-in-Const
+returns-in_err-put_named-in-Const c = IfOk-from_err _ _ c.from_residual-in_err-put_named-in-Const.ensures.0
+
+pub returns-in_err-put_symbol-in-Const : goal.returns-in_err-put_symbol-in-Const
+returns-in_err-put_symbol-in-Const c = IfOk-from_err _ _ c.from_residual-in_err-put_symbol-in-Const.ensures.0
+
+pub returns-in_err-put_fixed-in-Const : goal.returns-in_err-put_fixed-in-Const
+returns-in_err-put_fixed-in-Const c = IfOk-from_err _ _ c.from_residual-in_err-put_fixed-in-Const.ensures.0

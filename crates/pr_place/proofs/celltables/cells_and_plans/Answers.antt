@@ -1,4 +1,5 @@
 use Rattle.std.proofs.Common.{◌≡◌, ℕ, false, Bool, List, length, replicate, arith, ap, ap₂, sym, ◌∙◌, subst}
+use Rattle.std.proofs.lemmas.Result.{IfOk-from_err}
 use Rattle.std.proofs.lemmas.List.{length-replicate}
 use Rattle.pr_net.specs.Whole.{shape_of}
 use Rattle.pr_place.specs.Lists.{Holds, joined}
@@ -66,3 +67,24 @@ returns-clause-plans g c =
       reads = ops;
       all = c.in_ok-reads.ensures.all ∙ ap₂ (λ (f o : List ℕ). joined (reads_from net.units f o 0 net.groups)) c.deref-2.ensures.value c.deref-3.ensures.value ∙ ap joined (sym ops);
     }
+
+pub returns-in_err-numbering : goal.returns-in_err-numbering
+returns-in_err-numbering g c = let h = c.from_residual.ensures.0 in record { cells = IfOk-from_err _ _ h; plans = IfOk-from_err _ _ h }
+
+pub returns-in_err-cells : goal.returns-in_err-cells
+returns-in_err-cells g c = let h = c.from_residual-in_err-cells.ensures.0 in record { cells = IfOk-from_err _ _ h; plans = IfOk-from_err _ _ h }
+
+pub returns-in_err-owner : goal.returns-in_err-owner
+returns-in_err-owner g c = let h = c.from_residual-in_err-owner.ensures.0 in record { cells = IfOk-from_err _ _ h; plans = IfOk-from_err _ _ h }
+
+pub returns-in_err-kept : goal.returns-in_err-kept
+returns-in_err-kept g c = let h = c.from_residual-in_err-kept.ensures.0 in record { cells = IfOk-from_err _ _ h; plans = IfOk-from_err _ _ h }
+
+pub returns-in_err-reads : goal.returns-in_err-reads
+returns-in_err-reads g c = let h = c.from_residual-in_err-reads.ensures.0 in record { cells = IfOk-from_err _ _ h; plans = IfOk-from_err _ _ h }
+
+pub returns-in_err-uses : goal.returns-in_err-uses
+returns-in_err-uses g c = let h = c.from_residual-in_err-uses.ensures.0 in record { cells = IfOk-from_err _ _ h; plans = IfOk-from_err _ _ h }
+
+pub returns-in_err-needs : goal.returns-in_err-needs
+returns-in_err-needs g c = let h = c.from_residual-in_err-needs.ensures.0 in record { cells = IfOk-from_err _ _ h; plans = IfOk-from_err _ _ h }

@@ -1,4 +1,5 @@
 use Rattle.std.proofs.Common.{◌≡◌, ◌<◌, ◌+◌, ℕ, List, length, get_or, drop, arith, ap, ap₂, sym, ◌∙◌, subst}
+use Rattle.std.proofs.lemmas.Result.{IfOk-from_err}
 use Rattle.std.specs.List.{All}
 use Rattle.pr_net.specs.Whole.{shape_of}
 use Rattle.pr_net.specs.Shape.{units_of}
@@ -48,3 +49,6 @@ loop-group-preserved g c =
           ∙ owners_next g.row.N net first count group c.loop-group.owner.items c.requires.net c.requires.numbered l (subst (λ (n : ℕ). All (λ x. x < n) (group_numbers net.units first (units_of net group))) (sym c.loop-group.invariant.long) (numbers_below net.units first count (units_of net group) c.requires.numbered can.there))
           c.loop-group.invariant.owner h u i cell lh;
     }
+
+pub returns-in_err-owner : goal.returns-in_err-owner
+returns-in_err-owner g c = let h = c.from_residual.ensures.0 in record { long = IfOk-from_err _ _ h; owner = IfOk-from_err _ _ h }

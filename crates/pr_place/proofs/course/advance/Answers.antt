@@ -1,4 +1,5 @@
 use Rattle.std.proofs.Common.{◌≡◌, ◌∙◌, ℕ, List, length, vec_len, eqb-true, sym, subst, arith}
+use Rattle.std.proofs.lemmas.Result.{IfOk-from_err}
 use Rattle.pr_net.specs.Whole.{shape_of}
 use Rattle.pr_place.specs.Greedy.{Seat, placed_after, stripe}
 use Rattle.pr_place.specs.Opening.{Received}
@@ -45,3 +46,6 @@ open_next-requires-clause-filled g c =
       left = h.left;
       each = h.each;
     }
+
+pub returns-in_err-fill : goal.returns-in_err-fill
+returns-in_err-fill g c = let h = c.from_residual.ensures.0 in record { opens = IfOk-from_err _ _ h; left = IfOk-from_err _ _ h; stuck = IfOk-from_err _ _ h }

@@ -1,4 +1,5 @@
 use Rattle.std.proofs.Common.{◌≡◌, ◌<◌, ◌++◌, ℕ, List, [], ◌∷◌, length, arith, ap, ap₂, sym, ◌∙◌, subst}
+use Rattle.std.proofs.lemmas.Result.{IfOk-from_err}
 use Rattle.std.specs.List.{All}
 use Rattle.std.proofs.lemmas.List.Elements.{All-append}
 use Rattle.pr_net.specs.Whole.{shape_of}
@@ -39,3 +40,18 @@ loop-group-preserved g c =
       cells = holds_more (cells_by net first) group starts c.push-in-loop-group.new.self.items items more c.loop-group.invariant.cells e s;
       below = subst (λ (xs : List ℕ). All (λ x. x < count) xs) (sym e) (All-append (λ (x : ℕ). x < count) items (group_numbers net.units first (units_of net group)) c.loop-group.invariant.below (numbers_below net.units first count (units_of net group) c.requires.numbered can.there));
     }
+
+pub returns-in_err-starts : goal.returns-in_err-starts
+returns-in_err-starts g c = let h = c.from_residual.ensures.0 in record { cells = IfOk-from_err _ _ h; below = IfOk-from_err _ _ h }
+
+pub returns-in_err-items : goal.returns-in_err-items
+returns-in_err-items g c = let h = c.from_residual-in_err-items.ensures.0 in record { cells = IfOk-from_err _ _ h; below = IfOk-from_err _ _ h }
+
+pub returns-in_err-push : goal.returns-in_err-push
+returns-in_err-push g c = let h = c.from_residual-in_err-push.ensures.0 in record { cells = IfOk-from_err _ _ h; below = IfOk-from_err _ _ h }
+
+pub returns-in_err-list_cells : goal.returns-in_err-list_cells
+returns-in_err-list_cells g c = let h = c.from_residual-in_err-list_cells.ensures.0 in record { cells = IfOk-from_err _ _ h; below = IfOk-from_err _ _ h }
+
+pub returns-in_err-push-2 : goal.returns-in_err-push-2
+returns-in_err-push-2 g c = let h = c.from_residual-in_err-push-2.ensures.0 in record { cells = IfOk-from_err _ _ h; below = IfOk-from_err _ _ h }

@@ -1,4 +1,5 @@
 use Rattle.std.proofs.Common.{◌≡◌, ◌<◌, ◌++◌, ℕ, List, [], ◌∷◌, length, arith, ap, ◌∙◌}
+use Rattle.std.proofs.lemmas.Result.{IfOk-from_err}
 use Rattle.pr_net.specs.Whole.{shape_of}
 use Rattle.pr_net.specs.Shape.{units_of}
 use Rattle.pr_place.specs.Lists.{joined}
@@ -38,3 +39,33 @@ loop-group-preserved g c =
       reads = holds_more (reads_by net first owner) group starts c.push-in-loop-group.new.self.items items more c.loop-group.invariant.reads e s;
       all = reads_next net.units first owner items more (joined (reads_from net.units first owner 0 net.groups)) group net.groups l e c.loop-group.invariant.all;
     }
+
+pub returns-in_err-starts-clause-reads : goal.returns-in_err-starts-clause-reads
+returns-in_err-starts-clause-reads g c = IfOk-from_err _ _ c.from_residual.ensures.0
+
+pub returns-in_err-starts-clause-all : goal.returns-in_err-starts-clause-all
+returns-in_err-starts-clause-all g c = IfOk-from_err _ _ c.from_residual.ensures.0
+
+pub returns-in_err-items-clause-reads : goal.returns-in_err-items-clause-reads
+returns-in_err-items-clause-reads g c = IfOk-from_err _ _ c.from_residual-in_err-items.ensures.0
+
+pub returns-in_err-items-clause-all : goal.returns-in_err-items-clause-all
+returns-in_err-items-clause-all g c = IfOk-from_err _ _ c.from_residual-in_err-items.ensures.0
+
+pub returns-in_err-push-clause-reads : goal.returns-in_err-push-clause-reads
+returns-in_err-push-clause-reads g c = IfOk-from_err _ _ c.from_residual-in_err-push.ensures.0
+
+pub returns-in_err-push-clause-all : goal.returns-in_err-push-clause-all
+returns-in_err-push-clause-all g c = IfOk-from_err _ _ c.from_residual-in_err-push.ensures.0
+
+pub returns-in_err-list_reads-clause-reads : goal.returns-in_err-list_reads-clause-reads
+returns-in_err-list_reads-clause-reads g c = IfOk-from_err _ _ c.from_residual-in_err-list_reads.ensures.0
+
+pub returns-in_err-list_reads-clause-all : goal.returns-in_err-list_reads-clause-all
+returns-in_err-list_reads-clause-all g c = IfOk-from_err _ _ c.from_residual-in_err-list_reads.ensures.0
+
+pub returns-in_err-push-2-clause-reads : goal.returns-in_err-push-2-clause-reads
+returns-in_err-push-2-clause-reads g c = IfOk-from_err _ _ c.from_residual-in_err-push-2.ensures.0
+
+pub returns-in_err-push-2-clause-all : goal.returns-in_err-push-2-clause-all
+returns-in_err-push-2-clause-all g c = IfOk-from_err _ _ c.from_residual-in_err-push-2.ensures.0

@@ -1,4 +1,5 @@
 use Rattle.std.proofs.Common.{◌∙◌, ap, sym}
+use Rattle.std.proofs.lemmas.Result.{IfOk-from_err}
 use Rattle.pr_lang.specs.declared.trees.Expr.{Expr}
 use Rattle.pr_scope_names.specs.Names.{known_in, streams_in}
 use Rattle.pr_scope.specs.Expressions.{walk_of}
@@ -14,3 +15,15 @@ pub walk-returns-in-Ok-clause-value : goal.walk-returns-in-Ok-clause-value
 walk-returns-in-Ok-clause-value t c =
     let law = ap (λ (e : Expr). walk_of e (known_in c.args.statics.now) (streams_in c.args.streams.now) c.args.scene.now c.args.count) c.in-Call.is ∙ call_law c.in-Call.name c.in-Call.args (known_in c.args.statics.now) (streams_in c.args.streams.now) c.args.scene.now c.args.count in
     (call_met (known_in c.args.statics.now) (streams_in c.args.streams.now) c.args.scene.now c.args.count c.in-Ok.count c.in-Call.name c.deref-in-Call.result.now c.in-Call.args.items c.len.result c.call.result c.deref-in-Call.ensures.value c.in-Ok.ensures.value (c.len.ensures ∙ sym c.deref-in-Call.ensures.len) c.call.ensures.value) ∙ sym law
+
+pub walk-returns-in_err-count-in-Slice-clause-grows : goal.walk-returns-in_err-count-in-Slice-clause-grows
+walk-returns-in_err-count-in-Slice-clause-grows t c = IfOk-from_err _ _ c.from_residual.ensures.0
+
+pub walk-returns-in_err-count-in-Binary-clause-grows : goal.walk-returns-in_err-count-in-Binary-clause-grows
+walk-returns-in_err-count-in-Binary-clause-grows t c = IfOk-from_err _ _ c.from_residual-in_err-count-in-Binary.ensures.0
+
+pub walk-returns-in_err-count-in-Choose-clause-grows : goal.walk-returns-in_err-count-in-Choose-clause-grows
+walk-returns-in_err-count-in-Choose-clause-grows t c = IfOk-from_err _ _ c.from_residual-in_err-count-in-Choose.ensures.0
+
+pub walk-returns-in_err-count-in-Choose-2-clause-grows : goal.walk-returns-in_err-count-in-Choose-2-clause-grows
+walk-returns-in_err-count-in-Choose-2-clause-grows t c = IfOk-from_err _ _ c.from_residual-in_err-count-in-Choose-2.ensures.0

@@ -1,4 +1,5 @@
 use Rattle.std.proofs.Common.{◌≡◌, ◌+◌, ℕ, List, [], ◌∷◌, ◌++◌, map, reverse, take, ap, ap₂, subst, sym, ◌∙◌, arith}
+use Rattle.std.proofs.lemmas.Result.{IfOk-from_err}
 use Rattle.std.proofs.lemmas.List.{map-append, take_at, take_more}
 use Rattle.pr_flat.specs.Shape.{shapes_of}
 use Rattle.pr_flat.specs.Values.{row_of, rows_of}
@@ -26,3 +27,12 @@ loop-sample-preserved c =
           ∙ (ap₂ (λ (rs : List (List ℕ)) (r : List ℕ). rs ++ r ∷ []) c.loop-sample.invariant.rows (c.new-in-loop-sample.ensures ∙ (take_at c.next.new.into _ c.in_ok-row.row.len (omega (arith, c.next.auto.into, c.deref_mut.ensures.len)) ∙ c.next.ensures.given before stands))
           ∙ (sym (map-append (given equations outputs) rows (row ∷ [])) ∙ ap (map (given equations outputs)) (sym (ap (rows_of equations widths) more ∙ rows_of-more equations widths before sample))));
     }
+
+pub returns-in_err-evaluator : goal.returns-in_err-evaluator
+returns-in_err-evaluator c = IfOk-from_err _ _ c.from_residual.ensures.0
+
+pub returns-in_err-row : goal.returns-in_err-row
+returns-in_err-row c = IfOk-from_err _ _ c.from_residual-in_err-row.ensures.0
+
+pub returns-in_err-push : goal.returns-in_err-push
+returns-in_err-push c = IfOk-from_err _ _ c.from_residual-in_err-push.ensures.0

@@ -1,5 +1,5 @@
 use Rattle.std.proofs.Common.{◌∙◌, ◌≡◌, List, ℕ, Some, refl, sym, ap, subst}
-use Rattle.std.proofs.lemmas.Result.{err_from_is_err_and}
+use Rattle.std.proofs.lemmas.Result.{IfOk-from_err, err_from_is_err_and}
 use Rattle.pr_edge.specs.Files.{Told}
 use Rattle.pr_edge.specs.SureShelf.{told_of, reach_of, faults_of}
 use Rattle.pr_edge.specs.MemSink.{told_of as tape_of, faults_of as failures_of}
@@ -41,3 +41,18 @@ returns-clause-told c =
     subst (λ (b : Bench). OnBench (λ N P machine. HasGenerated (generation_of c.args.generation.now) (λ t. c.in_ok-text.text.items ≡ t) machine) b) (sym c.into_bench.ensures)
     (told_good (generation_of c.args.generation.now) k made.loaded ran made.units c.bytes.result.now c.in_ok-text.text.items c.args.generation.now.least (c.compile_file.ensures.same ∙ c.in_ok-shelf.ensures)
     (ap (λ (b : List ℕ). Some b) c.in_ok-lines.ensures.bytes) (ap (λ (b : List ℕ). Some b) (sym c.bytes.ensures)) gives counts on c.in_ok-text.ensures.told)
+
+pub returns-in_err-shelf-clause-told : goal.returns-in_err-shelf-clause-told
+returns-in_err-shelf-clause-told c = IfOk-from_err _ _ c.from_residual.ensures.0
+
+pub returns-in_err-made-clause-told : goal.returns-in_err-made-clause-told
+returns-in_err-made-clause-told c = IfOk-from_err _ _ c.from_residual-in_err-made.ensures.0
+
+pub returns-in_err-lines-clause-told : goal.returns-in_err-lines-clause-told
+returns-in_err-lines-clause-told c = IfOk-from_err _ _ c.from_residual-in_err-lines.ensures.0
+
+pub returns-in_err-ran-clause-told : goal.returns-in_err-ran-clause-told
+returns-in_err-ran-clause-told c = IfOk-from_err _ _ c.from_residual-in_err-ran.ensures.0
+
+pub returns-in_err-text-clause-told : goal.returns-in_err-text-clause-told
+returns-in_err-text-clause-told c = IfOk-from_err _ _ c.from_residual-in_err-text.ensures.0

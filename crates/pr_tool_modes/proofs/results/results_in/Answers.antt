@@ -1,4 +1,5 @@
 use Rattle.std.proofs.Common.{◌≡◌, ℕ, List, length, refl, sym, ap, subst, ◌∙◌, arith}
+use Rattle.std.proofs.lemmas.Result.{IfOk-from_err}
 use Rattle.pr_base.specs.Rows.{written}
 use Rattle.pr_edge.specs.Files.{Told}
 use Rattle.pr_flat.specs.Shape.{EquationShape, shapes_of}
@@ -99,3 +100,21 @@ returns-in_default-clause-there g c = λ no_fault missing. no_fault (c.next.ensu
 pub returns-in_default-clause-cause : goal.returns-in_default-clause-cause
 returns-in_default-clause-cause g c = λ fault.
     cause_earlier (g.S.Shelf.told c.args.shelf.now) (name_of c.args.feed.now) _ _ _ c.samples.invariant.later (rw (c.samples.invariant.file.name, c.samples.invariant.same) at (c.next.ensures.cause fault))
+
+pub returns-in_err-evaluator-clause-results : goal.returns-in_err-evaluator-clause-results
+returns-in_err-evaluator-clause-results g c = IfOk-from_err _ _ c.from_residual.ensures.0
+
+pub returns-in_err-evaluator-clause-there : goal.returns-in_err-evaluator-clause-there
+returns-in_err-evaluator-clause-there g c = IfOk-from_err _ _ c.from_residual.ensures.0
+
+pub returns-in_err-evaluator-clause-cause : goal.returns-in_err-evaluator-clause-cause
+returns-in_err-evaluator-clause-cause g c = IfOk-from_err _ _ c.from_residual.ensures.0
+
+pub returns-in_err-push_line-in-Sample-clause-results : goal.returns-in_err-push_line-in-Sample-clause-results
+returns-in_err-push_line-in-Sample-clause-results g c = IfOk-from_err _ _ c.from_residual-in_err-push_line-in-Sample.ensures.0
+
+pub returns-in_err-push_line-in-Sample-clause-there : goal.returns-in_err-push_line-in-Sample-clause-there
+returns-in_err-push_line-in-Sample-clause-there g c = IfOk-from_err _ _ c.from_residual-in_err-push_line-in-Sample.ensures.0
+
+pub returns-in_err-push_line-in-Sample-clause-cause : goal.returns-in_err-push_line-in-Sample-clause-cause
+returns-in_err-push_line-in-Sample-clause-cause g c = IfOk-from_err _ _ c.from_residual-in_err-push_line-in-Sample.ensures.0

@@ -1,4 +1,5 @@
 use Rattle.std.proofs.Common.{◌≡◌, ◌<◌, ◌-◌, ℕ, List, length, get_or, arith, ap, sym, ◌∙◌, subst}
+use Rattle.std.proofs.lemmas.Result.{IfOk-from_err}
 use Rattle.std.specs.List.{All}
 use Rattle.pr_net.specs.Whole.{shape_of}
 use Rattle.pr_place.specs.Numbering.{readers_from}
@@ -32,3 +33,12 @@ returns g c =
     tables_are g.row.N g.row.P net _ pieces made.ensures.plans c.requires.columns c.requires.registers c.requires.few_registers c.in_ok-class.ensures.long c.in_ok-class.ensures.small c.in_ok-class.ensures.alike
     (c.in_ok-readers.ensures.long ∙ ap (λ (n : ℕ). n - 1) same)
     (λ k l. c.in_ok-readers.ensures.readers k (omega (arith, l, same)) ∙ ap (λ (o : List ℕ). readers_from o k 0 ops) c.deref.ensures.value)
+
+pub returns-in_err-cells : goal.returns-in_err-cells
+returns-in_err-cells g c = IfOk-from_err _ _ c.from_residual.ensures.0
+
+pub returns-in_err-class : goal.returns-in_err-class
+returns-in_err-class g c = IfOk-from_err _ _ c.from_residual-in_err-class.ensures.0
+
+pub returns-in_err-readers : goal.returns-in_err-readers
+returns-in_err-readers g c = IfOk-from_err _ _ c.from_residual-in_err-readers.ensures.0

@@ -1,4 +1,5 @@
 use Rattle.std.proofs.Common.{◌≡◌, ◌<◌, ◌==◌, ◌-◌, ◌^◌, ℕ, List, [], length, get_or, if◌then◌else◌, arith, ap, ap₂, sym, ◌∙◌, subst}
+use Rattle.std.proofs.lemmas.Result.{IfOk-from_err}
 use Rattle.std.proofs.lemmas.List.{length-replicate}
 use Rattle.pr_net.specs.Whole.{shape_of}
 use Rattle.pr_place.specs.Beginning.{nothing_put}
@@ -37,3 +38,18 @@ returns g c =
       filling = subst (λ (p : Progress). Filling N P net t.cells.first.items t.cells.kept.items plans t.class.items c.in_ok-summary.summary.items c.in_ok-ready.ready.items p 0 (2 ^ 64 - 1) 0 []) (sym start)
           (first_filling N P net t c.in_ok-waits.waits.items c.in_ok-ready.ready.items c.in_ok-summary.summary.items h c.requires.registers waits_is ready_long ready_is blocks covered);
     }
+
+pub returns-in_err-uses : goal.returns-in_err-uses
+returns-in_err-uses g c = IfOk-from_err _ _ c.from_residual.ensures.0
+
+pub returns-in_err-progress : goal.returns-in_err-progress
+returns-in_err-progress g c = IfOk-from_err _ _ c.from_residual-in_err-progress.ensures.0
+
+pub returns-in_err-waits : goal.returns-in_err-waits
+returns-in_err-waits g c = IfOk-from_err _ _ c.from_residual-in_err-waits.ensures.0
+
+pub returns-in_err-ready : goal.returns-in_err-ready
+returns-in_err-ready g c = IfOk-from_err _ _ c.from_residual-in_err-ready.ensures.0
+
+pub returns-in_err-summary : goal.returns-in_err-summary
+returns-in_err-summary g c = IfOk-from_err _ _ c.from_residual-in_err-summary.ensures.0
