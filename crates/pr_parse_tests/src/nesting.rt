@@ -4,79 +4,17 @@ use crate::reading::{Answer, answer_to, printed};
 use std::alloc::{AllocError, Global};
 use std::test::Fail;
 
-/// How a text begins, the part that it repeats, what comes then, the part that is repeated as often after that, and the
-/// end.
-#[derive(Clone, Copy)]
-struct Nested {
-    front: &'static str,
-    opening: &'static str,
-    inner: &'static str,
-    closing: &'static str,
-    end: &'static str,
-}
-
-const PARENTHESES: Nested = Nested {
-    front: "input a:8; output y = ",
-    opening: "(",
-    inner: "a",
-    closing: ")",
-    end: ";",
-};
-
-/// The same as it is printed.
-const PRINTED: Nested = Nested {
-    front: "input a : 8 ;\noutput y = ",
-    opening: "( ",
-    inner: "a ",
-    closing: ") ",
-    end: ";\n",
-};
-
-const OPEN: Nested = Nested {
-    front: "output y = ",
-    opening: "(",
-    inner: "",
-    closing: "",
-    end: "",
-};
-
-const OPEN_AND_ENDED: Nested = Nested {
-    front: "output y = ",
-    opening: "(",
-    inner: "",
-    closing: "",
-    end: ";",
-};
-
-const INVERSES: Nested = Nested {
-    front: "output y = ",
-    opening: "~",
-    inner: "",
-    closing: "",
-    end: "a;",
-};
-
-const SLICES: Nested = Nested {
-    front: "input a:8; output y = a",
-    opening: "{7..0}",
-    inner: "",
-    closing: "",
-    end: ";",
-};
-
-/// A text, how often its parts are repeated, and the answer.
-const REPEATED: [(Nested, usize, Answer); 10] = [
-    (OPEN_AND_ENDED, 200, Answer::Syntax(203)),
-    (OPEN, 256, Answer::Syntax(259)),
-    (OPEN, 257, Answer::TooDeep),
-    (OPEN_AND_ENDED, 300, Answer::TooDeep),
-    (INVERSES, 256, Answer::Program),
-    (INVERSES, 257, Answer::TooDeep),
-    (SLICES, 256, Answer::Program),
-    (SLICES, 300, Answer::TooDeep),
-    (PARENTHESES, 256, Answer::Program),
-    (PARENTHESES, 257, Answer::TooDeep),
-];
+/// How often parts are repeated, the answer, and the shape of a text: the second and the fourth of its parts are repeated.
+const REPEATED: &str = "200 203 output y = |(|||;
+256 259 output y = |(|||
+257 deep output y = |(|||
+300 deep output y = |(|||;
+256 program output y = |~|||a;
+257 deep output y = |~|||a;
+256 program input a:8; output y = a|{7..0}|||;
+300 deep input a:8; output y = a|{7..0}|||;
+256 program input a:8; output y = |(|a|)|;
+257 deep input a:8; output y = |(|a|)|;";
 
 fn put(text: &mut Vec<u8>, part: &str, times: usize) -> Result<(), AllocError> {
     for _ in 0..times {
@@ -85,39 +23,76 @@ fn put(text: &mut Vec<u8>, part: &str, times: usize) -> Result<(), AllocError> {
     Ok(())
 }
 
-fn repeated(alloc: Global, nested: Nested, times: usize) -> Result<Vec<u8>, AllocError> {
-    let mut text = Vec::from_slice(alloc, nested.front.as_bytes())?;
-    put(&mut text, nested.opening, times)?;
-    put(&mut text, nested.inner, 1)?;
-    put(&mut text, nested.closing, times)?;
-    put(&mut text, nested.end, 1)?;
+/// The text of a shape.
+fn repeated(alloc: Global, shape: &str, times: usize) -> Result<Vec<u8>, AllocError> {
+    let mut text = Vec::new(alloc);
+    let mut is_repeated = false;
+    for part in shape.split('|') {
+        put(&mut text, part, if is_repeated { times } else { 1 })?;
+        is_repeated = !is_repeated;
+    }
     Ok(text)
+}
+
+/// The answer of a word: the wrong token, or another one.
+fn answer_of(word: &str) -> Option<Answer> {
+    if word == "deep" {
+        return Some(Answer::TooDeep);
+    }
+    if word == "program" {
+        return Some(Answer::Program);
+    }
+    word.parse().ok().map(Answer::Syntax)
+}
+
+/// Whether a text comes to the answer of a word.
+fn comes_to(alloc: Global, text: &[u8], word: &str) -> Result<bool, AllocError> {
+    if text.len() > 10000 {
+        return Ok(false);
+    }
+    Ok(answer_of(word) == Some(answer_to(alloc, text)?))
+}
+
+/// Whether the text of a line comes to its answer.
+fn is_answered(alloc: Global, line: &str) -> Result<bool, AllocError> {
+    let Some((times, rest)) = line.split_once(' ') else {
+        return Ok(false);
+    };
+    let (Ok(times), Some((word, shape))) = (times.parse(), rest.split_once(' ')) else {
+        return Ok(false);
+    };
+    comes_to(alloc, &repeated(alloc, shape, times)?, word)
+}
+
+/// The first line whose text comes to another answer.
+fn other_line(alloc: Global, lines: &'static str) -> Result<Option<&'static str>, AllocError> {
+    for line in lines.lines() {
+        if !is_answered(alloc, line)? {
+            return Ok(Some(line));
+        }
+    }
+    Ok(None)
 }
 
 #[test]
 fn repeated_parts(rt: HostRuntime) -> Result<(), Fail> {
-    let alloc = rt.alloc();
-    for (nested, times, answer) in REPEATED {
-        let text = repeated(alloc, nested, times)?;
-        assert!(rt; text.len() < 10000);
-        assert_eq!(rt;
-            answer_to(alloc, &text)?,
-            answer,
-            "{} {times}",
-            nested.opening
-        );
-    }
+    assert_eq!(rt; other_line(rt.alloc(), REPEATED)?, None);
     Ok(())
+}
+
+/// Whether the text of a shape is printed as that of another one, with 256 of each repeated part.
+fn is_printed(alloc: Global, shape: &str, wanted: &str) -> Result<bool, AllocError> {
+    let text = repeated(alloc, shape, 256)?;
+    if text.len() > 2000 {
+        return Ok(false);
+    }
+    Ok(printed(alloc, &text)?.as_slice() == repeated(alloc, wanted, 256)?.as_slice())
 }
 
 #[test]
 fn deep_parentheses_are_printed(rt: HostRuntime) -> Result<(), Fail> {
-    let alloc = rt.alloc();
-    let wanted = repeated(alloc, PRINTED, 256)?;
-    for nested in [PARENTHESES, PRINTED] {
-        let text = repeated(alloc, nested, 256)?;
-        assert!(rt; text.len() < 2000);
-        assert_eq!(rt; printed(alloc, &text)?.as_slice(), wanted.as_slice());
-    }
+    let wanted = "input a : 8 ;\noutput y = |( |a |) |;\n";
+    assert!(rt; is_printed(rt.alloc(), "input a:8; output y = |(|a|)|;", wanted)?);
+    assert!(rt; is_printed(rt.alloc(), wanted, wanted)?);
     Ok(())
 }
