@@ -3,6 +3,5 @@ pub mod MadeLemmas
 pub mod MissingLemmas
 pub mod OffenceLemmas
 pub mod Possible
-pub mod SpanLemmas
 pub mod TurnLemmas
 pub mod WalkLemmas

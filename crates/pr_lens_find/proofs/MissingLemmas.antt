@@ -11,13 +11,13 @@ use Rattle.pr_flat.specs.declared.flat.Flat.{Flat}
 use Rattle.pr_flat.specs.Flats.{equations_of}
 use Rattle.pr_flat.specs.Shape.{equation_shape}
 use Rattle.pr_flat.specs.Widths.{IsFirstWithout}
-use Rattle.pr_lens_find.specs.declared.sources.Span.{Span}
+use Rattle.pr_lens_source.specs.declared.sources.Span.{Span}
 use Rattle.pr_lens_find.specs.declared.widths.Extent.{Extent}
 use Rattle.pr_lens_find.specs.declared.widths.Missing.{Missing}
 use Rattle.pr_lens_find.specs.Fronts.{Spot, WithCut}
 use Rattle.pr_lens_find.specs.Made.{HasFlat, IsManyWith, IsMadeAt, values_cut}
 use Rattle.pr_lens_find.specs.Offences.{IsItemOf, values_in}
-use Rattle.pr_lens_find.specs.Spans.{StandsIn}
+use Rattle.pr_lens_source.specs.Spans.{StandsIn}
 use Rattle.pr_lens_find.specs.Turns.{IsTurn}
 use Rattle.pr_lens_find.specs.Widths.{IsEquation, IsToldOf, LacksWidth, LacksNone, LacksFirst, IsToldCut, IsToldOfSpot, IsToldIn}
 

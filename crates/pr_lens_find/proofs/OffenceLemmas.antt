@@ -1,9 +1,9 @@
 -- Which tokens of an item are told of a rule that it breaks.
-use Rattle.std.proofs.Common.{◌≡◌, ◌≢◌, ◌∙◌, ◌⊎◌, ◌↔◌, ◌+◌, ◌-◌, ◌^◌, ◌++◌, ℕ, Bool, None, Some, List, Option, min, option_map, option_to_list, ap, sym, inl, inr, subst, arith}
-use Rattle.std.specs.Prelude.{IfSome, IsTrue, IsFalse}
+use Rattle.std.proofs.Common.{◌≡◌, ◌≢◌, ◌∙◌, ◌⊎◌, ◌↔◌, ◌+◌, ◌-◌, ◌^◌, ◌<◌, ◌≤◌, ◌++◌, ◌∷◌, [], ℕ, Bool, false, None, Some, List, Option, Result, Ok, Err, length, min, refl, option_map, option_to_list, ap, sym, inl, inr, subst, arith}
+use Rattle.std.specs.Prelude.{IfNone, IfOk, IfSome, IsTrue, IsFalse, MatchOption, slice_index}
 use Rattle.std.proofs.lemmas.Bool.{iff_false}
 use Rattle.std.specs.List.{slice_get}
-use Rattle.std.proofs.lemmas.Option.{slice_get-map}
+use Rattle.std.proofs.lemmas.Option.{slice_get-get_or, slice_get-map}
 use Rattle.pr_lang.specs.declared.tokens.Token.{Token}
 use Rattle.pr_lang.specs.declared.trees.Item.{Item}
 use Rattle.pr_lang.specs.declared.trees.Program.{Program}
@@ -12,20 +12,26 @@ use Rattle.pr_compile_front.specs.Refusals.{IsRead}
 use Rattle.pr_lens_items.specs.declared.cuts.Cut.{Cut}
 use Rattle.pr_lens_items.specs.declared.points.Frame.{Frame}
 use Rattle.pr_lens_items.specs.Steps.{Entry, entry_of, entries_of}
-use Rattle.pr_lens_find.specs.declared.sources.Span.{Span}
-use Rattle.pr_lens_find.specs.Tokens.{first_of, front_text}
+use Rattle.pr_lens_source.specs.declared.sources.Span.{Span}
+use Rattle.pr_lens_source.specs.Spans.{StandsIn}
+use Rattle.pr_lens_source.specs.Tokens.{first_of, front_text}
 use Rattle.pr_lens_find.specs.declared.fronts.Seen.{Seen}
 use Rattle.pr_lens_find.specs.declared.fronts.Seen.TheVariants.{Kept, Broken, TooLong}
 use Rattle.pr_lens_find.specs.declared.offences.By.{By}
 use Rattle.pr_lens_find.specs.declared.offences.By.TheVariants as by
 use Rattle.pr_lens_find.specs.Fronts.{Spot, IsSeen, IsCutFront}
 use Rattle.pr_lens_find.specs.Turns.{IsTurn}
-use Rattle.pr_lens_find.specs.Offences.{IsAmong, IsAgain, Breaks, Keeps, BreaksNot, Turns, IsValue, IsFirstFrame, IsOfFrame, Constant, IsOfItem, Value, Framed, IsItemOf, IsOfTree, IsFoundIn, IsTold, cut_by}
+use Rattle.pr_lens_find.specs.Offences.{IsAmong, IsWrongWidth, HasNoWrong, IsAgain, Breaks, Keeps, BreaksNot, TurnsUpTo, TurnsNot, IsValue, IsFirstFrame, HasNoFrame, IsOfFrame, Again, WrongWidth, Initial, Constant, HasNoneOfFrame, NoName, NoWrong, NoInitial, IsOfItem, Value, Framed, HasNoneAt, Within, HasNoneOfItem, Unframed, AtFrame, IsItemOf, HasNoItem, IsOfTree, HasNoneOfTree, IsFoundIn, IsNowhere, Untold, IsTold, cut_by, is_again}
 
-pub item_popped : (text : List ℕ) (tokens : List Token) (spans : List Span) (number : ℕ) (program : Program) (rest : List Item) (o : Option Item)
-    → IsRead (front_text text tokens spans (min (number + 1) (2 ^ 64 - 1))) program → program.items.items ≡ rest ++ option_to_list o → IfSome o (IsItemOf text tokens spans number)
-item_popped text tokens spans number program rest None read is = tt
-item_popped text tokens spans number program rest (Some item) read is = record { program = program; read = read; before = rest; last = is }
+no_items : (items : List Item) (n : ℕ) → n ≡ length items → n ≡ 0 → items ≡ []
+no_items [] n whole none = refl
+no_items (item ∷ items) n whole none = absurd (omega arith)
+
+pub item_popped : (text : List ℕ) (tokens : List Token) (spans : List Span) (number : ℕ) (program : Program) (rest : List Item) (o : Option Item) (n m : ℕ)
+    → IsRead (front_text text tokens spans (min (number + 1) (2 ^ 64 - 1))) program → n ≡ length program.items.items → MatchOption o ((n ≡ 0) × (m ≡ 0)) (λ item. m + 1 ≡ n)
+    → program.items.items ≡ rest ++ option_to_list o → MatchOption o (HasNoItem text tokens spans number) (IsItemOf text tokens spans number)
+item_popped text tokens spans number program rest None n m read whole none is = inr (record { program = program; read = read; none = no_items program.items.items n whole none.0 })
+item_popped text tokens spans number program rest (Some item) n m read whole some is = record { program = program; read = read; before = rest; last = is }
 
 -- a token that is numbered stands among them
 pub numbered_among : (tokens : List ℕ) (place : ℕ) (o : Option ℕ) → o ≡ slice_get tokens place → IfSome o (IsAmong tokens)
@@ -33,9 +39,24 @@ numbered_among tokens place None is = tt
 numbered_among tokens place (Some token) is = record { place = place; there = sym is }
 
 -- the frame's own name
-pub first_again : (text : List ℕ) (tokens : List Token) (names : List ℕ) (o : Option ℕ) → o ≡ slice_get names 0 → IfSome o (IsAgain text tokens names)
-first_again text tokens names None is = tt
-first_again text tokens names (Some token) is = record { among = record { place = 0; there = sym is }; is = inr (sym is) }
+pub first_again : (text : List ℕ) (tokens : List Token) (spans : List Span) (names : List ℕ) (o : Option ℕ) → o ≡ slice_get names 0
+    → ((k : ℕ) → k < length names → is_again text tokens spans (slice_index names k) ≡ false) → MatchOption o (names ≡ []) (IsAgain text tokens spans names)
+first_again text tokens spans [] None is none = refl
+first_again text tokens spans (name ∷ names) None is none = absurd (cc)
+first_again text tokens spans names (Some token) is none = record { among = record { place = 0; there = sym is }; is = inr (record { first = sym is; none = none }) }
+
+-- the point of this number, from 1, is there
+point_there : (points : List ℕ) (count : ℕ) → 0 < count → count ≤ length points → None ≡ slice_get points (count - 1) → ⊥
+point_there points count some within is = let there = slice_get-get_or points (count - 1) 0 (omega arith) in cc
+
+pub last_there : (points : List ℕ) (o : Option ℕ) → o ≡ slice_get points (length points - 1) → IfNone o (points ≡ [])
+last_there [] None is = refl
+last_there (point ∷ points) None is = absurd (point_there (point ∷ points) (length (point ∷ points)) (omega arith) (omega arith) is)
+last_there points (Some token) is = tt
+
+pub both_ok : {X E : Type 0} (P Q R : X → Type 0) (r : Result X E) → ((x : X) → P x → Q x → R x) → IfOk r P → IfOk r Q → IfOk r R
+both_ok {X} {E} P Q R (Ok x) h p q = h x p q
+both_ok {X} {E} P Q R (Err e) h p q = tt
 
 -- ---- an item that is cut off
 pub breach : (spot : Spot) (rule : ℕ) (cut : Cut) (program : Program) (seen : Seen) → IsCutFront spot cut program → IsSeen program seen → seen ≡ Broken rule spot.number → Breaks spot rule cut
@@ -61,40 +82,84 @@ module _ (spot : Spot) (rule : ℕ) where
   abbrev Yes : By → ℕ → Type 0
   Yes what = λ count. Breaks spot rule (cut_by what count)
 
-  pub turned_if : (what : By) (low high : ℕ) (o : Option ℕ) → IfSome o (IsTurn (No what) (Yes what) low high) → IfSome o (Turns spot rule what)
-  turned_if what low high None is = tt
-  turned_if what low high (Some count) is = record { some = omega (arith, is.above); breaks = is.yes; keeps = keeps_read spot rule _ _ is.yes is.no }
+  pub turned : (what : By) (most : ℕ) (o : Option ℕ) → IfSome o (IsTurn (No what) (Yes what) 0 most) → IfNone o (Yes what 0 ⊎ ((most ≤ 0) ⊎ No what most))
+      → MatchOption o (TurnsNot spot rule what most) (TurnsUpTo spot rule what most)
+  turned what most None is none = none
+  turned what most (Some count) is none = record { turns = record { some = omega (arith, is.above); breaks = is.yes; keeps = keeps_read spot rule _ _ is.yes is.no }; within = is.within }
 
-  pub frame_if : (high : ℕ) (o : Option ℕ) → IfSome o (IsTurn (No by.Frames) (Yes by.Frames) 1 high) → IfSome o (IsFirstFrame spot rule)
-  frame_if high None is = tt
-  frame_if high (Some number) is = record { some = omega (arith, is.above); breaks = is.yes; keeps = λ more. keeps_read spot rule _ _ is.yes is.no }
+  pub first_framed : (most : ℕ) → No by.Frames 1 → (o : Option ℕ) → IfSome o (IsTurn (No by.Frames) (Yes by.Frames) 1 most) → IfNone o ((most ≤ 1) ⊎ No by.Frames most)
+      → MatchOption o (HasNoFrame spot rule most) (IsFirstFrame spot rule)
+  first_framed most one None is none = record { one = one; all = none }
+  first_framed most one (Some number) is none = record { some = omega (arith, is.above); breaks = is.yes; keeps = λ more. keeps_read spot rule _ _ is.yes is.no }
 
   -- ---- what is found
-  pub value_if : (frames : ℕ) (values : List ℕ) (count : ℕ) (o : Option ℕ) → o ≡ slice_get values (count - 1) → Turns spot rule (by.Values frames) count → IfSome o (IsValue spot rule frames values)
-  value_if frames values count None is turns = tt
-  value_if frames values count (Some token) is turns = record { count = count; there = sym is; turns = turns }
+  pub value_found : (frames : ℕ) (values : List ℕ) (count : ℕ) (o : Option ℕ) → o ≡ slice_get values (count - 1) → TurnsUpTo spot rule (by.Values frames) (length values) count
+      → MatchOption o (TurnsNot spot rule (by.Values frames) (length values)) (IsValue spot rule frames values)
+  value_found frames values count None is up = absurd (point_there values count up.turns.some up.within is)
+  value_found frames values count (Some token) is up = record { count = count; there = sym is; turns = up.turns }
 
-  pub valued_if : (kept : ℕ) (values : List ℕ) (frames : List Entry) (o : Option ℕ) → IfSome o (IsValue spot rule kept values) → IfSome o (IsOfItem spot rule values frames)
-  valued_if kept values frames None is = tt
-  valued_if kept values frames (Some token) is = Value kept is
+  pub value_of_item : (kept : ℕ) (values : List ℕ) (frames : List Entry) (o : Option ℕ) → MatchOption o (TurnsNot spot rule (by.Values kept) (length values)) (IsValue spot rule kept values)
+      → MatchOption o (TurnsNot spot rule (by.Values kept) (length values)) (IsOfItem spot rule values frames)
+  value_of_item kept values frames None is = is
+  value_of_item kept values frames (Some token) is = Value kept is
 
-  pub constant_if : (number : ℕ) (entry : Entry) (count : ℕ) (o : Option ℕ) → o ≡ slice_get entry.fixeds (count - 1) → Turns spot rule (by.Fixeds number) count → IfSome o (IsOfFrame spot rule number entry)
-  constant_if number entry count None is turns = tt
-  constant_if number entry count (Some token) is turns = Constant count (sym is) turns
+  pub constant_found : (number : ℕ) (entry : Entry) (count : ℕ) (o : Option ℕ) → o ≡ slice_get entry.fixeds (count - 1) → TurnsUpTo spot rule (by.Fixeds number) (length entry.fixeds) count
+      → MatchOption o (HasNoneOfFrame spot rule number entry) (IsOfFrame spot rule number entry)
+  constant_found number entry count None is up = absurd (point_there entry.fixeds count up.turns.some up.within is)
+  constant_found number entry count (Some token) is up = Constant count (sym is) up.turns
+
+  pub name_found : (number : ℕ) (entry : Entry) (o : Option ℕ) → rule ≡ 1 → MatchOption o (entry.names ≡ []) (IsAgain spot.text spot.tokens spot.spans entry.names)
+      → MatchOption o (HasNoneOfFrame spot rule number entry) (IsOfFrame spot rule number entry)
+  name_found number entry None is told = NoName is told
+  name_found number entry (Some token) is told = Again is told
+
+  pub width_found : (number : ℕ) (entry : Entry) (o : Option ℕ) → rule ≡ 8 → IfSome o (IsAmong entry.widths) → IfSome o (IsWrongWidth spot.tokens) → IfNone o (HasNoWrong spot.tokens entry.widths)
+      → MatchOption o (HasNoneOfFrame spot rule number entry) (IsOfFrame spot rule number entry)
+  width_found number entry None is among wrong none = NoWrong is none
+  width_found number entry (Some token) is among wrong none = WrongWidth is among wrong
+
+  pub initial_found : (number : ℕ) (entry : Entry) (o : Option ℕ) → rule ≡ 9 → o ≡ slice_get entry.fixeds (length entry.fixeds - 1)
+      → MatchOption o (HasNoneOfFrame spot rule number entry) (IsOfFrame spot rule number entry)
+  initial_found number entry None is there = NoInitial is (last_there entry.fixeds None there)
+  initial_found number entry (Some token) is there = Initial is (record { place = length entry.fixeds - 1; there = sym there })
 
   -- a token of a frame that the item has
-  pub framed_if : (values : List ℕ) (frames : List Frame) (number : ℕ) (frame : Frame) → slice_get frames (number - 1) ≡ Some frame → IsFirstFrame spot rule number
-      → (o : Option ℕ) → IfSome o (IsOfFrame spot rule number (entry_of frame)) → IfSome o (IsOfItem spot rule values (entries_of frames))
-  framed_if values frames number frame there first None is = tt
-  framed_if values frames number frame there first (Some token) is =
-      Framed number (entry_of frame) first (slice_get-map entry_of frames (number - 1) ∙ ap (λ (o : Option Frame). option_map entry_of o) there) is
+  frame_entry : (frames : List Frame) (number : ℕ) (frame : Frame) → slice_get frames (number - 1) ≡ Some frame → slice_get (entries_of frames) (number - 1) ≡ Some (entry_of frame)
+  frame_entry frames number frame there = slice_get-map entry_of frames (number - 1) ∙ ap (λ (o : Option Frame). option_map entry_of o) there
 
-pub found_if : (text : List ℕ) (tokens : List Token) (spans : List Span) (rule number : ℕ) (item : Item) → IsItemOf text tokens spans number item
-    → (o : Option ℕ) → IfSome o (IsOfTree (record { text = text; tokens = tokens; spans = spans; number = number; item = item }) rule) → IfSome o (IsFoundIn text tokens spans rule number)
-found_if text tokens spans rule number item is None tells = tt
-found_if text tokens spans rule number item is (Some token) tells = record { item = item; is = is; tells = tells }
+  pub framed : (values : List ℕ) (frames : List Frame) (number : ℕ) (frame : Frame) → slice_get frames (number - 1) ≡ Some frame → IsFirstFrame spot rule number
+      → (o : Option ℕ) → MatchOption o (HasNoneOfFrame spot rule number (entry_of frame)) (IsOfFrame spot rule number (entry_of frame))
+      → MatchOption o (HasNoneAt spot rule (entries_of frames) number) (IsOfItem spot rule values (entries_of frames))
+  framed values frames number frame there first None is = Within (entry_of frame) (frame_entry frames number frame there) is
+  framed values frames number frame there first (Some token) is = Framed number (entry_of frame) first (frame_entry frames number frame there) is
 
-pub held_told : (text : List ℕ) (tokens : List Token) (spans : List Span) (rule number token : ℕ) (found : Option ℕ) → IfSome found (IsFoundIn text tokens spans rule number)
-    → (token ≡ first_of tokens spans number) ⊎ (found ≡ Some token) → IsTold text tokens spans rule number token
-held_told text tokens spans rule number token found is (inl first) = inl first
-held_told text tokens spans rule number token found is (inr taken) = inr (subst (λ (o : Option ℕ). IfSome o (IsFoundIn text tokens spans rule number)) taken is)
+  pub none_framed : (values : List ℕ) (frames : List Entry) (number : ℕ) → IsFirstFrame spot rule number → (1 < number → TurnsNot spot rule (by.Values (number - 1)) (length values))
+      → (o : Option ℕ) → MatchOption o (HasNoneAt spot rule frames number) (IsOfItem spot rule values frames) → MatchOption o (HasNoneOfItem spot rule values frames) (IsOfItem spot rule values frames)
+  none_framed values frames number first none None is = AtFrame number first none is
+  none_framed values frames number first none (Some token) is = is
+
+  pub none_unframed : (values : List ℕ) (frames : List Entry) → HasNoFrame spot rule (length frames)
+      → (o : Option ℕ) → MatchOption o (TurnsNot spot rule (by.Values 18446744073709551615) (length values)) (IsOfItem spot rule values frames)
+      → MatchOption o (HasNoneOfItem spot rule values frames) (IsOfItem spot rule values frames)
+  none_unframed values frames none None is = Unframed none is
+  none_unframed values frames none (Some token) is = is
+
+pub found_in : (text : List ℕ) (tokens : List Token) (spans : List Span) (rule number : ℕ) (item : Item) → IsItemOf text tokens spans number item → (o : Option ℕ)
+    → MatchOption o (HasNoneOfTree (record { text = text; tokens = tokens; spans = spans; number = number; item = item }) rule)
+    (IsOfTree (record { text = text; tokens = tokens; spans = spans; number = number; item = item }) rule)
+    → MatchOption o (IsNowhere text tokens spans rule number) (IsFoundIn text tokens spans rule number)
+found_in text tokens spans rule number item is None none = Untold (record { item = item; is = is; none = none })
+found_in text tokens spans rule number item is (Some token) tells = record { item = item; is = is; tells = tells }
+
+pub held_told : (text : List ℕ) (tokens : List Token) (spans : List Span) (rule number token : ℕ) (found : Option ℕ)
+    → MatchOption found (IsNowhere text tokens spans rule number) (IsFoundIn text tokens spans rule number) → (token ≡ first_of tokens spans number) ⊎ (found ≡ Some token)
+    → ((t : ℕ) → found ≡ Some t → (token ≡ t) ⊎ (StandsIn tokens spans number t → ⊥)) → IsTold text tokens spans rule number token
+held_told text tokens spans rule number token None is (inl first) left = inr (record { first = first; why = inl is })
+held_told text tokens spans rule number token None is (inr same) left = absurd (cc)
+held_told text tokens spans rule number token (Some t) is other left = elim (left t refl) [
+  | inl same ↦ inl (subst (λ (k : ℕ). IsFoundIn text tokens spans rule number k) (sym same) is)
+  | inr outside ↦ (elim other [
+    | inl first ↦ inr (record { first = first; why = inr (record { found = t; is = is; outside = outside }) })
+    | inr same ↦ inl (let one : t ≡ token = cc in subst (λ (k : ℕ). IsFoundIn text tokens spans rule number k) one is)
+  ])
+]

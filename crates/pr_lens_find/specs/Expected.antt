@@ -1,5 +1,9 @@
 -- What could stand in the place of a token, by what stands before it.
-use Rattle.std.specs.Prelude.{ℕ, ◌≡◌, ◌++◌, ◌&&◌, [], ◌∷◌, All, Bool, true, false, List, Option, None, Some, codes, length, nat_le, nat_lt}
+use Rattle.std.specs.Prelude.{ℕ, ◌≡◌, ◌++◌, ◌&&◌, [], ◌∷◌, Bool, true, false, List, Option, None, Some, codes, filter, length, nat_le, nat_lt}
+use Rattle.pr_lang.specs.declared.tokens.Keyword.{Keyword}
+use Rattle.pr_lang.specs.declared.tokens.Keyword.TheVariants as keyword
+use Rattle.pr_lang.specs.declared.tokens.Symbol.{Symbol}
+use Rattle.pr_lang.specs.declared.tokens.Symbol.TheVariants as symbol
 use Rattle.pr_lang.specs.Spelling.{keyword_text, symbol_text}
 use Rattle.pr_lang.specs.Syntax.{Refusal, AtToken, TooDeep, refusal_of}
 use Rattle.pr_lens_find.specs.declared.expected.Expected.{Expected}
@@ -23,14 +27,25 @@ with_token front bytes = (((front ++ 32 ∷ []) ++ bytes) ++ 32 ∷ [])
 abbrev pub could_stand : List ℕ → ℕ → List ℕ → Bool
 could_stand front at bytes = nat_le (length (with_token front bytes)) 1048576 && is_taken (refusal_of (with_token front bytes)) at
 
--- what is spelled so could stand there
-abbrev pub CanStand : {X : Type 0} → List ℕ → ℕ → (X → List ℕ) → X → Type 0
-CanStand front at spelling x = could_stand front at (spelling x) ≡ true
+-- the words and the symbols, in the order in which they are told
+unfoldable pub told_keywords : List Keyword
+told_keywords =
+    keyword.Input ∷ keyword.Output ∷ keyword.Const ∷ keyword.Fn ∷ keyword.Let ∷ keyword.Rec ∷ keyword.For ∷ keyword.Return ∷ keyword.By ∷ keyword.Within ∷ keyword.Cat ∷ []
 
--- what is told could stand there; of names and numbers one is tried, and the text could end there
+unfoldable pub told_symbols : List Symbol
+told_symbols =
+    symbol.Semi ∷ symbol.Comma ∷ symbol.Colon ∷ symbol.Assign ∷ symbol.OpenRound ∷ symbol.CloseRound ∷ symbol.OpenSquare ∷ symbol.CloseSquare ∷ symbol.OpenCurly ∷ symbol.CloseCurly
+    ∷ symbol.Dots ∷ symbol.At ∷ symbol.Ask ∷ symbol.Tilde ∷ symbol.Plus ∷ symbol.Minus ∷ symbol.Star ∷ symbol.Slash ∷ symbol.Percent ∷ symbol.Amp ∷ symbol.Bar ∷ symbol.Caret
+    ∷ symbol.ShiftLeft ∷ symbol.ShiftRight ∷ symbol.Equal ∷ symbol.NotEqual ∷ symbol.Less ∷ symbol.LessEqual ∷ symbol.Greater ∷ symbol.GreaterEqual ∷ []
+
+-- what is spelled so could stand there
+unfoldable pub can_stand : {X : Type 0} → List ℕ → ℕ → (X → List ℕ) → X → Bool
+can_stand front at spelling x = could_stand front at (spelling x)
+
+-- what is told is what could stand there; of names and numbers one is tried, and the text could end there
 pub record IsExpected (front : List ℕ) (at : ℕ) (expected : Expected) : Type 0 where
   pub name : expected.name ≡ could_stand front at (codes "name")
   pub number : expected.number ≡ could_stand front at (codes "1")
   pub end : expected.end ≡ is_good (refusal_of front)
-  pub keywords : All (CanStand front at keyword_text) expected.keywords.items
-  pub symbols : All (CanStand front at symbol_text) expected.symbols.items
+  pub keywords : expected.keywords.items ≡ filter (can_stand front at keyword_text) told_keywords
+  pub symbols : expected.symbols.items ≡ filter (can_stand front at symbol_text) told_symbols

@@ -11,8 +11,8 @@ use Rattle.pr_lens_items.specs.Cuts.{IsCutOff}
 use Rattle.pr_lens_find.specs.declared.fronts.Part.{Part}
 use Rattle.pr_lens_find.specs.declared.fronts.Seen.{Seen}
 use Rattle.pr_lens_find.specs.declared.fronts.Seen.TheVariants.{Kept, Broken, TooLong}
-use Rattle.pr_lens_find.specs.declared.sources.Span.{Span}
-use Rattle.pr_lens_find.specs.Tokens.{front_text}
+use Rattle.pr_lens_source.specs.declared.sources.Span.{Span}
+use Rattle.pr_lens_source.specs.Tokens.{front_text}
 use Rattle.pr_lens_find.specs.Turns.{IsItemWith}
 
 -- what is said of a program

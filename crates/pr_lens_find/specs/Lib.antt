@@ -1,10 +1,6 @@
-pub mod Depths
 pub mod Expected
 pub mod Fronts
 pub mod Made
-pub mod Names
 pub mod Offences
-pub mod Spans
-pub mod Tokens
 pub mod Turns
 pub mod Widths

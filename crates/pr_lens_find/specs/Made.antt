@@ -14,10 +14,10 @@ use Rattle.pr_compile_front.specs.Refusals.{IsRead}
 use Rattle.pr_lens_items.specs.declared.cuts.Cut.{Cut}
 use Rattle.pr_lens_find.specs.declared.equations.Made.{Made}
 use Rattle.pr_lens_find.specs.declared.equations.Made.TheVariants as made
-use Rattle.pr_lens_find.specs.declared.sources.Span.{Span}
+use Rattle.pr_lens_source.specs.declared.sources.Span.{Span}
 use Rattle.pr_lens_find.specs.Fronts.{Spot, IsUnread, WithCut, front_in}
-use Rattle.pr_lens_find.specs.Spans.{StandsIn}
-use Rattle.pr_lens_find.specs.Tokens.{front_text}
+use Rattle.pr_lens_source.specs.Spans.{StandsIn}
+use Rattle.pr_lens_source.specs.Tokens.{front_text}
 use Rattle.pr_lens_find.specs.Turns.{IsItemWith}
 
 abbrev pub is_input : Item → Bool

@@ -7,13 +7,13 @@ use Rattle.pr_flat.specs.declared.flat.Flat.{Flat}
 use Rattle.pr_flat.specs.Flats.{equations_of}
 use Rattle.pr_flat.specs.Shape.{EquationShape}
 use Rattle.pr_flat.specs.Widths.{AreWidths, IsFirstWithout}
-use Rattle.pr_lens_find.specs.declared.sources.Span.{Span}
+use Rattle.pr_lens_source.specs.declared.sources.Span.{Span}
 use Rattle.pr_lens_find.specs.declared.widths.Extent.{Extent}
 use Rattle.pr_lens_find.specs.declared.widths.Missing.{Missing}
 use Rattle.pr_lens_find.specs.Fronts.{Spot, IsUnread, WithCut, front_in}
 use Rattle.pr_lens_find.specs.Made.{HasFlat, HasMore, IsUnlawful, IsManyWith, values_cut}
 use Rattle.pr_lens_find.specs.Offences.{IsItemOf, values_in}
-use Rattle.pr_lens_find.specs.Spans.{StandsIn}
+use Rattle.pr_lens_source.specs.Spans.{StandsIn}
 
 -- these equations have widths
 pub record HaveWidths (equations : List EquationShape) : Type 0 where

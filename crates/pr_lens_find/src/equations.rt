@@ -1,18 +1,18 @@
 //! The equations of programs that end earlier.
 
 ghost use Rattle.std.specs.Prelude.{◌<◌, ◌≤◌, length, min, IfOk, IsFalse, IsTrue};
-ghost use Rattle.pr_lens_find.specs.Tokens.{front_text};
+ghost use Rattle.pr_lens_source.specs.Tokens.{front_text};
 ghost use Rattle.pr_lens_find.specs.Fronts.{spot_of};
 ghost use Rattle.pr_lens_find.specs.Made.{IsMadeOf, IsMade, IsMadeIn, IsMadeCut, HasMoreIn, HasNoMoreIn, IsManyWith, values_cut};
 
 use crate::counts::short;
 use crate::fronts::{Part, cut_front, front_of, with_ends};
 use crate::halves::{Question, item_with};
-use crate::sources::Source;
 use pr_expand::{ExpandFault, expand};
 use pr_flat::Flat;
 use pr_lang::Program;
 use pr_lens_items::Cut;
+use pr_lens_source::Source;
 use pr_scope::{ScopeFault, Scoped, check};
 use std::alloc::{AllocError, Global};
 

@@ -1,65 +1,75 @@
 //! What could have stood in the place of a wrong token.
 
-ghost use Rattle.std.specs.Prelude.{◌≡◌, ◌≤◌, length, IfOk, OnOk, All};
+ghost use Rattle.std.specs.Prelude.{◌≡◌, ◌≤◌, ◌++◌, ◌∷◌, [], filter, length, if◌then◌else◌, IfOk, OnOk};
 ghost use Rattle.pr_lang.specs.Spelling.{keyword_text, symbol_text};
 ghost use Rattle.pr_lang.specs.Syntax.{refusal_of};
-ghost use Rattle.pr_lens_find.specs.Tokens.{text_before};
-ghost use Rattle.pr_lens_find.specs.Expected.{is_taken, is_good, with_token, could_stand, CanStand, IsExpected};
+ghost use Rattle.pr_lens_source.specs.Tokens.{text_before};
+ghost use Rattle.pr_lens_find.specs.Expected.{is_taken, is_good, with_token, can_stand, could_stand, told_keywords, told_symbols, IsExpected};
 
-use crate::sources::Source;
 use pr_base::Cap;
 use pr_lang::{Keyword, Symbol};
+use pr_lens_source::Source;
 use pr_parse::{ParseFault, parse, tokens};
 use std::alloc::{AllocError, Global};
 
 /// The words, in the order in which they are told.
-const KEYWORDS: [Keyword; 11] = [
-    Keyword::Input,
-    Keyword::Output,
-    Keyword::Const,
-    Keyword::Fn,
-    Keyword::Let,
-    Keyword::Rec,
-    Keyword::For,
-    Keyword::Return,
-    Keyword::By,
-    Keyword::Within,
-    Keyword::Cat,
-];
+#[tactic(auto, unfolding(crate::specs::Expected::told_keywords))]
+fn told_keywords() -> [Keyword; 11]
+    ensures { result ≡ told_keywords }
+{
+    [
+        Keyword::Input,
+        Keyword::Output,
+        Keyword::Const,
+        Keyword::Fn,
+        Keyword::Let,
+        Keyword::Rec,
+        Keyword::For,
+        Keyword::Return,
+        Keyword::By,
+        Keyword::Within,
+        Keyword::Cat,
+    ]
+}
 
 /// The symbols, in the order in which they are told.
-const SYMBOLS: [Symbol; 30] = [
-    Symbol::Semi,
-    Symbol::Comma,
-    Symbol::Colon,
-    Symbol::Assign,
-    Symbol::OpenRound,
-    Symbol::CloseRound,
-    Symbol::OpenSquare,
-    Symbol::CloseSquare,
-    Symbol::OpenCurly,
-    Symbol::CloseCurly,
-    Symbol::Dots,
-    Symbol::At,
-    Symbol::Ask,
-    Symbol::Tilde,
-    Symbol::Plus,
-    Symbol::Minus,
-    Symbol::Star,
-    Symbol::Slash,
-    Symbol::Percent,
-    Symbol::Amp,
-    Symbol::Bar,
-    Symbol::Caret,
-    Symbol::ShiftLeft,
-    Symbol::ShiftRight,
-    Symbol::Equal,
-    Symbol::NotEqual,
-    Symbol::Less,
-    Symbol::LessEqual,
-    Symbol::Greater,
-    Symbol::GreaterEqual,
-];
+#[tactic(auto, unfolding(crate::specs::Expected::told_symbols))]
+fn told_symbols() -> [Symbol; 30]
+    ensures { result ≡ told_symbols }
+{
+    [
+        Symbol::Semi,
+        Symbol::Comma,
+        Symbol::Colon,
+        Symbol::Assign,
+        Symbol::OpenRound,
+        Symbol::CloseRound,
+        Symbol::OpenSquare,
+        Symbol::CloseSquare,
+        Symbol::OpenCurly,
+        Symbol::CloseCurly,
+        Symbol::Dots,
+        Symbol::At,
+        Symbol::Ask,
+        Symbol::Tilde,
+        Symbol::Plus,
+        Symbol::Minus,
+        Symbol::Star,
+        Symbol::Slash,
+        Symbol::Percent,
+        Symbol::Amp,
+        Symbol::Bar,
+        Symbol::Caret,
+        Symbol::ShiftLeft,
+        Symbol::ShiftRight,
+        Symbol::Equal,
+        Symbol::NotEqual,
+        Symbol::Less,
+        Symbol::LessEqual,
+        Symbol::Greater,
+        Symbol::GreaterEqual,
+    ]
+}
 
 /// What could stand at a place.
 #[derive(Drop)]
@@ -117,9 +127,8 @@ fn add_keyword(
     keyword: Keyword,
     all: &mut Vec<Keyword>,
 ) -> Result<(), AllocError>
-    ensures { let front = text_before source.now.text.now source.now.tokens.now at in
-        All (CanStand front at keyword_text) all.old.items →
-        OnOk result (All (CanStand front at keyword_text) all.new.items) }
+    ensures { let front = text_before source.now.text.now source.now.tokens.now at in OnOk result
+        (all.new.items ≡ all.old.items ++ (if can_stand front at keyword_text keyword then keyword ∷ [] else [])) }
 {
     if !could_stand(alloc, source, at, keyword.as_str().as_bytes())? {
         return Ok(());
@@ -128,15 +137,29 @@ fn add_keyword(
     Ok(())
 }
 
-fn keywords_at(alloc: Global, source: &Source, at: usize) -> Result<Vec<Keyword>, AllocError>
+/// Those of these words that could stand there.
+fn keywords_among(
+    alloc: Global,
+    source: &Source,
+    at: usize,
+    keywords: &[Keyword],
+) -> Result<Vec<Keyword>, AllocError>
     ensures { let front = text_before source.now.text.now source.now.tokens.now at in
-        IfOk result (λ all. All (CanStand front at keyword_text) all.items) }
+        IfOk result (λ all. all.items ≡ filter (can_stand front at keyword_text) keywords.now) }
 {
     let mut all = Vec::new(alloc);
-    for keyword in KEYWORDS {
-        add_keyword(alloc, source, at, keyword, &mut all)?;
+    for keyword in keywords {
+        add_keyword(alloc, source, at, *keyword, &mut all)?;
     }
     Ok(all)
+}
+
+fn keywords_at(alloc: Global, source: &Source, at: usize) -> Result<Vec<Keyword>, AllocError>
+    ensures { let front = text_before source.now.text.now source.now.tokens.now at in
+        IfOk result (λ all. all.items ≡ filter (can_stand front at keyword_text) told_keywords) }
+{
+    let keywords = told_keywords();
+    keywords_among(alloc, source, at, &keywords)
 }
 
 /// Adds a symbol where it could stand.
@@ -147,9 +170,8 @@ fn add_symbol(
     symbol: Symbol,
     all: &mut Vec<Symbol>,
 ) -> Result<(), AllocError>
-    ensures { let front = text_before source.now.text.now source.now.tokens.now at in
-        All (CanStand front at symbol_text) all.old.items →
-        OnOk result (All (CanStand front at symbol_text) all.new.items) }
+    ensures { let front = text_before source.now.text.now source.now.tokens.now at in OnOk result
+        (all.new.items ≡ all.old.items ++ (if can_stand front at symbol_text symbol then symbol ∷ [] else [])) }
 {
     if !could_stand(alloc, source, at, symbol.as_str().as_bytes())? {
         return Ok(());
@@ -158,15 +180,29 @@ fn add_symbol(
     Ok(())
 }
 
-fn symbols_at(alloc: Global, source: &Source, at: usize) -> Result<Vec<Symbol>, AllocError>
+/// Those of these symbols that could stand there.
+fn symbols_among(
+    alloc: Global,
+    source: &Source,
+    at: usize,
+    symbols: &[Symbol],
+) -> Result<Vec<Symbol>, AllocError>
     ensures { let front = text_before source.now.text.now source.now.tokens.now at in
-        IfOk result (λ all. All (CanStand front at symbol_text) all.items) }
+        IfOk result (λ all. all.items ≡ filter (can_stand front at symbol_text) symbols.now) }
 {
     let mut all = Vec::new(alloc);
-    for symbol in SYMBOLS {
-        add_symbol(alloc, source, at, symbol, &mut all)?;
+    for symbol in symbols {
+        add_symbol(alloc, source, at, *symbol, &mut all)?;
     }
     Ok(all)
+}
+
+fn symbols_at(alloc: Global, source: &Source, at: usize) -> Result<Vec<Symbol>, AllocError>
+    ensures { let front = text_before source.now.text.now source.now.tokens.now at in
+        IfOk result (λ all. all.items ≡ filter (can_stand front at symbol_text) told_symbols) }
+{
+    let symbols = told_symbols();
+    symbols_among(alloc, source, at, &symbols)
 }
 
 /// Whether the text could end before a token.

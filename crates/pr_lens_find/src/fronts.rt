@@ -1,16 +1,16 @@
 //! Programs that end earlier.
 
-ghost use Rattle.std.specs.Prelude.{◌≡◌, ◌≤◌, length, IfOk, IfNone, IfSome};
+ghost use Rattle.std.specs.Prelude.{◌≡◌, ◌≤◌, length, IfOk, IfNone, IfSome, MatchOption};
 ghost use Rattle.std.specs.List.{list_any};
 ghost use Rattle.pr_compile_front.specs.Refusals.{IsRead};
-ghost use Rattle.pr_lens_find.specs.Tokens.{front_text};
+ghost use Rattle.pr_lens_source.specs.Tokens.{front_text};
 ghost use Rattle.pr_lens_find.specs.Fronts.{IsSeen, IsUnread, IsCutFront, front_in, spot_of};
-ghost use Rattle.pr_lens_find.specs.Offences.{IsItemOf};
+ghost use Rattle.pr_lens_find.specs.Offences.{HasNoItem, IsItemOf};
 ghost use Rattle.pr_lens_find.specs.Made.{is_input, is_output, with_input, with_output, with_ends};
 
-use crate::sources::Source;
 use pr_lang::{Expr, Item, Name, Program};
 use pr_lens_items::{Cut, cut_item};
+use pr_lens_source::Source;
 use pr_parse::{ParseFault, parse, tokens};
 use pr_scope::{ScopeFault, check};
 use std::alloc::{AllocError, Global};
@@ -44,8 +44,9 @@ pub fn front_of(alloc: Global, source: &Source, item: usize) -> Result<Option<Pr
 /// The tree of an item.
 pub fn item_of(alloc: Global, source: &Source, item: usize) -> Result<Option<Item>, AllocError>
     requires { length source.now.text.now ≤ 1048576 }
-    ensures { IfOk result (λ found.
-        IfSome found (IsItemOf source.now.text.now source.now.tokens.now source.now.spans.now item)) }
+    ensures { let source = source.now in IfOk result (λ found. MatchOption found
+        (HasNoItem source.text.now source.tokens.now source.spans.now item)
+        (IsItemOf source.text.now source.tokens.now source.spans.now item)) }
 {
     match front_of(alloc, source, item.saturating_add(1))? {
         None => Ok(None),

@@ -10,17 +10,13 @@ mod equations;
 mod expected;
 mod fronts;
 mod halves;
-mod introduced;
 mod offences;
-mod sources;
 mod walks;
 mod widths;
 
 pub use equations::equations_item;
 pub use expected::{Expected, expected_at};
 pub use halves::{Question, item_with};
-pub use introduced::introduced_before;
 pub use offences::find_offence;
-pub use sources::{Source, Span, depth_after, spans_of};
 pub use walks::turns_item;
 pub use widths::{Extent, Missing, find_missing};

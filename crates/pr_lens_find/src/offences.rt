@@ -1,18 +1,17 @@
 //! Broken rules of scope.
 
-ghost use Rattle.std.specs.Prelude.{◌≡◌, ◌≤◌, ◌↔◌, length, IfOk, IfSome, IsFalse, IsTrue};
+ghost use Rattle.std.specs.Prelude.{◌≡◌, ◌≤◌, ◌↔◌, [], length, IfNone, IfOk, IfSome, IsFalse, IsTrue, MatchOption};
 ghost use Rattle.pr_lens_find.specs.Fronts.{spot_of};
-ghost use Rattle.pr_lens_find.specs.Spans.{StandsIn};
-ghost use Rattle.pr_lens_find.specs.Offences.{IsAmong, IsWrongWidth, StandsBefore, IsAgain, Breaks, BreaksNot, Turns, IsValue, IsFirstFrame, IsOfFrame, IsOfItem, IsOfTree, IsFoundIn, IsTold, cut_by};
+ghost use Rattle.pr_lens_source.specs.Spans.{StandsIn};
+ghost use Rattle.pr_lens_find.specs.Offences.{IsAmong, IsWrongWidth, HasNoWrong, StandsBefore, IsAgain, Breaks, BreaksNot, TurnsUpTo, TurnsNot, IsValue, IsFirstFrame, HasNoFrame, IsOfFrame, HasNoneOfFrame, IsOfItem, HasNoneAt, HasNoneOfItem, IsOfTree, HasNoneOfTree, IsFoundIn, IsNowhere, IsTold, cut_by, is_again};
 ghost use Rattle.pr_lens_items.specs.Steps.{entry_of, entries_of};
 
 use crate::counts::{numbered, short};
 use crate::fronts::{Part, Seen, cut_front, item_of, see};
 use crate::halves::{Question, turn_above, turn_between};
-use crate::introduced::introduced_before;
-use crate::sources::Source;
 use pr_lang::{Item, Kind};
 use pr_lens_items::{Cut, Frame, Points, points_of};
+use pr_lens_source::{Source, introduced_before};
 use std::alloc::{AllocError, Global};
 
 /// A rule that is broken by an item.
@@ -107,7 +106,8 @@ fn first_count(
     most: usize,
 ) -> Result<Option<usize>, AllocError>
     requires { length broken.now.part.source.text.now ≤ 1048576 }
-    ensures { IfOk result (λ found. IfSome found (Turns (spot_of broken.now.part) broken.now.rule by)) }
+    ensures { let spot = spot_of broken.now.part in IfOk result (λ found.
+        MatchOption found (TurnsNot spot broken.now.rule by most) (TurnsUpTo spot broken.now.rule by most)) }
 {
     let search = Search {
         broken: *broken,
@@ -119,7 +119,8 @@ fn first_count(
 /// The number of the first frame with which the rule is broken, whatever the item's expressions are.
 fn first_frame(alloc: Global, broken: &Broken, most: usize) -> Result<Option<usize>, AllocError>
     requires { length broken.now.part.source.text.now ≤ 1048576 }
-    ensures { IfOk result (λ found. IfSome found (IsFirstFrame (spot_of broken.now.part) broken.now.rule)) }
+    ensures { let spot = spot_of broken.now.part in IfOk result (λ found.
+        MatchOption found (HasNoFrame spot broken.now.rule most) (IsFirstFrame spot broken.now.rule)) }
 {
     let search = Search {
         broken: *broken,
@@ -133,7 +134,8 @@ fn first_frame(alloc: Global, broken: &Broken, most: usize) -> Result<Option<usi
 
 /// Whether a token is a width that is none.
 fn is_wrong_width(source: &Source, token: u32) -> bool
-    ensures { IsTrue result → IsWrongWidth source.now.tokens.now token }
+    ensures wrong { IsTrue result → IsWrongWidth source.now.tokens.now token }
+    ensures right { IsFalse result → IsWrongWidth source.now.tokens.now token → ⊥ }
 {
     match source.kind(token as usize) {
         Kind::Number(bits) => {
@@ -149,6 +151,7 @@ fn is_wrong_width(source: &Source, token: u32) -> bool
 fn wrong_width(source: &Source, widths: &[u32]) -> Option<usize>
     ensures among { IfSome result (IsAmong widths.now) }
     ensures wrong { IfSome result (IsWrongWidth source.now.tokens.now) }
+    ensures none { IfNone result (HasNoWrong source.now.tokens.now widths.now) }
 {
     for token in widths {
         if is_wrong_width(source, *token) {
@@ -160,7 +163,8 @@ fn wrong_width(source: &Source, widths: &[u32]) -> Option<usize>
 
 /// Whether a name was introduced before.
 fn is_again(source: &Source, token: u32) -> bool
-    ensures { IsTrue result → StandsBefore source.now.text.now source.now.tokens.now token }
+    ensures value { result ≡ is_again source.now.text.now source.now.tokens.now source.now.spans.now token }
+    ensures before { IsTrue result → StandsBefore source.now.text.now source.now.tokens.now token }
 {
     match introduced_before(source, token as usize) {
         None => {
@@ -174,7 +178,8 @@ fn is_again(source: &Source, token: u32) -> bool
 
 /// The name that was introduced before, or else the first.
 fn name_again(source: &Source, names: &[u32]) -> Option<usize>
-    ensures { IfSome result (IsAgain source.now.text.now source.now.tokens.now names.now) }
+    ensures { MatchOption result (names.now ≡ [])
+        (IsAgain source.now.text.now source.now.tokens.now source.now.spans.now names.now) }
 {
     for token in names {
         if is_again(source, *token) {
@@ -192,8 +197,9 @@ fn in_fixeds(
     number: usize,
 ) -> Result<Option<usize>, AllocError>
     requires { length broken.now.part.source.text.now ≤ 1048576 }
-    ensures { IfOk result (λ found. IfSome found
-        (IsOfFrame (spot_of broken.now.part) broken.now.rule number (entry_of frame.now))) }
+    ensures { let spot = spot_of broken.now.part in let entry = entry_of frame.now in IfOk result (λ found.
+        MatchOption found (HasNoneOfFrame spot broken.now.rule number entry)
+        (IsOfFrame spot broken.now.rule number entry)) }
 {
     let most = frame.fixeds.len();
     match first_count(alloc, broken, By::Fixeds(number), most)? {
@@ -210,8 +216,9 @@ fn in_frame(
     number: usize,
 ) -> Result<Option<usize>, AllocError>
     requires { length broken.now.part.source.text.now ≤ 1048576 }
-    ensures { IfOk result (λ found. IfSome found
-        (IsOfFrame (spot_of broken.now.part) broken.now.rule number (entry_of frame.now))) }
+    ensures { let spot = spot_of broken.now.part in let entry = entry_of frame.now in IfOk result (λ found.
+        MatchOption found (HasNoneOfFrame spot broken.now.rule number entry)
+        (IsOfFrame spot broken.now.rule number entry)) }
 {
     match broken.rule {
         1 => {
@@ -237,8 +244,9 @@ fn in_values(
     frames: usize,
 ) -> Result<Option<usize>, AllocError>
     requires { length broken.now.part.source.text.now ≤ 1048576 }
-    ensures { IfOk result (λ found. IfSome found
-        (IsValue (spot_of broken.now.part) broken.now.rule frames points.now.values.items)) }
+    ensures { let spot = spot_of broken.now.part in IfOk result (λ found.
+        MatchOption found (TurnsNot spot broken.now.rule (By.Values frames) (length points.now.values.items))
+        (IsValue spot broken.now.rule frames points.now.values.items)) }
 {
     let most = points.values.len();
     match first_count(alloc, broken, By::Values(frames), most)? {
@@ -256,8 +264,9 @@ fn in_numbered(
 ) -> Result<Option<usize>, AllocError>
     requires short { length broken.now.part.source.text.now ≤ 1048576 }
     requires first { IsFirstFrame (spot_of broken.now.part) broken.now.rule number }
-    ensures { IfOk result (λ found. IfSome found (IsOfItem (spot_of broken.now.part) broken.now.rule
-        points.now.values.items (entries_of points.now.frames.items))) }
+    ensures { let spot = spot_of broken.now.part in let frames = entries_of points.now.frames.items in
+        IfOk result (λ found. MatchOption found (HasNoneAt spot broken.now.rule frames number)
+        (IsOfItem spot broken.now.rule points.now.values.items frames)) }
 {
     match points.frames.get(number.saturating_sub(1)) {
         None => {
@@ -279,8 +288,10 @@ fn among_frames(
 ) -> Result<Option<usize>, AllocError>
     requires short { length broken.now.part.source.text.now ≤ 1048576 }
     requires first { IsFirstFrame (spot_of broken.now.part) broken.now.rule number }
-    ensures { IfOk result (λ found. IfSome found (IsOfItem (spot_of broken.now.part) broken.now.rule
-        points.now.values.items (entries_of points.now.frames.items))) }
+    ensures { let spot = spot_of broken.now.part in let frames = entries_of points.now.frames.items in
+        IfOk result (λ found.
+        MatchOption found (HasNoneOfItem spot broken.now.rule points.now.values.items frames)
+        (IsOfItem spot broken.now.rule points.now.values.items frames)) }
 {
     if number <= 1 {
         return in_numbered(alloc, broken, points, number);
@@ -302,8 +313,10 @@ fn in_all_frames(
     points: &Points,
 ) -> Result<Option<usize>, AllocError>
     requires { length broken.now.part.source.text.now ≤ 1048576 }
-    ensures { IfOk result (λ found. IfSome found (IsOfItem (spot_of broken.now.part) broken.now.rule
-        points.now.values.items (entries_of points.now.frames.items))) }
+    ensures { let spot = spot_of broken.now.part in let values = points.now.values.items in
+        IfOk result (λ found. MatchOption found
+        (TurnsNot spot broken.now.rule (By.Values 18446744073709551615) (length values))
+        (IsOfItem spot broken.now.rule values (entries_of points.now.frames.items))) }
 {
     in_values(alloc, broken, points, usize::MAX)
 }
@@ -314,8 +327,10 @@ fn among_points(
     points: &Points,
 ) -> Result<Option<usize>, AllocError>
     requires { length broken.now.part.source.text.now ≤ 1048576 }
-    ensures { IfOk result (λ found. IfSome found (IsOfItem (spot_of broken.now.part) broken.now.rule
-        points.now.values.items (entries_of points.now.frames.items))) }
+    ensures { let spot = spot_of broken.now.part in let frames = entries_of points.now.frames.items in
+        IfOk result (λ found.
+        MatchOption found (HasNoneOfItem spot broken.now.rule points.now.values.items frames)
+        (IsOfItem spot broken.now.rule points.now.values.items frames)) }
 {
     match first_frame(alloc, broken, points.frames.len())? {
         None => {
@@ -330,7 +345,8 @@ fn among_points(
 /// The token at which an item breaks the rule.
 fn token_of(alloc: Global, broken: &Broken) -> Result<Option<usize>, AllocError>
     requires { length broken.now.part.source.text.now ≤ 1048576 }
-    ensures { IfOk result (λ found. IfSome found (IsOfTree (spot_of broken.now.part) broken.now.rule)) }
+    ensures { let spot = spot_of broken.now.part in IfOk result (λ found.
+        MatchOption found (HasNoneOfTree spot broken.now.rule) (IsOfTree spot broken.now.rule)) }
 {
     let first = short(broken.part.source.first(broken.part.number));
     let points = points_of(alloc, first, broken.part.item)?;
@@ -345,8 +361,9 @@ fn offending(
     number: usize,
 ) -> Result<Option<usize>, AllocError>
     requires { length source.now.text.now ≤ 1048576 }
-    ensures { IfOk result (λ o.
-        IfSome o (IsFoundIn source.now.text.now source.now.tokens.now source.now.spans.now rule number)) }
+    ensures { let source = source.now in IfOk result (λ found. MatchOption found
+        (IsNowhere source.text.now source.tokens.now source.spans.now rule number)
+        (IsFoundIn source.text.now source.tokens.now source.spans.now rule number)) }
 {
     if number >= source.spans.len() {
         return Ok(None);
@@ -362,7 +379,8 @@ fn offending(
     token_of(alloc, &Broken { rule, part })
 }
 
-/// The token at which an item breaks a rule of scope; the item's first token where none is found.
+/// The token at which an item breaks a rule of scope; the item's first token where none is found, or where what is found
+/// stands outside the item.
 ///
 /// What is found is a point behind which the item, cut off there, breaks the rule, and cut off before it does not; of a
 /// frame, that is a statement without its expressions, also a name or a width. Where the item breaks the rule at several

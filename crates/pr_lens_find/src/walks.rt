@@ -3,12 +3,12 @@
 ghost use Rattle.std.specs.Prelude.{◌<◌, ◌≤◌, length, IfOk, IsFalse, IsTrue};
 ghost use Rattle.pr_scope.specs.Walk.{too_long};
 ghost use Rattle.pr_compile_front.specs.Refusals.{HasOffence};
-ghost use Rattle.pr_lens_find.specs.Tokens.{front_text};
+ghost use Rattle.pr_lens_source.specs.Tokens.{front_text};
 ghost use Rattle.pr_lens_find.specs.Fronts.{IsNotLong, IsLongWith};
 
 use crate::fronts::{Seen, front_of, see};
 use crate::halves::{Question, item_with};
-use crate::sources::Source;
+use pr_lens_source::Source;
 use std::alloc::{AllocError, Global};
 
 /// Whether the walk over the items before this one is too long.

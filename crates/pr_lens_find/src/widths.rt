@@ -6,17 +6,17 @@ ghost use Rattle.pr_flat.specs.Shape.{equation_shape};
 ghost use Rattle.pr_flat.specs.Widths.{IsFirstWithout};
 ghost use Rattle.pr_lens_find.specs.Widths.{HaveWidths, IsEquation, IsUnknown, IsToldOf, LacksWidth, LacksNone, LacksFirst, IsToldCut, IsToldOfSpot, IsToldIn};
 ghost use Rattle.pr_lens_find.specs.Fronts.{spot_of};
-ghost use Rattle.pr_lens_find.specs.Spans.{StandsIn};
+ghost use Rattle.pr_lens_source.specs.Spans.{StandsIn};
 ghost use Rattle.pr_lens_find.specs.Made.{IsMadeAt};
 
 use crate::counts::{numbered, short};
 use crate::equations::{Made, equations_item, made_with};
 use crate::fronts::{Part, item_of};
 use crate::halves::{Question, turn_between};
-use crate::sources::Source;
 use pr_base::bits_of;
 use pr_flat::{Equation, Flat, Op, Operand};
 use pr_lens_items::points_of;
+use pr_lens_source::Source;
 use pr_width::{WidthFault, Widths, solve};
 use std::alloc::{AllocError, Global};
 

@@ -1,8 +1,8 @@
 -- How many the items before one have together.
-use Rattle.std.proofs.Common.{◌≡◌, ◌∙◌, ◌+◌, ◌-◌, ◌^◌, ℕ, ◌++◌, ◌∷◌, [], List, map, min, sum_by, refl, sym, ap, arith}
+use Rattle.std.proofs.Common.{◌≡◌, ◌∙◌, ◌+◌, ◌-◌, ◌^◌, ◌<◌, ◌≤◌, ℕ, ◌++◌, ◌∷◌, [], List, map, min, sum_by, refl, sym, ap, subst, arith}
 use Rattle.std.specs.List.{range_with_len}
 use Rattle.std.proofs.lemmas.List.FromFn.{sum_by-map-range_with_len_more}
-use Rattle.pr_lens_fits.specs.Ends.{together}
+use Rattle.pr_lens_fits.specs.Ends.{PassesWith, together}
 
 map-same : (ns : List ℕ) → map (λ n. n) ns ≡ ns
 map-same [] = refl
@@ -22,3 +22,10 @@ together_more each item before one sum is_before is_one is_sum =
   where
     capped : (a b c before one sum most : ℕ) → before ≡ min a most → one ≡ b → sum ≡ min (before + one) most → c ≡ a + b → sum ≡ min c most
     capped a b c before one sum most e f g h = omega (arith, e, f, g, h)
+
+-- an item with which they are more
+pub passes_here : (each : ℕ → ℕ) (most items item before one sum : ℕ) → item < items → before ≡ together each item → before ≤ most → one ≡ each item → sum ≡ min (before + one) (2 ^ 64 - 1) → most < sum
+    → PassesWith each most items item
+passes_here each most items item before one sum less is few is_one is_sum more =
+    let all = together_more each item before one sum is is_one is_sum in
+    record { within = omega arith; few = subst (λ (n : ℕ). n ≤ most) is few; many = λ _. subst (λ (n : ℕ). most < n) all more }

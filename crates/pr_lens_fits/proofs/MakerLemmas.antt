@@ -7,7 +7,7 @@ use Rattle.pr_flat.specs.Widths.{operand_forms, operand_width}
 use Rattle.pr_cut_units.specs.Counts.{body_count, one_where}
 use Rattle.pr_cut_units.specs.Equations.{plan_of}
 use Rattle.pr_cut_units.specs.Flats.{flat_plan}
-use Rattle.pr_lens_find.specs.declared.sources.Span.{Span}
+use Rattle.pr_lens_source.specs.declared.sources.Span.{Span}
 use Rattle.pr_lens_find.specs.Made.{IsManyWith}
 use Rattle.pr_lens_fits.specs.Makers.{IsMaker, HasMaker}
 use Rattle.pr_lens_fits.specs.Unfits.{IsReadyOf}

@@ -7,8 +7,8 @@ use Rattle.pr_lang.specs.declared.tokens.Keyword.TheVariants.{Input, Output}
 use Rattle.pr_lang.specs.declared.tokens.Kind.{Kind}
 use Rattle.pr_lang.specs.declared.tokens.Kind.TheVariants.{Number, Word}
 use Rattle.pr_lang.specs.declared.tokens.Token.{Token}
-use Rattle.pr_lens_find.specs.declared.sources.Span.{Span}
-use Rattle.pr_lens_find.specs.Tokens.{kind_of, first_of}
+use Rattle.pr_lens_source.specs.declared.sources.Span.{Span}
+use Rattle.pr_lens_source.specs.Tokens.{kind_of, first_of}
 
 -- an item begins with this word
 abbrev pub BeginsWith : Keyword → List Token → List Span → ℕ → Type 0

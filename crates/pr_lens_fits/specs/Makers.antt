@@ -6,7 +6,7 @@ use Rattle.pr_cut_units.specs.Equations.{Plan, plan_of, first_unit}
 use Rattle.pr_expand_spec.specs.Programs.{equations_of}
 use Rattle.pr_compile_front.specs.Refusals.{HasWidths}
 use Rattle.pr_compile.specs.Configured.{OfReadyBy}
-use Rattle.pr_lens_find.specs.declared.sources.Span.{Span}
+use Rattle.pr_lens_source.specs.declared.sources.Span.{Span}
 use Rattle.pr_lens_find.specs.Made.{IsManyWith}
 
 -- an output can be reached from this equation, and its first unit is not behind this one

@@ -6,8 +6,8 @@ use Rattle.pr_lang.specs.declared.trees.Program.{Program}
 use Rattle.pr_cut_units.specs.Nets.{limit_passed}
 use Rattle.pr_compile_front.specs.Refusals.{HasWidths}
 use Rattle.pr_compile.specs.Configured.{OfReadyBy, net_by}
-use Rattle.pr_lens_find.specs.declared.sources.Span.{Span}
-use Rattle.pr_lens_find.specs.Tokens.{front_text}
+use Rattle.pr_lens_source.specs.declared.sources.Span.{Span}
+use Rattle.pr_lens_source.specs.Tokens.{front_text}
 use Rattle.pr_lens_find.specs.Turns.{IsItemWith}
 use Rattle.pr_lens_fits.specs.Unfits.{HasRefusal, PassesLimit}
 

@@ -5,7 +5,7 @@ ghost use Rattle.pr_lang.specs.declared.tokens.Keyword.TheVariants.{Input, Outpu
 ghost use Rattle.pr_lens_fits.specs.Ends.{BeginsWith, PassesWith, input_bytes, output_count, width_bytes};
 
 use pr_lang::{Keyword, Kind};
-use pr_lens_find::Source;
+use pr_lens_source::Source;
 
 /// The bytes of a width; 0 for another token.
 fn width_bytes(kind: Kind) -> usize

@@ -1,11 +1,11 @@
 //! Texts that end earlier, with what their last item assigns as an output.
 
 ghost use Rattle.std.specs.Prelude.{IfOk, All};
-ghost use Rattle.pr_lens_find.specs.Tokens.{front_text};
+ghost use Rattle.pr_lens_source.specs.Tokens.{front_text};
 ghost use Rattle.pr_lens_fits.specs.Targets.{IsShort, IsPart, IsWithOutput};
 
 use pr_lang::{Keyword, Kind, Symbol};
-use pr_lens_find::Source;
+use pr_lens_source::Source;
 use std::alloc::{AllocError, Global};
 
 /// The bytes of the longest token of a text.

@@ -9,7 +9,8 @@ use crate::ready::ready;
 use crate::targets::with_output;
 use pr_base::Cap;
 use pr_cut_plan::{CutFault, plan_of};
-use pr_lens_find::{Question, Source, item_with};
+use pr_lens_find::{Question, item_with};
+use pr_lens_source::Source;
 use std::alloc::{AllocError, Global};
 
 /// Whether a limit is that of units.

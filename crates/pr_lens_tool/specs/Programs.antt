@@ -13,7 +13,8 @@ use Rattle.pr_tool_modes.specs.Programs.{IsNotCompiled, compile_answer}
 use Rattle.pr_tool.specs.declared.notes.Bounds.{Bounds}
 use Rattle.pr_tool.specs.Notes.{note_of}
 use Rattle.pr_lens_why.specs.declared.explaining.Explanation.{Explanation}
-use Rattle.pr_lens_why.specs.Verdicts.{HasConfiguration, IsExplained}
+use Rattle.pr_lens_why.specs.Messages.{HasConfiguration}
+use Rattle.pr_lens_why.specs.Verdicts.{IsExplained}
 use Rattle.pr_lens_cost.specs.declared.amounts.Cost.{Cost as ProgramCost}
 use Rattle.pr_lens_cost.specs.declared.tables.Savings.{Savings}
 use Rattle.pr_lens_cost.specs.Costs.{IsCost}

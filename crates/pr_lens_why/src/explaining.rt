@@ -7,7 +7,7 @@ ghost use Rattle.pr_lens_why.specs.Verdicts.{IsVerdict, IsExplained, IsPointing}
 
 use crate::telling::tell;
 use pr_compile::{CompileFault, compile_counted};
-use pr_lens_find::{Source, spans_of};
+use pr_lens_source::{Source, spans_of};
 use pr_parse::tokens;
 use std::alloc::{AllocError, Global};
 
@@ -39,6 +39,7 @@ fn pointing(source: &Source, token: usize, fault: CompileFault, message: Vec<u8>
     ensures fault { result.fault ≡ fault }
     ensures token { result.token ≡ min token (length (tokens_of source.now.text.now)) }
     ensures place { IsPointing source.now.text.now result }
+    ensures message { result.message.items ≡ message.items }
 {
     let token = token.min(source.tokens.len());
     let start = source.start(token);

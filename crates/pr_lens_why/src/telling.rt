@@ -1,16 +1,36 @@
 //! What is told of a refusal, and at which token.
 
-ghost use Rattle.std.specs.Prelude.{◌≤◌, true, length, IfOk, OnOk, IsTrue};
-ghost use Rattle.pr_lens_why.specs.Verdicts.{HasConfiguration, TellsOf, PointsRight};
+ghost use Rattle.std.specs.Prelude.{◌≡◌, ◌≤◌, ◌++◌, false, length, IfOk, IsFalse, IsTrue, OnOk};
+ghost use Rattle.pr_compile.specs.Refusals.{IsCompileAnswer};
+ghost use Rattle.pr_lens_why.specs.Limits.{limit_text};
+ghost use Rattle.pr_lens_why.specs.Messages.{HasConfiguration, HasRefusal, Tells, TellsFit, TellsHelp, TellsNarrow, TellsRule, TellsWide, TellsWidth};
+ghost use Rattle.pr_lens_why.specs.Verdicts.{PointsRight};
 
-use crate::{fits, limits, rules, syntax, widths};
+use crate::{fits, limits, syntax, widths};
 use pr_base::Cap;
 use pr_compile::{CompileFault, compile_counted};
-use pr_lens_find::{Source, equations_item, find_missing, find_offence, turns_item};
+use pr_lens_find::{equations_item, find_missing, find_offence, turns_item};
 use pr_lens_fits::{find_unfit, input_item, output_item, units_item};
+use pr_lens_source::Source;
 use pr_lens_text::put;
 use pr_parse_lex::first_deep;
 use std::alloc::{AllocError, Global};
+
+/// That the program of a text does not fit, as this answer says; want of memory is none.
+fn not_fitting<const N: usize, const P: usize>(
+    text: &[u8],
+    narrowed: bool,
+    fault: CompileFault,
+) -> Result<bool, AllocError>
+    requires { IsCompileAnswer N P narrowed text.now fault }
+    ensures value { IfOk result (λ fits. fits ≡ false) }
+    ensures refused { IfOk result (λ _. HasRefusal N P narrowed text.now) }
+{
+    match fault {
+        CompileFault::Memory(error) => Err(error),
+        _ => Ok(false),
+    }
+}
 
 /// Whether the program of a text fits on N columns and P registers, with narrowed equations or without.
 fn fits_on<const N: usize, const P: usize>(
@@ -23,12 +43,12 @@ fn fits_on<const N: usize, const P: usize>(
     requires most_columns { N ≤ 64 }
     requires registers { 2 ≤ P }
     requires most_registers { P ≤ 16 }
-    ensures { IfOk result (λ fits. IsTrue fits → HasConfiguration N P narrowed text.now) }
+    ensures fits { IfOk result (λ fits. IsTrue fits → HasConfiguration N P narrowed text.now) }
+    ensures refused { IfOk result (λ fits. IsFalse fits → HasRefusal N P narrowed text.now) }
 {
     match compile_counted::<N, P>(alloc, text, narrowed) {
         Ok(_compiled) => Ok(true),
-        Err(CompileFault::Memory(error)) => Err(error),
-        Err(_) => Ok(false),
+        Err(fault) => not_fitting::<N, P>(text, narrowed, fault),
     }
 }
 
@@ -44,12 +64,15 @@ fn tell_narrow<const N: usize, const P: usize>(
     requires most_columns { N ≤ 64 }
     requires registers { 2 ≤ P }
     requires most_registers { P ≤ 16 }
-    ensures { OnOk result (TellsOf N P true text.now message.old.items message.new.items) }
+    ensures { OnOk result (TellsNarrow N P narrowed text.now message.old.items message.new.items) }
 {
-    if !narrowed && fits_on::<N, P>(alloc, text, true)? {
-        return put(message, "With `--narrow` the program fits.\n");
+    if narrowed {
+        return Ok(());
     }
-    Ok(())
+    if !fits_on::<N, P>(alloc, text, true)? {
+        return Ok(());
+    }
+    put(message, "With `--narrow` the program fits.\n")
 }
 
 /// Tells that the program fits on the wide fabric, where it does and this one has fewer columns.
@@ -61,12 +84,15 @@ fn tell_wide(
     columns: usize,
 ) -> Result<(), AllocError>
     requires { length text.now ≤ 1048576 }
-    ensures { OnOk result (TellsOf 32 16 narrowed text.now message.old.items message.new.items) }
+    ensures { OnOk result (TellsWide columns narrowed text.now message.old.items message.new.items) }
 {
-    if columns < 32 && fits_on::<32, 16>(alloc, text, narrowed)? {
-        return put(message, "On `--fabric wide` the program fits.\n");
+    if columns >= 32 {
+        return Ok(());
     }
-    Ok(())
+    if !fits_on::<32, 16>(alloc, text, narrowed)? {
+        return Ok(());
+    }
+    put(message, "On `--fabric wide` the program fits.\n")
 }
 
 /// The token at which a quantity passes its limit.
@@ -102,12 +128,35 @@ fn tell_fit<const N: usize, const P: usize>(
     requires most_columns { N ≤ 64 }
     requires registers { 2 ≤ P }
     requires most_registers { P ≤ 16 }
+    ensures { OnOk result (TellsFit N P narrowed source.now.text.now unit message.old.items message.new.items) }
 {
     let unfit = find_unfit(alloc, source, narrowed, N, unit)?;
     fits::tell(message, &unfit, N, P)?;
     tell_narrow::<N, P>(alloc, message, source.text, narrowed)?;
     tell_wide(alloc, message, source.text, narrowed, N)?;
     Ok(source.first(unfit.item))
+}
+
+/// Tells what helps where a limit is passed.
+fn tell_help<const N: usize, const P: usize>(
+    alloc: Global,
+    message: &mut Vec<u8>,
+    text: &[u8],
+    narrowed: bool,
+    cap: Cap,
+) -> Result<(), AllocError>
+    requires short { length text.now ≤ 1048576 }
+    requires columns { 1 ≤ N }
+    requires most_columns { N ≤ 64 }
+    requires registers { 2 ≤ P }
+    requires most_registers { P ≤ 16 }
+    ensures { OnOk result (TellsHelp N P narrowed text.now cap message.old.items message.new.items) }
+{
+    match cap {
+        Cap::Units => tell_narrow::<N, P>(alloc, message, text, narrowed),
+        Cap::InputBytes => tell_wide(alloc, message, text, narrowed, N),
+        _ => Ok(()),
+    }
 }
 
 /// Tells which limit is passed, and what helps; the token to look at.
@@ -123,13 +172,11 @@ fn tell_limit<const N: usize, const P: usize>(
     requires most_columns { N ≤ 64 }
     requires registers { 2 ≤ P }
     requires most_registers { P ≤ 16 }
+    ensures { OnOk result (TellsHelp N P narrowed source.now.text.now cap
+        (message.old.items ++ limit_text cap) message.new.items) }
 {
     limits::tell(message, cap)?;
-    match cap {
-        Cap::Units => tell_narrow::<N, P>(alloc, message, source.text, narrowed)?,
-        Cap::InputBytes => tell_wide(alloc, message, source.text, narrowed, N)?,
-        _ => {}
-    }
+    tell_help::<N, P>(alloc, message, source.text, narrowed, cap)?;
     limit_token(alloc, source, narrowed, N, cap)
 }
 
@@ -142,9 +189,12 @@ fn tell_scope(
     item: usize,
 ) -> Result<usize, AllocError>
     requires { length source.now.text.now ≤ 1048576 }
+    ensures { IfOk result (λ token.
+        TellsRule source.now.text.now source.now.tokens.now source.now.spans.now rule item token
+        message.old.items message.new.items) }
 {
     let token = find_offence(alloc, source, rule, item)?;
-    rules::tell(message, source, rule, token)?;
+    pr_lens_rules::tell(message, source, rule, token)?;
     Ok(token)
 }
 
@@ -156,6 +206,9 @@ fn tell_width(
     equation: usize,
 ) -> Result<usize, AllocError>
     requires { length source.now.text.now ≤ 1048576 }
+    ensures { IfOk result (λ token.
+        TellsWidth source.now.text.now source.now.tokens.now source.now.spans.now equation token
+        message.old.items message.new.items) }
 {
     let missing = find_missing(alloc, source, equation)?;
     widths::tell(message, &missing)?;
@@ -176,6 +229,9 @@ pub fn tell<const N: usize, const P: usize>(
     requires registers { 2 ≤ P }
     requires most_registers { P ≤ 16 }
     ensures token { IfOk result (PointsRight fault.now) }
+    ensures tells { IfOk result (λ token.
+        Tells N P narrowed source.now.text.now source.now.tokens.now source.now.spans.now fault.now token
+        message.old.items message.new.items) }
 {
     match fault {
         CompileFault::Syntax { token } => {

@@ -1,6 +1,6 @@
 use Rattle.std.proofs.Common.{inl}
 use Rattle.std.proofs.lemmas.Result.{IfOk-weaker}
-use Rattle.pr_lens_find.specs.Tokens.{front_text}
+use Rattle.pr_lens_source.specs.Tokens.{front_text}
 use Rattle.pr_lens_find.proofs.MadeLemmas.{made_in}
 use Rattle.pr_lens_find.proofs.equations.made_before.Goals as goal
 

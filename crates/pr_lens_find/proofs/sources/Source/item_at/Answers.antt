@@ -1,5 +1,0 @@
-use Rattle.pr_lens_find.proofs.SpanLemmas.{item_at}
-use Rattle.pr_lens_find.proofs.sources.Source.item_at.Goals as goal
-
-pub returns : goal.returns
-returns c = rw c.unwrap_or.ensures (item_at c.args.self.now.spans.now c.args.token c.first_ending.result c.first_ending.ensures)

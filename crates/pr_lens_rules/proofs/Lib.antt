@@ -1,0 +1,4 @@
+pub mod BracketLemmas
+pub mod InstanceLemmas
+pub mod PieceLemmas
+pub mod PlaceLemmas

@@ -1,0 +1,147 @@
+-- What is told of names that are introduced again, used before they are assigned, or stand for something else.
+use Rattle.std.specs.Prelude.{ℕ, ◌+◌, ◌-◌, ◌==◌, ◌&&◌, Bool, true, false, not, List, ◌++◌, Option, None, Some, codes, nat_eq, option_map, if◌then◌else◌}
+use Rattle.std.specs.Cmp.Lexicographic.{pointwise}
+use Rattle.pr_lang.specs.declared.tokens.Keyword.TheVariants as keyword
+use Rattle.pr_lang.specs.declared.tokens.Kind.{Kind}
+use Rattle.pr_lang.specs.declared.tokens.Kind.TheVariants.{Word, Mark}
+use Rattle.pr_lang.specs.declared.tokens.Symbol.TheVariants.{OpenRound, At}
+use Rattle.pr_lang.specs.declared.tokens.Token.{Token}
+use Rattle.pr_lens_source.specs.declared.sources.Span.{Span}
+use Rattle.pr_lens_source.specs.Introduced.{is_fn}
+use Rattle.pr_lens_source.specs.Spans.{item_of}
+use Rattle.pr_lens_source.specs.Tokens.{kind_of, bytes_of, first_of}
+use Rattle.pr_lens_rules.specs.declared.names.Introduction.{Introduction}
+use Rattle.pr_lens_rules.specs.declared.names.Sort.{Sort}
+use Rattle.pr_lens_rules.specs.declared.names.Sort.TheVariants.{Constant, Table, Function, Index, Stream, Parameter}
+use Rattle.pr_lens_rules.specs.Brackets.{square_around}
+use Rattle.pr_lens_rules.specs.Instances.{first_turn_text, instance_text, is_assigned_at, is_same_instance, is_target, target_around}
+use Rattle.pr_lens_rules.specs.Names.{introduction_of, introduction_text}
+use Rattle.pr_lens_rules.specs.Pieces.{token_text}
+
+-- ---- introduced again
+abbrev pub apart_text : Bool → List ℕ
+apart_text true = codes "Give one of the two another name, or tell them apart by an index.\n"
+apart_text false = codes "Give one of the two another name.\n"
+
+-- a function of that name is there from the beginning, or it is in every turn of a loop
+abbrev pub alone_text : Bool → List ℕ
+alone_text true = codes "`signed` is a function that is there from the beginning: choose another name.\n"
+alone_text false = codes "It is so in every turn of the loop around it: tell the instances apart by the loop's index, as in `a[i]`.\n"
+
+abbrev pub is_signed : List ℕ → List Token → ℕ → Bool
+is_signed text tokens token = pointwise nat_eq (bytes_of text tokens token) (codes "signed")
+
+abbrev pub again_behind : List ℕ → List Token → ℕ → Option Introduction → List ℕ
+again_behind text tokens token None = alone_text (is_signed text tokens token)
+again_behind text tokens token (Some introduction) =
+    introduction_text text tokens token introduction ++ apart_text (is_assigned_at tokens introduction.token && is_assigned_at tokens token)
+
+unfoldable pub again_text : List ℕ → List Token → List Span → ℕ → List ℕ
+again_text text tokens spans token =
+    instance_text text tokens token ++ codes " is introduced a second time.\n" ++ again_behind text tokens token (introduction_of text tokens spans token)
+
+-- ---- used before it is assigned
+-- the target of a statement is used in it: what to do, by the word before the target
+abbrev pub own_text : Kind → List ℕ
+own_text (Word keyword.Rec) = codes "In the body of its recurrence it is what earlier samples made of it: write `@1` behind it for the sample before.\n"
+own_text (Word keyword.Let) = codes "A `let` does not see itself: for feedback write a `rec`, as in `rec s:8 = 0 by s@1 + x`.\n"
+own_text _ = codes "An `output` does not see itself: for feedback write a `rec` before it, as in `rec s:8 = 0 by s@1 + x`.\n"
+
+-- a token stands in a function, and another one in another item
+unfoldable pub is_outside : List Token → List Span → ℕ → ℕ → Bool
+is_outside tokens spans earlier token =
+    not (item_of spans earlier == item_of spans token) && is_fn (kind_of tokens (first_of tokens spans (item_of spans token)))
+
+abbrev pub outside_text : Bool → List ℕ
+outside_text true = codes "A function sees no stream from outside: pass it as a parameter.\n"
+outside_text false = codes "This instance of it is not assigned there: with another index, or without one, it is another stream.\n"
+
+unfoldable pub other_text : List ℕ → List Token → List Span → ℕ → Introduction → List ℕ
+other_text text tokens spans token introduction =
+    introduction_text text tokens token introduction ++ outside_text (is_outside tokens spans introduction.token token)
+
+unfoldable pub assign_text : List ℕ
+assign_text = codes "Assign it in an item before this one, or see whether another name is meant.\n"
+
+-- where it is introduced, but by the target of its own statement
+abbrev pub unassigned_by : List ℕ → List Token → List Span → ℕ → Option ℕ → Option Introduction → List ℕ
+unassigned_by text tokens spans token target None = assign_text
+unassigned_by text tokens spans token target (Some introduction) =
+    if is_target target introduction.token then assign_text else other_text text tokens spans token introduction
+
+unfoldable pub unassigned_text : List ℕ → List Token → List Span → ℕ → Option ℕ → List ℕ
+unassigned_text text tokens spans token target = unassigned_by text tokens spans token target (introduction_of text tokens spans token)
+
+abbrev pub early_behind : List ℕ → List Token → List Span → ℕ → Option ℕ → List ℕ
+early_behind text tokens spans token None = unassigned_text text tokens spans token None
+early_behind text tokens spans token (Some own) =
+    if is_same_instance text tokens own token then own_text (kind_of tokens (own - 1)) else unassigned_text text tokens spans token (Some own)
+
+unfoldable pub early_text : List ℕ → List Token → List Span → ℕ → List ℕ
+early_text text tokens spans token =
+    instance_text text tokens token
+    ++ codes " is used before it is assigned"
+    ++ first_turn_text text tokens spans token (target_around tokens token)
+    ++ codes ".\n"
+    ++ early_behind text tokens spans token (target_around tokens token)
+
+-- ---- of another kind
+abbrev pub is_table_sort : Sort → Bool
+is_table_sort Table = true
+is_table_sort _ = false
+
+abbrev pub is_table : Option Introduction → Bool
+is_table None = false
+is_table (Some introduction) = is_table_sort introduction.sort
+
+abbrev pub is_index_of_table : List ℕ → List Token → List Span → Option ℕ → Bool
+is_index_of_table text tokens spans None = false
+is_index_of_table text tokens spans (Some square) = is_table (introduction_of text tokens spans (square - 1))
+
+-- a token stands in the index behind the name of a table
+unfoldable pub is_table_index : List ℕ → List Token → List Span → ℕ → Bool
+is_table_index text tokens spans token = is_index_of_table text tokens spans (square_around tokens token)
+
+-- how a name is called
+unfoldable pub called_text : Option Sort → List ℕ
+called_text None = codes "It is called, but no function of that name is visible here.\n"
+called_text (Some Function) = codes "A function does not see itself: write a loop in its place.\n"
+called_text (Some sort) = codes "It is called, and only a function can be.\n"
+
+abbrev pub stream_text : Bool → List ℕ
+stream_text true = codes "The index of a table is a constant: where a stream is to choose, write a tree of choices on its bits, as in `k{0..0} ? 7 : 3`.\n"
+stream_text false = codes "Delays, places of bits, bounds of loops, tables and indices are built from numbers, constants, entries of tables and indices alone.\n"
+
+-- how it is used, in the index of a table or not
+unfoldable pub usage_text : Bool → Option Sort → List ℕ
+usage_text in_table None = codes "It is to be a constant, a table, an index or a function, and none of that name is visible here.\n"
+usage_text in_table (Some Table) = codes "A table has an index behind it, as in `c[0]`.\n"
+usage_text in_table (Some Function) = codes "A function is called, with its arguments in brackets.\n"
+usage_text in_table (Some Constant) = codes "A constant or an index has no index behind it.\n"
+usage_text in_table (Some Index) = codes "A constant or an index has no index behind it.\n"
+usage_text in_table (Some Stream) = stream_text in_table
+usage_text in_table (Some Parameter) = stream_text in_table
+
+unfoldable pub earlier_text : List ℕ
+earlier_text = codes "Only a stream has earlier samples, so only a stream stands before `@`.\n"
+
+-- by the token behind it
+unfoldable pub usage_before : Kind → Bool → Option Sort → List ℕ
+usage_before (Mark OpenRound) in_table sort = called_text sort
+usage_before (Mark At) in_table sort = earlier_text
+usage_before _ in_table sort = usage_text in_table sort
+
+unfoldable pub unknown_text : List ℕ → List Token → ℕ → List ℕ
+unknown_text text tokens token = token_text text tokens token ++ codes " is not introduced before.\n"
+
+abbrev pub known_text : List ℕ → List Token → ℕ → Option Introduction → List ℕ
+known_text text tokens token None = unknown_text text tokens token
+known_text text tokens token (Some introduction) = introduction_text text tokens token introduction
+
+abbrev pub sort_in : Option Introduction → Option Sort
+sort_in introduced = option_map (λ (i : Introduction). i.sort) introduced
+
+unfoldable pub another_kind_text : List ℕ → List Token → List Span → ℕ → List ℕ
+another_kind_text text tokens spans token =
+    known_text text tokens token (introduction_of text tokens spans token)
+    ++ usage_before (kind_of tokens (token + 1)) (is_table_index text tokens spans token) (sort_in (introduction_of text tokens spans token))

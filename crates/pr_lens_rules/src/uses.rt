@@ -1,0 +1,361 @@
+//! Names that are introduced again, used before they are assigned, or stand for something else.
+
+ghost use Rattle.std.specs.Prelude.{◌≡◌, ◌++◌, OnOk};
+ghost use Rattle.pr_lens_source.specs.Introduced.{is_fn};
+ghost use Rattle.pr_lens_rules.specs.Uses.{again_behind, again_text, alone_text, another_kind_text, apart_text, assign_text, called_text, earlier_text, early_behind, early_text, is_outside, is_signed, is_table_index, is_table_sort, known_text, other_text, outside_text, own_text, sort_in, stream_text, unassigned_by, unassigned_text, unknown_text, usage_before, usage_text};
+
+use crate::brackets::{kind_behind, square_around};
+use crate::instances::{
+    is_assigned_at, is_same_instance, is_target, put_first_turn, put_instance, target_around,
+};
+use crate::names::{Introduction, Sort, introduction_of, put_introduction};
+use crate::pieces::put_quoted;
+use pr_lang::{Keyword, Kind, Symbol};
+use pr_lens_source::Source;
+use pr_lens_text::put;
+use std::alloc::AllocError;
+
+/// What to do about two names, which may have an index or not.
+fn apart_text(assigned: bool) -> &'static str
+    ensures { result.now ≡ apart_text assigned }
+{
+    if assigned {
+        "Give one of the two another name, or tell them apart by an index.\n"
+    } else {
+        "Give one of the two another name.\n"
+    }
+}
+
+/// What to do about a name that has no introduction before.
+fn alone_text(signed: bool) -> &'static str
+    ensures { result.now ≡ alone_text signed }
+{
+    if signed {
+        "`signed` is a function that is there from the beginning: choose another name.\n"
+    } else {
+        "It is so in every turn of the loop around it: tell the instances apart by the loop's index, as in `a[i]`.\n"
+    }
+}
+
+/// Whether this is the name of the function that is there from the beginning.
+fn is_signed(source: &Source, token: usize) -> bool
+    ensures { result ≡ is_signed source.now.text.now source.now.tokens.now token }
+{
+    source.bytes(token) == b"signed".as_slice()
+}
+
+/// Tells where a name was introduced before, and what to do.
+fn put_again(
+    message: &mut Vec<u8>,
+    source: &Source,
+    token: usize,
+    introduced: Option<Introduction>,
+) -> Result<(), AllocError>
+    ensures { OnOk result (message.new.items
+        ≡ message.old.items ++ again_behind source.now.text.now source.now.tokens.now token introduced) }
+{
+    match introduced {
+        None => put(message, alone_text(is_signed(source, token))),
+        Some(introduction) => {
+            put_introduction(message, source, token, introduction)?;
+            let first = is_assigned_at(source, introduction.token);
+            let second = is_assigned_at(source, token);
+            put(message, apart_text(first && second))
+        }
+    }
+}
+
+/// Tells why a name cannot be introduced again.
+#[tactic(auto, unfolding(crate::specs::Uses::again_text))]
+pub fn introduced_again(
+    message: &mut Vec<u8>,
+    source: &Source,
+    token: usize,
+) -> Result<(), AllocError>
+    ensures { OnOk result (message.new.items ≡ message.old.items
+        ++ again_text source.now.text.now source.now.tokens.now source.now.spans.now token) }
+{
+    put_instance(message, source, token)?;
+    put(message, " is introduced a second time.\n")?;
+    put_again(message, source, token, introduction_of(source, token))
+}
+
+/// What to do where the target of a statement is used in it, by the word before the target.
+fn own_text(word: Kind) -> &'static str
+    ensures { result.now ≡ own_text word }
+{
+    match word {
+        Kind::Word(Keyword::Rec) =>
+            "In the body of its recurrence it is what earlier samples made of it: write `@1` behind it for the sample before.\n",
+        Kind::Word(Keyword::Let) =>
+            "A `let` does not see itself: for feedback write a `rec`, as in `rec s:8 = 0 by s@1 + x`.\n",
+        _ =>
+            "An `output` does not see itself: for feedback write a `rec` before it, as in `rec s:8 = 0 by s@1 + x`.\n",
+    }
+}
+
+/// Whether a function begins with this token.
+fn is_fn(kind: Kind) -> bool
+    ensures { result ≡ is_fn kind }
+{
+    matches!(kind, Kind::Word(Keyword::Fn))
+}
+
+/// Whether a token stands in a function, and another one before it outside.
+#[tactic(auto, unfolding(crate::specs::Uses::is_outside))]
+fn is_outside(source: &Source, earlier: usize, token: usize) -> bool
+    ensures { result ≡ is_outside source.now.tokens.now source.now.spans.now earlier token }
+{
+    let item = source.item_at(token);
+    source.item_at(earlier) != item && is_fn(source.kind(source.first(item)))
+}
+
+fn outside_text(outside: bool) -> &'static str
+    ensures { result.now ≡ outside_text outside }
+{
+    if outside {
+        "A function sees no stream from outside: pass it as a parameter.\n"
+    } else {
+        "This instance of it is not assigned there: with another index, or without one, it is another stream.\n"
+    }
+}
+
+/// Tells what to do about an instance of a name that is not assigned, where the name is introduced before.
+#[tactic(auto, unfolding(crate::specs::Uses::other_text))]
+fn tell_other(
+    message: &mut Vec<u8>,
+    source: &Source,
+    token: usize,
+    introduction: Introduction,
+) -> Result<(), AllocError>
+    ensures { OnOk result (message.new.items ≡ message.old.items
+        ++ other_text source.now.text.now source.now.tokens.now source.now.spans.now token introduction) }
+{
+    put_introduction(message, source, token, introduction)?;
+    let outside = is_outside(source, introduction.token, token);
+    put(message, outside_text(outside))
+}
+
+#[tactic(auto, unfolding(crate::specs::Uses::assign_text))]
+fn tell_assign(message: &mut Vec<u8>) -> Result<(), AllocError>
+    ensures { OnOk result (message.new.items ≡ message.old.items ++ assign_text) }
+{
+    put(
+        message,
+        "Assign it in an item before this one, or see whether another name is meant.\n",
+    )
+}
+
+/// Tells what to do about an instance that is not assigned, in a statement with this target.
+fn tell_by(
+    message: &mut Vec<u8>,
+    source: &Source,
+    token: usize,
+    target: Option<usize>,
+    introduced: Option<Introduction>,
+) -> Result<(), AllocError>
+    ensures { let source = source.now in OnOk result (message.new.items ≡ message.old.items
+        ++ unassigned_by source.text.now source.tokens.now source.spans.now token target introduced) }
+{
+    match introduced {
+        None => {
+            return tell_assign(message);
+        }
+        Some(introduction) => {
+            if is_target(target, introduction.token) {
+                return tell_assign(message);
+            }
+            return tell_other(message, source, token, introduction);
+        }
+    }
+}
+
+#[tactic(auto, unfolding(crate::specs::Uses::unassigned_text))]
+fn tell_unassigned(
+    message: &mut Vec<u8>,
+    source: &Source,
+    token: usize,
+    target: Option<usize>,
+) -> Result<(), AllocError>
+    ensures { let source = source.now in OnOk result (message.new.items ≡ message.old.items
+        ++ unassigned_text source.text.now source.tokens.now source.spans.now token target) }
+{
+    tell_by(
+        message,
+        source,
+        token,
+        target,
+        introduction_of(source, token),
+    )
+}
+
+/// Tells what to do about an instance that is used before it is assigned, in a statement with this target.
+fn tell_early(
+    message: &mut Vec<u8>,
+    source: &Source,
+    token: usize,
+    target: Option<usize>,
+) -> Result<(), AllocError>
+    ensures { let source = source.now in OnOk result (message.new.items ≡ message.old.items
+        ++ early_behind source.text.now source.tokens.now source.spans.now token target) }
+{
+    match target {
+        None => {
+            return tell_unassigned(message, source, token, None);
+        }
+        Some(own) => {
+            if is_same_instance(source, own, token) {
+                return put(message, own_text(source.kind(own.saturating_sub(1))));
+            }
+            return tell_unassigned(message, source, token, Some(own));
+        }
+    }
+}
+
+/// Tells why an instance of a name is not assigned where it is used, and what to do.
+#[tactic(auto, unfolding(crate::specs::Uses::early_text))]
+pub fn used_too_early(
+    message: &mut Vec<u8>,
+    source: &Source,
+    token: usize,
+) -> Result<(), AllocError>
+    ensures { OnOk result (message.new.items ≡ message.old.items
+        ++ early_text source.now.text.now source.now.tokens.now source.now.spans.now token) }
+{
+    let target = target_around(source, token);
+    put_instance(message, source, token)?;
+    put(message, " is used before it is assigned")?;
+    put_first_turn(message, source, token, target)?;
+    put(message, ".\n")?;
+    tell_early(message, source, token, target)
+}
+
+/// Whether this is a table.
+fn is_table_sort(sort: Sort) -> bool
+    ensures { result ≡ is_table_sort sort }
+{
+    matches!(sort, Sort::Table)
+}
+
+/// Whether a token stands in the index behind the name of a table.
+#[tactic(auto, unfolding(crate::specs::Uses::is_table_index))]
+fn is_table_index(source: &Source, token: usize) -> bool
+    ensures { result ≡ is_table_index source.now.text.now source.now.tokens.now source.now.spans.now token }
+{
+    let Some(square) = square_around(source, token) else {
+        return false;
+    };
+    match introduction_of(source, square.saturating_sub(1)) {
+        Some(introduction) => is_table_sort(introduction.sort),
+        None => false,
+    }
+}
+
+/// How a name of this sort is called.
+#[tactic(auto, unfolding(crate::specs::Uses::called_text))]
+fn called_text(sort: Option<Sort>) -> &'static str
+    ensures { result.now ≡ called_text sort }
+{
+    match sort {
+        None => "It is called, but no function of that name is visible here.\n",
+        Some(Sort::Function) => "A function does not see itself: write a loop in its place.\n",
+        Some(_) => "It is called, and only a function can be.\n",
+    }
+}
+
+fn stream_text(in_table: bool) -> &'static str
+    ensures { result.now ≡ stream_text in_table }
+{
+    if in_table {
+        "The index of a table is a constant: where a stream is to choose, write a tree of choices on its bits, as in `k{0..0} ? 7 : 3`.\n"
+    } else {
+        "Delays, places of bits, bounds of loops, tables and indices are built from numbers, constants, entries of tables and indices alone.\n"
+    }
+}
+
+/// How a name of this sort is used, in the index of a table or not.
+#[tactic(auto, unfolding(crate::specs::Uses::usage_text))]
+fn usage_text(in_table: bool, sort: Option<Sort>) -> &'static str
+    ensures { result.now ≡ usage_text in_table sort }
+{
+    match sort {
+        None =>
+            "It is to be a constant, a table, an index or a function, and none of that name is visible here.\n",
+        Some(Sort::Table) => "A table has an index behind it, as in `c[0]`.\n",
+        Some(Sort::Function) => "A function is called, with its arguments in brackets.\n",
+        Some(Sort::Constant) | Some(Sort::Index) =>
+            "A constant or an index has no index behind it.\n",
+        Some(Sort::Stream) | Some(Sort::Parameter) => stream_text(in_table),
+    }
+}
+
+#[tactic(auto, unfolding(crate::specs::Uses::earlier_text))]
+fn earlier_text() -> &'static str
+    ensures { result.now ≡ earlier_text }
+{
+    "Only a stream has earlier samples, so only a stream stands before `@`.\n"
+}
+
+/// How a name of this sort is used, by the token behind it.
+#[tactic(auto, unfolding(crate::specs::Uses::usage_before))]
+fn usage_before(behind: Kind, in_table: bool, sort: Option<Sort>) -> &'static str
+    ensures { result.now ≡ usage_before behind in_table sort }
+{
+    match behind {
+        Kind::Mark(Symbol::OpenRound) => called_text(sort),
+        Kind::Mark(Symbol::At) => earlier_text(),
+        _ => usage_text(in_table, sort),
+    }
+}
+
+/// Tells that a name is not introduced before.
+#[tactic(auto, unfolding(crate::specs::Uses::unknown_text))]
+fn tell_unknown(message: &mut Vec<u8>, source: &Source, token: usize) -> Result<(), AllocError>
+    ensures { OnOk result (message.new.items
+        ≡ message.old.items ++ unknown_text source.now.text.now source.now.tokens.now token) }
+{
+    put_quoted(message, source, token)?;
+    put(message, " is not introduced before.\n")
+}
+
+/// Tells where a name is introduced, or that it is not.
+fn tell_known(
+    message: &mut Vec<u8>,
+    source: &Source,
+    token: usize,
+    introduced: Option<Introduction>,
+) -> Result<(), AllocError>
+    ensures { OnOk result (message.new.items
+        ≡ message.old.items ++ known_text source.now.text.now source.now.tokens.now token introduced) }
+{
+    match introduced {
+        None => tell_unknown(message, source, token),
+        Some(introduction) => put_introduction(message, source, token, introduction),
+    }
+}
+
+fn sort_in(introduced: Option<Introduction>) -> Option<Sort>
+    ensures { result ≡ sort_in introduced }
+{
+    match introduced {
+        None => None,
+        Some(introduction) => Some(introduction.sort),
+    }
+}
+
+/// Tells how a name is used that is not visible or stands for something else.
+#[tactic(auto, unfolding(crate::specs::Uses::another_kind_text))]
+pub fn of_another_kind(
+    message: &mut Vec<u8>,
+    source: &Source,
+    token: usize,
+) -> Result<(), AllocError>
+    ensures { OnOk result (message.new.items ≡ message.old.items
+        ++ another_kind_text source.now.text.now source.now.tokens.now source.now.spans.now token) }
+{
+    let introduced = introduction_of(source, token);
+    tell_known(message, source, token, introduced)?;
+    let behind = kind_behind(source, token, 1);
+    let in_table = is_table_index(source, token);
+    put(message, usage_before(behind, in_table, sort_in(introduced)))
+}

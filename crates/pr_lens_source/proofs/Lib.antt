@@ -1,0 +1,4 @@
+pub mod IntroducedLemmas
+pub mod ItemLemmas
+pub mod RangeLemmas
+pub mod SpanLemmas

@@ -1,0 +1,7 @@
+pub mod Depths
+pub mod Introduced
+pub mod Items
+pub mod Names
+pub mod Ranges
+pub mod Spans
+pub mod Tokens

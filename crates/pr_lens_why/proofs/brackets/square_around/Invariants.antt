@@ -1,4 +1,0 @@
-use Rattle.pr_lens_why.proofs.brackets.square_around.Given as goal
-
-abbrev pub decreases-loop-at : goal.decreases-loop-at
-decreases-loop-at l = l.at
