@@ -1,4 +1,5 @@
 use Rattle.std.proofs.Common.{◌≡◌, ◌∙◌, ◌+◌, ◌-◌, List, false, map, drop, refl, sym, arith}
+use Rattle.std.proofs.lemmas.Result.{IfOk-from_err}
 use Rattle.pr_lang.specs.declared.trees.Stmt.{Stmt}
 use Rattle.pr_lang.specs.Shape.{stmt_shape}
 use Rattle.pr_lens_items.specs.Cuts.{is_out, statement, frames_of, values_of}
@@ -31,3 +32,18 @@ stmts-loop-step-preserved t c =
           omega (arith, before, now, values_more));
       last = passes.last_is ∙ held.last;
     }
+
+pub stmt-returns-in_err-index-in-For : goal.stmt-returns-in_err-index-in-For
+stmt-returns-in_err-index-in-For t c = let h = c.from_residual.ensures.0 in record { tree = IfOk-from_err _ _ h; passes = IfOk-from_err _ _ h }
+
+pub stmt-returns-in_err-low-in-For : goal.stmt-returns-in_err-low-in-For
+stmt-returns-in_err-low-in-For t c = let h = c.from_residual-in_err-low-in-For.ensures.0 in record { tree = IfOk-from_err _ _ h; passes = IfOk-from_err _ _ h }
+
+pub stmt-returns-in_err-body-in-For : goal.stmt-returns-in_err-body-in-For
+stmt-returns-in_err-body-in-For t c = let h = c.from_residual-in_err-body-in-For.ensures.0 in record { tree = IfOk-from_err _ _ h; passes = IfOk-from_err _ _ h }
+
+pub stmts-returns-in_err-stmt : goal.stmts-returns-in_err-stmt
+stmts-returns-in_err-stmt t c = let h = c.from_residual.ensures.0 in record { tree = IfOk-from_err _ _ h; passes = IfOk-from_err _ _ h }
+
+pub stmts-returns-in_err-push : goal.stmts-returns-in_err-push
+stmts-returns-in_err-push t c = let h = c.from_residual-in_err-push.ensures.0 in record { tree = IfOk-from_err _ _ h; passes = IfOk-from_err _ _ h }
