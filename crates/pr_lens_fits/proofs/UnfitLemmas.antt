@@ -1,5 +1,5 @@
 -- What is told of a group, and of which net.
-use Rattle.std.proofs.Common.{◌≡◌, ◌∙◌, ◌<◌, ◌+◌, ◌-◌, ◌^◌, ℕ, Bool, true, false, Some, List, length, min, take, get_or, sum_by, refl, sym, ap, subst, arith}
+use Rattle.std.proofs.Common.{◌≡◌, ◌∙◌, ◌<◌, ◌+◌, ◌-◌, ◌^◌, ℕ, Bool, true, false, Some, List, length, min, take, get_or, sum_by, refl, sym, ap, subst, inr, arith}
 use Rattle.std.specs.Prelude.{IsTrue, IsFalse}
 use Rattle.std.proofs.lemmas.List.{take_more}
 use Rattle.std.proofs.lemmas.List.Sums.{sum_by_push}
@@ -19,7 +19,7 @@ use Rattle.pr_compile_front.specs.Passed.{HasEquations}
 use Rattle.pr_compile.specs.Configured.{OfReadyBy, net_by}
 use Rattle.pr_compile.proofs.Ready.{whole_ready, narrowed_ready}
 use Rattle.pr_lens_fits.specs.declared.groups.Unfit.{Unfit}
-use Rattle.pr_lens_fits.specs.Unfits.{AreTold, IsReadyOf, IsUnfit, HasUnfit, PassesLimit, cell_count}
+use Rattle.pr_lens_fits.specs.Unfits.{AreTold, IsReadyOf, IsUnfit, HasUnfit, PassesLimit, IsNothing, cell_count}
 
 -- ---- cells
 pub count_more : (net : NetShape) (units : List ℕ) (i u d : ℕ) → i < length units → u ≡ get_or units i d
@@ -78,4 +78,13 @@ passes columns narrowed text flat widths which r is = record {
   given = r.given;
   has = r.has;
   are = of_net (λ net. limit_passed columns net ≡ Some which) narrowed r.program r.given flat widths r.are is;
+}
+
+pub nothing : (columns : ℕ) (narrowed : Bool) (text : List ℕ) (flat : Flat) (widths : List ℕ) (which : Cap) (found : Unfit) → IsReadyOf narrowed text flat widths → limit_passed columns (flat_net flat widths) ≡ Some which
+    → found.item ≡ 0 → found.columns ≡ 0 → found.kept ≡ 0 → IsNothing columns narrowed text found
+nothing columns narrowed text flat widths which found r is item columns_are kept = record {
+  item = item;
+  columns_are = columns_are;
+  kept = kept;
+  why = inr (which, passes columns narrowed text flat widths which r is);
 }

@@ -1,13 +1,17 @@
 -- Texts that end earlier, with an output more.
-use Rattle.std.specs.Prelude.{ℕ, ◌≡◌, ◌≢◌, ◌≤◌, ◌-◌, ◌<◌, ◌⊎◌, ◌++◌, [], Bool, Some, List, All, codes, length, replicate, slice_range}
+use Rattle.std.specs.Prelude.{ℕ, ◌≡◌, ◌≢◌, ◌≤◌, ◌+◌, ◌-◌, ◌^◌, ◌<◌, ◌⊎◌, ◌++◌, [], Bool, true, false, Some, List, All, codes, length, min, replicate, slice_range}
 use Rattle.pr_base.specs.declared.caps.Cap.{Cap}
+use Rattle.pr_lang.specs.declared.tokens.Keyword.TheVariants.{Let, Rec}
+use Rattle.pr_lang.specs.declared.tokens.Kind.{Kind}
+use Rattle.pr_lang.specs.declared.tokens.Kind.TheVariants.{End, Mark, Word}
+use Rattle.pr_lang.specs.declared.tokens.Symbol.TheVariants.{Assign, Colon}
 use Rattle.pr_lang.specs.declared.tokens.Token.{Token}
 use Rattle.pr_lang.specs.declared.trees.Program.{Program}
 use Rattle.pr_cut_units.specs.Nets.{limit_passed}
 use Rattle.pr_compile_front.specs.Refusals.{HasWidths}
 use Rattle.pr_compile.specs.Configured.{OfReadyBy, net_by}
 use Rattle.pr_lens_source.specs.declared.sources.Span.{Span}
-use Rattle.pr_lens_source.specs.Tokens.{front_text}
+use Rattle.pr_lens_source.specs.Tokens.{kind_of, start_of, first_of, front_text}
 use Rattle.pr_lens_find.specs.Turns.{IsItemWith}
 use Rattle.pr_lens_fits.specs.Unfits.{HasRefusal, PassesLimit}
 
@@ -15,26 +19,60 @@ use Rattle.pr_lens_fits.specs.Unfits.{HasRefusal, PassesLimit}
 abbrev pub IsShort : ℕ → Token → Type 0
 IsShort most token = token.end - token.start ≤ most
 
--- bytes of a text beside each other, or none
-pub record IsRange (text bytes : List ℕ) : Type 0 where
-  pub from : ℕ
-  pub to : ℕ
-  pub is : bytes ≡ slice_range text from to
+-- ---- targets
+-- an item that begins so has a target, which stands behind that token
+abbrev pub has_target : Kind → Bool
+has_target (Word Let) = true
+has_target (Word Rec) = true
+has_target _ = false
 
-abbrev pub IsPart : List ℕ → List ℕ → Type 0
-IsPart text bytes = (bytes ≡ []) ⊎ IsRange text bytes
+-- before such a token it ends
+abbrev pub ends_target : Kind → Bool
+ends_target (Mark Colon) = true
+ends_target (Mark Assign) = true
+ends_target End = true
+ends_target _ = false
 
--- an output behind a text, whose name is longer than each token of the whole, and whose expression is a part of the whole
-pub record HasOutput (text : List ℕ) (tokens : List Token) (front longer : List ℕ) : Type 0 where
+-- the first such token from another one on
+pub record IsTargetEnd (tokens : List Token) (first end : ℕ) : Type 0 where
+  pub behind : first ≤ end
+  pub ends : ends_target (kind_of tokens end) ≡ true
+  pub before : (k : ℕ) → first ≤ k → k < end → ends_target (kind_of tokens k) ≡ false
+
+-- the text of the target of an item that begins at a token
+pub record HasTarget (text : List ℕ) (tokens : List Token) (first : ℕ) (target : List ℕ) : Type 0 where
+  pub begins : has_target (kind_of tokens first) ≡ true
+  pub end : ℕ
+  pub ends : IsTargetEnd tokens first end
+  pub is : target ≡ slice_range text (start_of text tokens (min (first + 1) (2 ^ 64 - 1))) (start_of text tokens end)
+
+-- it has none
+pub record HasNoTarget (tokens : List Token) (first : ℕ) (target : List ℕ) : Type 0 where
+  pub begins : has_target (kind_of tokens first) ≡ false
+  pub none : target ≡ []
+
+abbrev pub IsTarget : List ℕ → List Token → ℕ → List ℕ → Type 0
+IsTarget text tokens first target = HasTarget text tokens first target ⊎ HasNoTarget tokens first target
+
+-- ---- so many items, with an output behind them
+-- its name is longer than each token of the whole, and its expression is the target of the last of them
+pub record HasOutput (text : List ℕ) (tokens : List Token) (spans : List Span) (items : ℕ) (longer : List ℕ) : Type 0 where
   pub letters : ℕ
   pub new : All (IsShort letters) tokens
   pub target : List ℕ
-  pub part : IsPart text target
-  pub is : longer ≡ ((((front ++ codes "\noutput ") ++ replicate letters 112) ++ codes "p = ") ++ target) ++ codes ";"
+  pub is_target : IsTarget text tokens (first_of tokens spans (items - 1)) target
+  pub some : 0 < length target
+  pub is : longer ≡ ((((front_text text tokens spans items ++ codes "\noutput ") ++ replicate letters 112) ++ codes "p = ") ++ target) ++ codes ";"
 
--- a text as it is, or with such an output behind it
-abbrev pub IsWithOutput : List ℕ → List Token → List ℕ → List ℕ → Type 0
-IsWithOutput text tokens front longer = (longer ≡ front) ⊎ HasOutput text tokens front longer
+-- the last of them has no target
+pub record HasNoOutput (text : List ℕ) (tokens : List Token) (spans : List Span) (items : ℕ) (longer : List ℕ) : Type 0 where
+  pub none : IsTarget text tokens (first_of tokens spans (items - 1)) []
+  pub is : longer ≡ front_text text tokens spans items
+
+abbrev pub IsWithOutput : List ℕ → List Token → List Span → ℕ → List ℕ → Type 0
+IsWithOutput text tokens spans items longer = HasNoOutput text tokens spans items longer ⊎ HasOutput text tokens spans items longer
+
+-- ---- units
 
 -- the net of its program does not have too many units
 pub record HasOtherNet (narrowed : Bool) (text : List ℕ) : Type 0 where
@@ -50,13 +88,13 @@ HasFewUnits narrowed text = (1048576 < length text) ⊎ (HasRefusal text ⊎ Has
 -- so many items have too many units, with what the last of them assigns as an output more
 pub record HasManyUnits (narrowed : Bool) (text : List ℕ) (tokens : List Token) (spans : List Span) (items : ℕ) : Type 0 where
   pub longer : List ℕ
-  pub output : IsWithOutput text tokens (front_text text tokens spans items) longer
+  pub output : IsWithOutput text tokens spans items longer
   pub many : PassesLimit 64 narrowed longer Cap.Units
 
 -- so many have not
 pub record HasFewUnitsBefore (narrowed : Bool) (text : List ℕ) (tokens : List Token) (spans : List Span) (items : ℕ) : Type 0 where
   pub longer : List ℕ
-  pub output : IsWithOutput text tokens (front_text text tokens spans items) longer
+  pub output : IsWithOutput text tokens spans items longer
   pub few : HasFewUnits narrowed longer
 
 -- the item with which they have too many units so

@@ -10,7 +10,7 @@ ghost use Rattle.pr_cut_units.specs.Flats.{flat_net, flat_plan};
 ghost use Rattle.pr_cut_units.specs.Nets.{limit_passed};
 ghost use Rattle.pr_cut_plan.specs.declared.faults.CutFault.{CutFault};
 ghost use Rattle.pr_lens_fits.specs.Makers.{HasMaker, IsMaker};
-ghost use Rattle.pr_lens_fits.specs.Unfits.{cell_count, ends_with, group_ending, IsUnfit, IsFound};
+ghost use Rattle.pr_lens_fits.specs.Unfits.{cell_count, ends_with, group_ending, IsUnfit, IsFound, IsNothing};
 
 use crate::kept::kept_before;
 use crate::makers::unit_equation;
@@ -115,7 +115,7 @@ pub fn find_unfit(
 ) -> Result<Unfit, AllocError>
     requires short { length source.now.text.now ≤ 1048576 }
     requires columns { (1 ≤ columns) × (columns ≤ 64) }
-    ensures item { IfOk result (λ found. (found.item ≡ 0) ⊎
+    ensures item { IfOk result (λ found. IsNothing columns narrowed source.now.text.now found ⊎
         HasMaker narrowed source.now.text.now source.now.tokens.now source.now.spans.now unit found.item) }
     ensures found { IfOk result (IsFound columns narrowed source.now.text.now unit) }
 {

@@ -1,8 +1,8 @@
 //! Texts that end earlier, with what their last item assigns as an output.
 
-ghost use Rattle.std.specs.Prelude.{IfOk, All};
-ghost use Rattle.pr_lens_source.specs.Tokens.{front_text};
-ghost use Rattle.pr_lens_fits.specs.Targets.{IsShort, IsPart, IsWithOutput};
+ghost use Rattle.std.specs.Prelude.{◌≡◌, IfOk, All};
+ghost use Rattle.pr_lens_source.specs.Tokens.{first_of};
+ghost use Rattle.pr_lens_fits.specs.Targets.{IsShort, IsTarget, IsTargetEnd, IsWithOutput, ends_target, has_target};
 
 use pr_lang::{Keyword, Kind, Symbol};
 use pr_lens_source::Source;
@@ -19,30 +19,45 @@ fn longest_token(source: &Source) -> usize
     longest
 }
 
-fn ends_target(kind: Kind) -> bool {
+/// Whether an item that begins with this token assigns a target: an assignment or a recurrence.
+fn has_target(kind: Kind) -> bool
+    ensures { result ≡ has_target kind }
+{
+    matches!(kind, Kind::Word(Keyword::Let) | Kind::Word(Keyword::Rec))
+}
+
+/// Whether a target ends before this token.
+fn ends_target(kind: Kind) -> bool
+    ensures { result ≡ ends_target kind }
+{
     matches!(
         kind,
         Kind::Mark(Symbol::Colon) | Kind::Mark(Symbol::Assign) | Kind::End
     )
 }
 
-/// The text of the target of an assignment or a recurrence; none of another item.
-fn target_of<'a>(source: &Source<'a>, item: usize) -> &'a [u8]
-    ensures { IsPart source.now.text.now result.now }
+/// The first token from this one on before which a target ends.
+fn target_end(source: &Source, first: usize) -> usize
+    ensures { IsTargetEnd source.now.tokens.now first result }
 {
-    let first = source.first(item);
-    if !matches!(
-        source.kind(first),
-        Kind::Word(Keyword::Let) | Kind::Word(Keyword::Rec)
-    ) {
-        return &[];
-    }
     let mut end = first;
     while end < source.tokens.len() && !ends_target(source.kind(end)) {
         end += 1;
     }
+    end
+}
+
+/// The text of the target of an assignment or a recurrence; none of another item.
+fn target_of<'a>(source: &Source<'a>, item: usize) -> &'a [u8]
+    ensures { let source = source.now in
+        IsTarget source.text.now source.tokens.now (first_of source.tokens.now source.spans.now item) result.now }
+{
+    let first = source.first(item);
+    if !has_target(source.kind(first)) {
+        return &[];
+    }
     let from = source.start(first.saturating_add(1));
-    let to = source.start(end);
+    let to = source.start(target_end(source, first));
     if from <= to {
         &source.text[from..to]
     } else {
@@ -53,8 +68,8 @@ fn target_of<'a>(source: &Source<'a>, item: usize) -> &'a [u8]
 /// The text of so many items, with what the last of them assigns as an output more, under a name that is longer than
 /// each token.
 pub fn with_output(alloc: Global, source: &Source, items: usize) -> Result<Vec<u8>, AllocError>
-    ensures { let front = front_text source.now.text.now source.now.tokens.now source.now.spans.now items in
-        IfOk result (λ whole. IsWithOutput source.now.text.now source.now.tokens.now front whole.items) }
+    ensures { let source = source.now in IfOk result (λ whole.
+        IsWithOutput source.text.now source.tokens.now source.spans.now items whole.items) }
 {
     let mut text = Vec::new(alloc);
     text.extend_from_slice(source.front(items))?;

@@ -1,5 +1,6 @@
 pub mod Limits
 pub mod Messages
+pub mod Places
 pub mod Syntax
 pub mod Verdicts
 pub mod Widths

@@ -1,5 +1,5 @@
 -- What is told of a refusal, added to a message.
-use Rattle.std.specs.Prelude.{ℕ, ◌≡◌, ◌<◌, ◌≤◌, Bool, true, false, List, ◌++◌, codes, ⊤}
+use Rattle.std.specs.Prelude.{ℕ, ◌≡◌, ◌⊎◌, ◌<◌, ◌≤◌, Bool, true, false, List, ◌++◌, codes, ⊤}
 use Rattle.pr_base.specs.declared.caps.Cap.{Cap}
 use Rattle.pr_base.specs.declared.caps.Cap.TheVariants.{InputBytes, Units}
 use Rattle.pr_conf.specs.Shape.{Shape}
@@ -14,11 +14,13 @@ use Rattle.pr_lens_find.specs.Expected.{IsExpected}
 use Rattle.pr_lens_find.specs.Offences.{IsTold}
 use Rattle.pr_lens_find.specs.Widths.{IsToldIn}
 use Rattle.pr_lens_fits.specs.declared.groups.Unfit.{Unfit}
-use Rattle.pr_lens_fits.specs.Unfits.{IsFound}
+use Rattle.pr_lens_fits.specs.Makers.{HasMaker}
+use Rattle.pr_lens_fits.specs.Unfits.{IsFound, IsNothing}
 use Rattle.pr_lens_rules.specs.Rules.{offence_text}
 use Rattle.pr_lens_source.specs.declared.sources.Span.{Span}
-use Rattle.pr_lens_source.specs.Tokens.{text_before}
+use Rattle.pr_lens_source.specs.Tokens.{first_of, text_before}
 use Rattle.pr_lens_why.specs.Limits.{limit_text, unfit_text}
+use Rattle.pr_lens_why.specs.Places.{IsLimitToken}
 use Rattle.pr_lens_why.specs.Syntax.{syntax_text}
 use Rattle.pr_lens_why.specs.Widths.{missing_text}
 
@@ -67,24 +69,31 @@ pub record TellsWidth (text : List ℕ) (tokens : List Token) (spans : List Span
   pub token_is : token ≡ missing.token
   pub message : new ≡ old ++ missing_text missing
 
--- no fit: what is found of the group, and what helps
-pub record TellsFit (N P : ℕ) (narrowed : Bool) (text : List ℕ) (unit : ℕ) (old new : List ℕ) : Type 0 where
+-- no fit: what is found of the group, the first token of the item that makes its last unit, and what helps
+pub record TellsFit (N P : ℕ) (narrowed : Bool) (text : List ℕ) (tokens : List Token) (spans : List Span) (unit token : ℕ) (old new : List ℕ) : Type 0 where
   pub found : Unfit
   pub is : IsFound N narrowed text unit found
+  pub item : IsNothing N narrowed text found ⊎ HasMaker narrowed text tokens spans unit found.item
+  pub token_is : token ≡ first_of tokens spans found.item
   pub between : List ℕ
   pub narrow : TellsNarrow N P narrowed text (old ++ unfit_text found N P) between
   pub wide : TellsWide N narrowed text between new
 
--- a limit: which one, and what helps
+-- a limit: what helps
 abbrev pub TellsHelp : ℕ → ℕ → Bool → List ℕ → Cap → List ℕ → List ℕ → Type 0
 TellsHelp N P narrowed text Units old new = TellsNarrow N P narrowed text old new
 TellsHelp N P narrowed text InputBytes old new = TellsWide N narrowed text old new
 TellsHelp N P narrowed text which old new = new ≡ old
 
+-- which one, at which token, and what helps
+pub record TellsLimit (N P : ℕ) (narrowed : Bool) (text : List ℕ) (tokens : List Token) (spans : List Span) (which : Cap) (token : ℕ) (old new : List ℕ) : Type 0 where
+  pub token_is : IsLimitToken N narrowed text tokens spans which token
+  pub help : TellsHelp N P narrowed text which (old ++ limit_text which) new
+
 abbrev pub Tells : ℕ → ℕ → Bool → List ℕ → List Token → List Span → CompileFault → ℕ → List ℕ → List ℕ → Type 0
 Tells N P narrowed text tokens spans (Syntax wrong) token old new = TellsSyntax text tokens wrong old new
 Tells N P narrowed text tokens spans (Scope rule item) token old new = TellsRule text tokens spans rule item token old new
 Tells N P narrowed text tokens spans (NoWidth equation) token old new = TellsWidth text tokens spans equation token old new
-Tells N P narrowed text tokens spans (NoFit unit) token old new = TellsFit N P narrowed text unit old new
-Tells N P narrowed text tokens spans (Limit which) token old new = TellsHelp N P narrowed text which (old ++ limit_text which) new
+Tells N P narrowed text tokens spans (NoFit unit) token old new = TellsFit N P narrowed text tokens spans unit token old new
+Tells N P narrowed text tokens spans (Limit which) token old new = TellsLimit N P narrowed text tokens spans which token old new
 Tells N P narrowed text tokens spans (Memory x) token old new = ⊤

@@ -2,8 +2,8 @@
 
 ghost use Rattle.std.specs.Prelude.{◌≡◌, ◌≤◌, ◌++◌, false, length, IfOk, IsFalse, IsTrue, OnOk};
 ghost use Rattle.pr_compile.specs.Refusals.{IsCompileAnswer};
-ghost use Rattle.pr_lens_why.specs.Limits.{limit_text};
-ghost use Rattle.pr_lens_why.specs.Messages.{HasConfiguration, HasRefusal, Tells, TellsFit, TellsHelp, TellsNarrow, TellsRule, TellsWide, TellsWidth};
+ghost use Rattle.pr_lens_why.specs.Messages.{HasConfiguration, HasRefusal, Tells, TellsFit, TellsHelp, TellsLimit, TellsNarrow, TellsRule, TellsWide, TellsWidth};
+ghost use Rattle.pr_lens_why.specs.Places.{IsLimitItem, IsLimitToken};
 ghost use Rattle.pr_lens_why.specs.Verdicts.{PointsRight};
 
 use crate::{fits, limits, syntax, widths};
@@ -95,6 +95,27 @@ fn tell_wide(
     put(message, "On `--fabric wide` the program fits.\n")
 }
 
+/// The item with which a quantity passes its limit; the number of items where it does with none.
+fn limit_item(
+    alloc: Global,
+    source: &Source,
+    narrowed: bool,
+    columns: usize,
+    cap: Cap,
+) -> Result<usize, AllocError>
+    requires { length source.now.text.now ≤ 1048576 }
+    ensures { let source = source.now in IfOk result
+        (IsLimitItem columns narrowed source.text.now source.tokens.now source.spans.now cap) }
+{
+    match cap {
+        Cap::Turns => turns_item(alloc, source),
+        Cap::Equations => equations_item(alloc, source, Cap::MOST_EQUATIONS),
+        Cap::InputBytes => Ok(input_item(source, columns)),
+        Cap::Outputs => Ok(output_item(source, Cap::MOST_OUTPUTS)),
+        _ => units_item(alloc, source, narrowed),
+    }
+}
+
 /// The token at which a quantity passes its limit.
 fn limit_token(
     alloc: Global,
@@ -104,14 +125,15 @@ fn limit_token(
     cap: Cap,
 ) -> Result<usize, AllocError>
     requires { length source.now.text.now ≤ 1048576 }
+    ensures { let source = source.now in IfOk result
+        (IsLimitToken columns narrowed source.text.now source.tokens.now source.spans.now cap) }
 {
     match cap {
         Cap::Nesting => Ok(first_deep(alloc, source.tokens)?.unwrap_or(0)),
-        Cap::Turns => Ok(source.first(turns_item(alloc, source)?)),
-        Cap::Equations => Ok(source.first(equations_item(alloc, source, usize::MAX)?)),
-        Cap::InputBytes => Ok(source.first(input_item(source, columns))),
-        Cap::Outputs => Ok(source.first(output_item(source, Cap::MOST_OUTPUTS))),
-        _ => Ok(source.first(units_item(alloc, source, narrowed)?)),
+        _ => {
+            let item = limit_item(alloc, source, narrowed, columns, cap)?;
+            Ok(source.first(item))
+        }
     }
 }
 
@@ -128,7 +150,9 @@ fn tell_fit<const N: usize, const P: usize>(
     requires most_columns { N ≤ 64 }
     requires registers { 2 ≤ P }
     requires most_registers { P ≤ 16 }
-    ensures { OnOk result (TellsFit N P narrowed source.now.text.now unit message.old.items message.new.items) }
+    ensures { let source = source.now in IfOk result (λ token.
+        TellsFit N P narrowed source.text.now source.tokens.now source.spans.now unit token
+        message.old.items message.new.items) }
 {
     let unfit = find_unfit(alloc, source, narrowed, N, unit)?;
     fits::tell(message, &unfit, N, P)?;
@@ -172,8 +196,9 @@ fn tell_limit<const N: usize, const P: usize>(
     requires most_columns { N ≤ 64 }
     requires registers { 2 ≤ P }
     requires most_registers { P ≤ 16 }
-    ensures { OnOk result (TellsHelp N P narrowed source.now.text.now cap
-        (message.old.items ++ limit_text cap) message.new.items) }
+    ensures { let source = source.now in IfOk result (λ token.
+        TellsLimit N P narrowed source.text.now source.tokens.now source.spans.now cap token
+        message.old.items message.new.items) }
 {
     limits::tell(message, cap)?;
     tell_help::<N, P>(alloc, message, source.text, narrowed, cap)?;

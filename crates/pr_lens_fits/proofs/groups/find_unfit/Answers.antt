@@ -1,17 +1,17 @@
 use Rattle.std.proofs.Common.{refl, inl, inr}
 use Rattle.pr_lens_fits.proofs.MakerLemmas.{has_maker}
-use Rattle.pr_lens_fits.proofs.UnfitLemmas.{has_unfit, passes}
+use Rattle.pr_lens_fits.proofs.UnfitLemmas.{has_unfit, nothing}
 use Rattle.pr_lens_fits.proofs.groups.find_unfit.Goals as goal
+
+pub returns-in-Err-Limit-clause-item : goal.returns-in-Err-Limit-clause-item
+returns-in-Err-Limit-clause-item c =
+    let which = c.in-Err-Limit._cap in
+    inl (nothing c.args.columns c.args.narrowed c.args.source.now.text.now c.in-Some.flat c.in-Some.widths which _ (rw c.in-Some.is at c.in_ok-flat.ensures.told) (c.in-Err-Limit.ensures.limit which (cc)) refl refl refl)
 
 pub returns-in-Err-Limit-clause-found : goal.returns-in-Err-Limit-clause-found
 returns-in-Err-Limit-clause-found c =
     let which = c.in-Err-Limit._cap in
-    inr (record {
-      item = refl;
-      columns_are = refl;
-      kept = refl;
-      why = inr (which, passes c.args.columns c.args.narrowed c.args.source.now.text.now c.in-Some.flat c.in-Some.widths which (rw c.in-Some.is at c.in_ok-flat.ensures.told) (c.in-Err-Limit.ensures.limit which (cc)));
-    })
+    inr (nothing c.args.columns c.args.narrowed c.args.source.now.text.now c.in-Some.flat c.in-Some.widths which _ (rw c.in-Some.is at c.in_ok-flat.ensures.told) (c.in-Err-Limit.ensures.limit which (cc)) refl refl refl)
 
 pub returns-in-Ok-clause-found : goal.returns-in-Ok-clause-found
 returns-in-Ok-clause-found c =
