@@ -1,8 +1,7 @@
 -- How deep brackets are open behind a token, and the token with which they are closed.
 use Rattle.std.proofs.Common.{◌≡◌, ◌∙◌, ◌+◌, ◌-◌, ◌^◌, ◌<◌, ◌≤◌, ◌==◌, ◌&&◌, ◌||◌, ℕ, zero, suc, Bool, true, false, cond, List, Option, None, Some, [], length, max, min, refl, sym, ap, subst, arith}
-use Rattle.std.specs.Prelude.{nat_le, nat_lt, slice_range}
+use Rattle.std.specs.Prelude.{nat_le, slice_range}
 use Rattle.std.specs.Option.{option_map_or}
-use Rattle.std.specs.List.{slice_get}
 use Rattle.std.proofs.lemmas.Bool.{le-leb, lt-leb, lt-ltb, le-ltb}
 use Rattle.std.proofs.lemmas.Bool.Decides.{nat_tests}
 use Rattle.std.proofs.lemmas.Grind.{common_steps}
@@ -15,7 +14,7 @@ use Rattle.pr_lens_source.specs.Depths.{depth_after}
 use Rattle.pr_lens_source.specs.Ranges.{count_between, first_between, last_below, one_where}
 use Rattle.pr_lens_source.specs.Tokens.{kind_of, start_of, end_of, bytes_of}
 use Rattle.pr_lens_source.proofs.RangeLemmas.{count_none, count_over, count_last, count_first, first_none, first_here, first_later, last_none, last_here, last_before}
-use Rattle.pr_lens_rules.specs.Brackets.{is_opening, is_closing, is_open_square, is_close_square, is_comma, is_semi, opened, closed, is_even_with, closing_of, is_between_parts, parts_before, parts_up_to, parts_in, last_of, is_open_from, is_around, square_at, square_around}
+use Rattle.pr_lens_rules.specs.Brackets.{is_opening, is_closing, is_open_square, is_close_square, is_comma, is_semi, opened, closed, is_even_with, closing_of, is_between_parts, parts_before, parts_up_to, parts_in, is_open_from, is_around, square_at, square_around}
 
 -- behind the last token is the end
 pub kind_past : (tokens : List Token) (at : ℕ) → length tokens ≤ at → kind_of tokens at ≡ End

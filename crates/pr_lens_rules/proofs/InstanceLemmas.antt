@@ -1,5 +1,5 @@
 -- Names with their indices.
-use Rattle.std.proofs.Common.{◌≡◌, ◌∙◌, ◌+◌, ◌-◌, ◌<◌, ◌≤◌, ◌++◌, ◌∷◌, ◌&&◌, ◌||◌, ◌==◌, [], ℕ, suc, Bool, true, false, cond, List, Option, None, Some, length, refl, sym, ap, append_assoc, arith}
+use Rattle.std.proofs.Common.{◌≡◌, ◌∙◌, ◌+◌, ◌-◌, ◌<◌, ◌≤◌, ◌++◌, ◌&&◌, ◌||◌, ◌==◌, [], ℕ, suc, Bool, true, false, cond, List, Option, None, Some, refl, sym, ap, append_assoc, arith}
 use Rattle.std.specs.Prelude.{is_none, is_some, not}
 use Rattle.std.specs.List.{flat_map, range_with_len}
 use Rattle.std.proofs.lemmas.Bool.Decides.{nat_tests}

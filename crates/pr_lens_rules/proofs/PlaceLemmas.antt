@@ -1,9 +1,8 @@
 -- The line and the column of a byte.
-use Rattle.std.proofs.Common.{◌≡◌, ◌∙◌, ◌⊎◌, ◌+◌, ◌-◌, ◌<◌, ◌≤◌, ◌++◌, ◌∷◌, [], ℕ, zero, suc, Bool, true, false, cond, fold, List, codes, decimal, length, get_or, take, eqb, inl, inr, refl, sym, ap, arith}
+use Rattle.std.proofs.Common.{◌≡◌, ◌∙◌, ◌+◌, ◌-◌, ◌<◌, ◌≤◌, ◌++◌, ◌∷◌, [], ℕ, zero, suc, fold, List, codes, decimal, length, get_or, take, inl, inr, refl, sym, ap, arith}
 use Rattle.std.proofs.lemmas.Bool.Decides.{nat_tests}
 use Rattle.std.proofs.lemmas.Grind.{fold-append}
 use Rattle.std.proofs.lemmas.List.{take_more}
-use Rattle.pr_lang.specs.Spelling.{is_line_feed}
 use Rattle.pr_lens_text.specs.declared.places.Place.{Place}
 use Rattle.pr_lens_text.specs.Places.{HasNoEnd, IsEndBefore, IsPlace}
 use Rattle.pr_lang.specs.declared.tokens.Token.{Token}

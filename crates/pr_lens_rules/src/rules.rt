@@ -2,7 +2,7 @@
 
 ghost use Rattle.std.specs.Prelude.{◌≡◌, ◌++◌, OnOk};
 ghost use Rattle.pr_lens_source.specs.Introduced.{is_open_round};
-ghost use Rattle.pr_lens_rules.specs.Rules.{below_text, bounds_text, broken_text, call_by, call_text, counts_text, deep_text, divisor_text, ends_text, entries_text, entry_text, has_input, initial_text, is_call, is_input, is_minus, last_turn_text, number_text, offence_text, parameter_text, params_text, past_text, recurrence_text, rule_text, step_text, table_text};
+ghost use Rattle.pr_lens_rules.specs.Rules.{below_text, bounds_text, broken_text, call_by, call_text, counts_text, divisor_text, ends_text, entries_text, entry_text, has_input, initial_text, is_call, is_input, is_minus, last_turn_text, number_text, offence_text, parameter_text, params_text, past_text, recurrence_text, rule_text, step_text, table_text};
 
 use crate::brackets::{kind_behind, parts_behind};
 use crate::instances::{last_number, put_instance};
@@ -38,13 +38,6 @@ fn rule_text(rule: u8) -> &'static str
     }
 }
 
-#[tactic(auto, unfolding(crate::specs::Rules::deep_text))]
-fn deep_text() -> &'static str
-    ensures { result.now ≡ deep_text }
-{
-    "It leads through more than 32 functions: write the inner ones out, or use a loop.\n"
-}
-
 fn parameter_text(params: usize) -> &'static str
     ensures { result.now ≡ parameter_text params }
 {
@@ -66,12 +59,15 @@ fn tell_params(message: &mut Vec<u8>, params: usize, given: usize) -> Result<(),
 }
 
 /// Tells how many parameters a function has, and how many arguments a call gives.
-#[tactic(auto, unfolding(crate::specs::Rules::counts_text))]
+#[tactic(auto, unfolding(crate::specs::Rules::counts_text, crate::specs::Rules::deep_text))]
 fn tell_counts(message: &mut Vec<u8>, params: usize, given: usize) -> Result<(), AllocError>
     ensures { OnOk result (message.new.items ≡ message.old.items ++ counts_text params given) }
 {
     if params == given {
-        return put(message, deep_text());
+        return put(
+            message,
+            "It leads through more than 32 functions: write the inner ones out, or use a loop.\n",
+        );
     }
     tell_params(message, params, given)
 }

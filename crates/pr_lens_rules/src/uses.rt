@@ -2,7 +2,7 @@
 
 ghost use Rattle.std.specs.Prelude.{◌≡◌, ◌++◌, OnOk};
 ghost use Rattle.pr_lens_source.specs.Introduced.{is_fn};
-ghost use Rattle.pr_lens_rules.specs.Uses.{again_behind, again_text, alone_text, another_kind_text, apart_text, assign_text, called_text, earlier_text, early_behind, early_text, is_outside, is_signed, is_table_index, is_table_sort, known_text, other_text, outside_text, own_text, sort_in, stream_text, unassigned_by, unassigned_text, unknown_text, usage_before, usage_text};
+ghost use Rattle.pr_lens_rules.specs.Uses.{again_behind, again_text, alone_text, another_kind_text, apart_text, assign_text, called_text, early_behind, early_text, is_outside, is_signed, is_table_index, is_table_sort, known_text, other_text, outside_text, own_text, sort_in, stream_text, unassigned_by, unassigned_text, unknown_text, usage_before, usage_text};
 
 use crate::brackets::{kind_behind, square_around};
 use crate::instances::{
@@ -289,21 +289,15 @@ fn usage_text(in_table: bool, sort: Option<Sort>) -> &'static str
     }
 }
 
-#[tactic(auto, unfolding(crate::specs::Uses::earlier_text))]
-fn earlier_text() -> &'static str
-    ensures { result.now ≡ earlier_text }
-{
-    "Only a stream has earlier samples, so only a stream stands before `@`.\n"
-}
-
 /// How a name of this sort is used, by the token behind it.
-#[tactic(auto, unfolding(crate::specs::Uses::usage_before))]
+#[tactic(auto, unfolding(crate::specs::Uses::usage_before, crate::specs::Uses::earlier_text))]
 fn usage_before(behind: Kind, in_table: bool, sort: Option<Sort>) -> &'static str
     ensures { result.now ≡ usage_before behind in_table sort }
 {
     match behind {
         Kind::Mark(Symbol::OpenRound) => called_text(sort),
-        Kind::Mark(Symbol::At) => earlier_text(),
+        Kind::Mark(Symbol::At) =>
+            "Only a stream has earlier samples, so only a stream stands before `@`.\n",
         _ => usage_text(in_table, sort),
     }
 }

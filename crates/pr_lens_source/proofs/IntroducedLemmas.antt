@@ -1,5 +1,5 @@
 -- Where a block is closed.
-use Rattle.std.proofs.Common.{◌≡◌, ◌∙◌, ◌+◌, ◌-◌, ◌<◌, ◌≤◌, ◌&&◌, ℕ, Bool, true, false, List, Option, None, Some, length, max, inl, inr, refl, sym, ap, arith}
+use Rattle.std.proofs.Common.{◌≡◌, ◌∙◌, ◌+◌, ◌-◌, ◌<◌, ◌≤◌, ◌&&◌, ℕ, Bool, true, false, List, Option, None, Some, max, inl, inr, refl, sym, ap, arith}
 use Rattle.std.specs.Prelude.{is_some, nat_le, not}
 use Rattle.std.proofs.lemmas.Bool.{cases_lt, le-leb, lt-leb}
 use Rattle.pr_lang.specs.declared.tokens.Kind.{Kind}
@@ -7,7 +7,7 @@ use Rattle.pr_lang.specs.declared.tokens.Kind.TheVariants.{Mark}
 use Rattle.pr_lang.specs.declared.tokens.Symbol.TheVariants.{OpenCurly}
 use Rattle.pr_lang.specs.declared.tokens.Token.{Token}
 use Rattle.pr_lens_source.specs.Introduced.{is_open_curly, is_close_curly, opened_curly, closed_curly, closes_block, is_closed, is_parameter, is_of_parameters, opens_parameters}
-use Rattle.pr_lens_source.specs.Ranges.{count_between, first_between, last_below, one_where}
+use Rattle.pr_lens_source.specs.Ranges.{first_between, last_below, one_where}
 use Rattle.pr_lens_source.specs.Tokens.{kind_of}
 use Rattle.pr_lens_source.proofs.RangeLemmas.{count_none, count_last, first_none, first_here, first_later, last_none, last_here, last_before}
 

@@ -1,4 +1,4 @@
-use Rattle.std.proofs.Common.{◌≡◌, ◌∙◌, ◌+◌, ℕ, sym, ap, subst, arith}
+use Rattle.std.proofs.Common.{◌∙◌, ◌+◌, ℕ, sym, ap, subst, arith}
 use Rattle.pr_lang.specs.declared.tokens.Kind.{Kind}
 use Rattle.pr_lens_source.specs.Depths.{depth_after}
 use Rattle.pr_lens_rules.proofs.BracketLemmas.{IsDeepAt, deep_first, deep_none, deep_closes, deep_more}

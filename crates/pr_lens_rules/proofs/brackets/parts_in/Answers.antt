@@ -1,11 +1,9 @@
-use Rattle.std.proofs.Common.{◌≡◌, ◌∙◌, ◌+◌, ◌&&◌, ◌==◌, ℕ, Bool, sym, ap, subst, arith}
+use Rattle.std.proofs.Common.{◌∙◌, ◌&&◌, ◌==◌, sym, ap, arith}
 use Rattle.pr_lang.specs.declared.tokens.Kind.{Kind}
-use Rattle.pr_lang.specs.declared.tokens.Token.{Token}
 use Rattle.pr_lens_source.specs.Depths.{depth_after}
 use Rattle.pr_lens_source.specs.Ranges.{one_where}
-use Rattle.pr_lens_source.specs.Tokens.{kind_of}
 use Rattle.pr_lens_rules.specs.Brackets.{is_comma}
-use Rattle.pr_lens_rules.proofs.BracketLemmas.{IsDeepAt, AreParts, deep_closes, parts_first, parts_step, parts_closed, parts_open}
+use Rattle.pr_lens_rules.proofs.BracketLemmas.{deep_closes, parts_first, parts_step, parts_closed, parts_open}
 use Rattle.pr_lens_rules.proofs.brackets.parts_in.Goals as goal
 
 pub loop-at-init : goal.loop-at-init

@@ -1,5 +1,4 @@
-use Rattle.std.proofs.Common.{◌≡◌, ◌∙◌, ◌+◌, ◌-◌, ℕ, Bool, max, refl, sym, ap, subst, arith}
-use Rattle.pr_lens_source.specs.Ranges.{one_where}
+use Rattle.std.proofs.Common.{◌∙◌, ◌-◌, refl, sym, ap}
 use Rattle.pr_lens_rules.specs.Brackets.{is_close_square, is_open_square, is_semi}
 use Rattle.pr_lens_rules.proofs.BracketLemmas.{past_first, past_none, past_semi, past_opens, past_more}
 use Rattle.pr_lens_rules.proofs.brackets.square_around.Goals as goal

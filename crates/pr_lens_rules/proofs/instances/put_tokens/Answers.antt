@@ -1,4 +1,4 @@
-use Rattle.std.proofs.Common.{◌++◌, List, ℕ}
+use Rattle.std.proofs.Common.{◌++◌}
 use Rattle.pr_lens_rules.specs.Instances.{tokens_text}
 use Rattle.pr_lens_rules.proofs.InstanceLemmas.{tokens_more, tokens_all}
 use Rattle.pr_lens_rules.proofs.instances.put_tokens.Goals as goal

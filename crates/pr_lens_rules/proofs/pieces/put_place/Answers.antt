@@ -1,8 +1,4 @@
-use Rattle.std.proofs.Common.{◌++◌, ◌∙◌, codes, decimal, refl, ap}
-use Rattle.std.specs.Prelude.{List, ℕ}
 use Rattle.std.proofs.lemmas.Result.{on_ok_weaker}
-use Rattle.pr_lens_source.specs.Tokens.{start_of}
-use Rattle.pr_lens_rules.specs.Pieces.{place_text}
 use Rattle.pr_lens_rules.proofs.PlaceLemmas.{place_put}
 use Rattle.pr_lens_rules.proofs.pieces.put_place.Goals as goal
 

@@ -1,4 +1,4 @@
-use Rattle.std.proofs.Common.{◌-◌, ◌++◌, ◌∙◌, ◌≡◌, ◌≤◌, Bool, List, ℕ, false, cond, codes, decimal, refl, sym, ap, leb}
+use Rattle.std.proofs.Common.{◌-◌, ◌≡◌, false, codes, decimal, refl, leb}
 use Rattle.std.proofs.lemmas.Bool.{lt-leb}
 use Rattle.std.proofs.lemmas.Result.{on_ok_weaker}
 use Rattle.pr_lens_rules.specs.Rules.{entries_text}

@@ -1,5 +1,5 @@
 use Rattle.std.proofs.Common.{◌≡◌}
-use Rattle.pr_lens_source.specs.Introduced.{introduced_before, is_introduced_at}
+use Rattle.pr_lens_source.specs.Introduced.{is_introduced_at}
 use Rattle.pr_lens_source.specs.Ranges.{first_between}
 use Rattle.pr_lens_source.proofs.introduced.introduced_before.Given as goal
 

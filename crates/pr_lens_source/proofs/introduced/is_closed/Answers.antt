@@ -1,4 +1,4 @@
-use Rattle.std.proofs.Common.{◌≡◌, ◌∙◌, ◌+◌, ◌≤◌, Bool, true, cond, max, sym, ap, subst, arith}
+use Rattle.std.proofs.Common.{◌≡◌, ◌∙◌, ◌+◌, Bool, cond, max, sym, ap, subst, arith}
 use Rattle.pr_lens_source.specs.Introduced.{is_close_curly, is_open_curly}
 use Rattle.pr_lens_source.proofs.IntroducedLemmas.{block_first, block_none, block_closes, block_more}
 use Rattle.pr_lens_source.proofs.introduced.is_closed.Goals as goal
