@@ -1,5 +1,5 @@
 -- What is told of an equation without a width, and where it is made.
-use Rattle.std.proofs.Common.{◌≡◌, ◌∙◌, ◌⊎◌, ◌-◌, ℕ, List, [], Option, Some, None, Result, Ok, Err, IfOk, length, option_map, ap, inl, inr}
+use Rattle.std.proofs.Common.{◌≡◌, ◌∙◌, ◌⊎◌, ◌-◌, ℕ, List, Option, Some, None, Result, Ok, Err, IfOk, option_map, ap, sym, subst, inl, inr}
 use Rattle.std.specs.Prelude.{IfSome}
 use Rattle.std.specs.declared.alloc.AllocError.{AllocError}
 use Rattle.std.specs.List.{slice_get}
@@ -9,7 +9,7 @@ use Rattle.pr_lang.specs.declared.trees.Item.{Item}
 use Rattle.pr_flat.specs.declared.equations.Equation.{Equation}
 use Rattle.pr_flat.specs.declared.flat.Flat.{Flat}
 use Rattle.pr_flat.specs.Flats.{equations_of}
-use Rattle.pr_flat.specs.Shape.{equation_shape}
+use Rattle.pr_flat.specs.Shape.{EquationShape, equation_shape}
 use Rattle.pr_flat.specs.Widths.{IsFirstWithout}
 use Rattle.pr_lens_source.specs.declared.sources.Span.{Span}
 use Rattle.pr_lens_find.specs.declared.widths.Extent.{Extent}
@@ -19,7 +19,7 @@ use Rattle.pr_lens_find.specs.Made.{HasFlat, IsManyWith, IsMadeAt, values_cut}
 use Rattle.pr_lens_find.specs.Offences.{IsItemOf, values_in}
 use Rattle.pr_lens_source.specs.Spans.{StandsIn}
 use Rattle.pr_lens_find.specs.Turns.{IsTurn}
-use Rattle.pr_lens_find.specs.Widths.{IsEquation, IsToldOf, LacksWidth, LacksNone, LacksFirst, IsToldCut, IsToldOfSpot, IsToldIn}
+use Rattle.pr_lens_find.specs.Widths.{AreCommon, AreExtents, AreExtentsOf, AreUntold, IsToldOf, telling_of, LacksWidth, LacksNone, LacksFirst, IsToldCut, IsToldOfSpot, IsToldIn}
 
 pub made_at : (text : List ℕ) (tokens : List Token) (spans : List Span) (equation item token : ℕ) → IsManyWith text tokens spans equation item → StandsIn tokens spans item token → IsMadeAt text tokens spans equation token
 made_at text tokens spans equation item token many stands = record { item = item; made = many; stands = stands }
@@ -28,26 +28,28 @@ made_at text tokens spans equation item token many stands = record { item = item
 pub equation_at : (flat : Flat) (number : ℕ) (e : Equation) → slice_get flat.equations.items number ≡ Some e → slice_get (equations_of flat) number ≡ Some (equation_shape e)
 equation_at flat number e there = slice_get-map equation_shape flat.equations.items number ∙ ap (λ (o : Option Equation). option_map equation_shape o) there
 
-pub told_first : (flat : Flat) (number : ℕ) (equation told : Equation) (extents : List Extent) (m : Missing) → IsFirstWithout (equations_of flat) number → slice_get flat.equations.items number ≡ Some equation
-    → IsEquation (equations_of flat) (equation_shape told) → (extents ≡ []) ⊎ (length extents ≡ length told.args.items) → m.op ≡ Some equation.op → m.widths.items ≡ extents → IsToldOf (equations_of flat) m
-told_first flat number equation told extents m without there is count op same = inr (record {
+pub told_first : (flat before : Flat) (number known : ℕ) (equation told : Equation) (extents : List Extent) (m : Missing) → IsFirstWithout (equations_of flat) number → slice_get flat.equations.items number ≡ Some equation
+    → equation_shape told ≡ telling_of (equations_of flat) (equation_shape equation) → AreCommon (equations_of flat) (equations_of before) known → AreUntold (equations_of before) extents ⊎ AreExtentsOf (equations_of before) known told.args.items extents
+    → m.op ≡ Some equation.op → m.widths.items ≡ extents → IsToldOf (equations_of flat) (equations_of before) m
+told_first flat before number known equation told extents m without there is common are op same = inr (record {
   number = number;
   without = without;
   tells = record {
     equation = equation_shape equation;
     there = equation_at flat number equation there;
     op = op;
-    widths = elim count [
-      | inl none ↦ inl (same ∙ none)
-      | inr all ↦ inr (record { told = equation_shape told; is = is; count = ap (λ (es : List Extent). length es) same ∙ all })
-    ];
+    widths = subst (AreExtents (equations_of flat) (equations_of before) (equation_shape equation)) (sym same) (elim are [
+      | inl none ↦ inl none
+      | inr each ↦ inr (record { known = known; common = common; extents_are = subst (λ (e : EquationShape). AreExtentsOf (equations_of before) known e.args extents) is each })
+    ]);
   };
 })
 
 -- ---- of a program that is cut off, and of the item that makes an equation
-pub cut_told : (spot : Spot) (count : ℕ) (flat : Flat) (m : Missing) → WithCut spot (values_cut count) (λ program. HasFlat program flat) → IsToldOf (equations_of flat) m → IsToldCut spot count m
-cut_told spot count flat m has (inl unknown) = inl unknown
-cut_told spot count flat m has (inr tells) = inr (record { flat = flat; has = has; tells = tells })
+pub cut_told : (spot : Spot) (count : ℕ) (flat before : Flat) (m : Missing) → WithCut spot (values_cut count) (λ program. HasFlat program flat) → WithCut spot (values_cut (count - 1)) (λ program. HasFlat program before)
+    → IsToldOf (equations_of flat) (equations_of before) m → IsToldCut spot count m
+cut_told spot count flat before m has had (inl unknown) = inl unknown
+cut_told spot count flat before m has had (inr tells) = inr (record { flat = flat; has = has; before = before; had = had; tells = tells })
 
 spot_told : (spot : Spot) (count held : ℕ) (m : Missing) → m.token ≡ held → LacksFirst spot count
     → ((token : ℕ) → slice_get (values_in spot) (count - 1) ≡ Some token → StandsIn spot.tokens spot.spans spot.number token → held ≡ token) → IsToldCut spot count m → IsToldOfSpot spot m

@@ -1,14 +1,19 @@
 -- Equations without widths, and what is told of them.
-use Rattle.std.specs.Prelude.{ℕ, ◌≡◌, ◌⊎◌, ◌-◌, List, [], None, Some, length}
+use Rattle.std.specs.Prelude.{ℕ, ◌≡◌, ◌⊎◌, ◌-◌, ◌<◌, List, [], ◌∷◌, Option, None, Some, map, nat_lt, option_and_then, unwrap_or, if◌then◌else◌}
 use Rattle.std.specs.List.{slice_get}
+use Rattle.std.specs.Option.{option_map_or}
 use Rattle.pr_lang.specs.declared.tokens.Token.{Token}
 use Rattle.pr_lang.specs.declared.trees.Item.{Item}
+use Rattle.pr_flat.specs.declared.equations.Operand.{Operand}
+use Rattle.pr_flat.specs.declared.equations.Operand.TheVariants.{Const, Eq, Past}
 use Rattle.pr_flat.specs.declared.flat.Flat.{Flat}
+use Rattle.pr_flat.specs.Facts.{is_rec}
 use Rattle.pr_flat.specs.Flats.{equations_of}
 use Rattle.pr_flat.specs.Shape.{EquationShape}
-use Rattle.pr_flat.specs.Widths.{AreWidths, IsFirstWithout}
+use Rattle.pr_flat.specs.Widths.{AreWidths, IsFirstWithout, operand_width}
 use Rattle.pr_lens_source.specs.declared.sources.Span.{Span}
 use Rattle.pr_lens_find.specs.declared.widths.Extent.{Extent}
+use Rattle.pr_lens_find.specs.declared.widths.Extent.TheVariants as extent
 use Rattle.pr_lens_find.specs.declared.widths.Missing.{Missing}
 use Rattle.pr_lens_find.specs.Fronts.{Spot, IsUnread, WithCut, front_in}
 use Rattle.pr_lens_find.specs.Made.{HasFlat, HasMore, IsUnlawful, IsManyWith, values_cut}
@@ -26,32 +31,82 @@ pub record IsEquation (equations : List EquationShape) (equation : EquationShape
   pub number : ℕ
   pub there : slice_get equations number ≡ Some equation
 
--- as many as some equation has operands
-pub record AreOperands (equations : List EquationShape) (extents : List Extent) : Type 0 where
-  pub told : EquationShape
-  pub is : IsEquation equations told
-  pub count : length extents ≡ length told.args
+-- the equation whose operands tell most of why this one has no width: of a recurrence the last one of its body
+abbrev pub first_equation : List Operand → Option ℕ
+first_equation (Eq equation ∷ args) = Some equation
+first_equation args = None
 
--- the operation of this equation, and widths of the operands of one that tells most, or none
-pub record Tells (equations : List EquationShape) (number : ℕ) (missing : Missing) : Type 0 where
+abbrev pub telling_of : List EquationShape → EquationShape → EquationShape
+telling_of equations equation =
+    if is_rec equation.op then unwrap_or (option_and_then (slice_get equations) (first_equation equation.args)) equation else equation
+
+-- ---- widths of operands
+-- two equations are made alike, whatever the kinds of their operands are
+pub record AreSame (one other : EquationShape) : Type 0 where
+  pub op : one.op ≡ other.op
+  pub args : one.args ≡ other.args
+  pub declared : one.declared ≡ other.declared
+
+pub record AreSameAt (ones others : List EquationShape) (number : ℕ) : Type 0 where
+  pub one : EquationShape
+  pub there : slice_get ones number ≡ Some one
+  pub other : EquationShape
+  pub beside : slice_get others number ≡ Some other
+  pub same : AreSame one other
+
+-- so many of both are made alike, from the first on, and no more
+pub record AreCommon (ones others : List EquationShape) (count : ℕ) : Type 0 where
+  pub same : (number : ℕ) → number < count → AreSameAt ones others number
+  pub no_more : AreSameAt ones others count → ⊥
+
+-- how wide an operand is, where it is a number or one of the first so many equations, which have these widths
+abbrev pub extent_of : List ℕ → ℕ → Operand → Extent
+extent_of widths known (Const number) = extent.Bits (operand_width widths (Const number))
+extent_of widths known (Past rec k) = extent.Past
+extent_of widths known (Eq equation) =
+    if nat_lt equation known then option_map_or (λ (bits : ℕ). extent.Bits bits) (slice_get widths equation) extent.Inside else extent.Inside
+
+-- by the widths of some equations, of which so many are known
+pub record AreExtentsOf (equations : List EquationShape) (known : ℕ) (operands : List Operand) (extents : List Extent) : Type 0 where
+  pub widths : List ℕ
+  pub are : AreWidths equations widths
+  pub each : extents ≡ map (extent_of widths known) operands
+
+-- of the operands of the equation that tells most, by the equations of one point less: what both have in common is known
+pub record AreOperands (equations before : List EquationShape) (equation : EquationShape) (extents : List Extent) : Type 0 where
+  pub known : ℕ
+  pub common : AreCommon equations before known
+  pub extents_are : AreExtentsOf before known (telling_of equations equation).args extents
+
+-- none, where these have no widths
+pub record AreUntold (before : List EquationShape) (extents : List Extent) : Type 0 where
+  pub number : ℕ
+  pub without : IsFirstWithout before number
+  pub none : extents ≡ []
+
+abbrev pub AreExtents : List EquationShape → List EquationShape → EquationShape → List Extent → Type 0
+AreExtents equations before equation extents = AreUntold before extents ⊎ AreOperands equations before equation extents
+
+-- the operation of this equation, and the widths of the operands of the one that tells most
+pub record Tells (equations before : List EquationShape) (number : ℕ) (missing : Missing) : Type 0 where
   pub equation : EquationShape
   pub there : slice_get equations number ≡ Some equation
   pub op : missing.op ≡ Some equation.op
-  pub widths : (missing.widths.items ≡ []) ⊎ AreOperands equations missing.widths.items
+  pub widths : AreExtents equations before equation missing.widths.items
 
 -- neither an operation nor widths
 pub record IsUnknown (missing : Missing) : Type 0 where
   pub op : missing.op ≡ None
   pub widths : missing.widths.items ≡ []
 
--- of the first equation without a width
-pub record TellsFirst (equations : List EquationShape) (missing : Missing) : Type 0 where
+-- of the first equation without a width, by the equations of one point less
+pub record TellsFirst (equations before : List EquationShape) (missing : Missing) : Type 0 where
   pub number : ℕ
   pub without : IsFirstWithout equations number
-  pub tells : Tells equations number missing
+  pub tells : Tells equations before number missing
 
-abbrev pub IsToldOf : List EquationShape → Missing → Type 0
-IsToldOf equations missing = IsUnknown missing ⊎ TellsFirst equations missing
+abbrev pub IsToldOf : List EquationShape → List EquationShape → Missing → Type 0
+IsToldOf equations before missing = IsUnknown missing ⊎ TellsFirst equations before missing
 
 -- ---- of the program of a text, cut off in the item behind it
 -- with so many points of the item's expressions an equation has no width
@@ -79,7 +134,9 @@ pub record LacksFirst (spot : Spot) (count : ℕ) : Type 0 where
 pub record TellsCut (spot : Spot) (count : ℕ) (missing : Missing) : Type 0 where
   pub flat : Flat
   pub has : WithCut spot (values_cut count) (λ program. HasFlat program flat)
-  pub tells : TellsFirst (equations_of flat) missing
+  pub before : Flat
+  pub had : WithCut spot (values_cut (count - 1)) (λ program. HasFlat program before)
+  pub tells : TellsFirst (equations_of flat) (equations_of before) missing
 
 abbrev pub IsToldCut : Spot → ℕ → Missing → Type 0
 IsToldCut spot count missing = IsUnknown missing ⊎ TellsCut spot count missing

@@ -1,10 +1,10 @@
 //! Equations without widths.
 
-ghost use Rattle.std.specs.Prelude.{◌≡◌, ◌≤◌, ◌⊎◌, [], length, vec_len, IfOk, IfSome, IsFalse, IsTrue, MatchOption};
+ghost use Rattle.std.specs.Prelude.{◌≡◌, ◌<◌, ◌≤◌, ◌⊎◌, ◌↔◌, length, map, vec_len, IfOk, IfSome, IsFalse, IsTrue, MatchOption};
 ghost use Rattle.pr_flat.specs.Flats.{equations_of};
 ghost use Rattle.pr_flat.specs.Shape.{equation_shape};
 ghost use Rattle.pr_flat.specs.Widths.{IsFirstWithout};
-ghost use Rattle.pr_lens_find.specs.Widths.{HaveWidths, IsEquation, IsUnknown, IsToldOf, LacksWidth, LacksNone, LacksFirst, IsToldCut, IsToldOfSpot, IsToldIn};
+ghost use Rattle.pr_lens_find.specs.Widths.{HaveWidths, AreCommon, AreExtentsOf, AreSame, AreSameAt, AreUntold, IsEquation, IsUnknown, IsToldOf, LacksWidth, LacksNone, LacksFirst, IsToldCut, IsToldOfSpot, IsToldIn, extent_of, telling_of};
 ghost use Rattle.pr_lens_find.specs.Fronts.{spot_of};
 ghost use Rattle.pr_lens_source.specs.Spans.{StandsIn};
 ghost use Rattle.pr_lens_find.specs.Made.{IsMadeAt};
@@ -13,11 +13,10 @@ use crate::counts::{numbered, short};
 use crate::equations::{Made, equations_item, made_with};
 use crate::fronts::{Part, item_of};
 use crate::halves::{Question, turn_between};
-use pr_base::bits_of;
 use pr_flat::{Equation, Flat, Op, Operand};
 use pr_lens_items::points_of;
 use pr_lens_source::Source;
-use pr_width::{WidthFault, Widths, solve};
+use pr_width::{WidthFault, Widths, operand_width, solve};
 use std::alloc::{AllocError, Global};
 
 /// The first equation without a width, where there is one.
@@ -114,30 +113,87 @@ fn unknown(alloc: Global, token: usize) -> Missing
     }
 }
 
+/// Whether two operations are the same.
+fn is_same_op(one: Op, other: Op) -> bool
+    ensures { IsTrue result ↔ (one ≡ other) }
+{
+    one == other
+}
+
+/// Whether two operands are the same.
+fn is_same_operand(one: Operand, other: Operand) -> bool
+    ensures { IsTrue result ↔ (one ≡ other) }
+{
+    one == other
+}
+
+/// Whether these are the same operands.
+fn are_same_operands(one: &[Operand], other: &[Operand]) -> bool
+    ensures { IsTrue result ↔ (one.now ≡ other.now) }
+{
+    if one.len() != other.len() {
+        return false;
+    }
+    for place in 0..one.len() {
+        if !is_same_operand(one[place], other[place]) {
+            return false;
+        }
+    }
+    true
+}
+
+/// Whether two declared widths are the same.
+fn is_same_width(one: Option<u8>, other: Option<u8>) -> bool
+    ensures { IsTrue result ↔ (one ≡ other) }
+{
+    one == other
+}
+
+/// Whether both equations are made alike, whatever the kinds of their operands are.
+fn is_same(one: &Equation, other: &Equation) -> bool
+    ensures { IsTrue result ↔ AreSame (equation_shape one.now) (equation_shape other.now) }
+{
+    if !is_same_op(one.op, other.op) {
+        return false;
+    }
+    if !is_same_width(one.declared, other.declared) {
+        return false;
+    }
+    are_same_operands(&one.args, &other.args)
+}
+
+/// Whether the equations of this number are there, and are made alike.
+fn is_same_at(one: &Flat, other: &Flat, number: usize) -> bool
+    ensures same { IsTrue result ↔ AreSameAt (equations_of one.now) (equations_of other.now) number }
+    ensures within { IsTrue result → number < vec_len one.now.equations }
+{
+    match one.equations.get(number) {
+        None => false,
+        Some(equation) => match other.equations.get(number) {
+            None => false,
+            Some(found) => is_same(equation, found),
+        },
+    }
+}
+
 /// How many equations both have in common, from the first on.
 fn common(one: &Flat, other: &Flat) -> usize
-    ensures { result ≤ vec_len one.now.equations }
+    ensures within { result ≤ vec_len one.now.equations }
+    ensures common { AreCommon (equations_of one.now) (equations_of other.now) result }
 {
     let mut count = 0;
-    for equation in &one.equations {
-        match other.equations.get(count) {
-            Some(found) if is_same(equation, found) => count += 1,
-            _ => return count,
-        }
+    while is_same_at(one, other, count) {
+        count += 1;
     }
     count
 }
 
-fn is_same(one: &Equation, other: &Equation) -> bool {
-    one.op == other.op
-        && one.args.as_slice() == other.args.as_slice()
-        && one.declared == other.declared
-}
-
 /// How wide an operand is, where it is a number or one of the first equations.
-fn width_of(widths: &Widths, operand: Operand, known: usize) -> Extent {
+fn width_of(widths: &Widths, operand: Operand, known: usize) -> Extent
+    ensures { result ≡ extent_of widths.now known operand }
+{
     match operand {
-        Operand::Const(number) => Extent::Bits(u32::from(bits_of(u128::from(number)).get())),
+        Operand::Const(_) => Extent::Bits(u32::from(operand_width(operand, &widths.of))),
         Operand::Past { rec: _, k: _ } => Extent::Past,
         Operand::Eq(equation) => {
             let equation = equation as usize;
@@ -149,13 +205,15 @@ fn width_of(widths: &Widths, operand: Operand, known: usize) -> Extent {
     }
 }
 
+/// How wide operands are, where they are numbers or among the first equations.
 fn widths_of(
     alloc: Global,
     widths: &Widths,
     operands: &[Operand],
     known: usize,
 ) -> Result<Vec<Extent>, AllocError>
-    ensures { IfOk result (λ all. vec_len all ≡ length operands.now) }
+    ensures count { IfOk result (λ all. vec_len all ≡ length operands.now) }
+    ensures each { IfOk result (λ all. all.items ≡ map (extent_of widths.now known) operands.now) }
 {
     let mut all = Vec::new(alloc);
     for operand in operands {
@@ -171,11 +229,12 @@ fn extents(
     operands: &[Operand],
     known: usize,
 ) -> Result<Vec<Extent>, AllocError>
-    ensures { IfOk result (λ all. (all.items ≡ []) ⊎ (length all.items ≡ length operands.now)) }
+    ensures { IfOk result (λ all. AreUntold (equations_of flat.now) all.items ⊎
+        AreExtentsOf (equations_of flat.now) known operands.now all.items) }
 {
     match solve(alloc, flat) {
         Ok(widths) => widths_of(alloc, &widths, operands, known),
-        Err(WidthFault::NoWidth { equation: _ }) => Ok(Vec::new(alloc)),
+        Err(WidthFault::NoWidth { equation: _number }) => Ok(Vec::new(alloc)),
         Err(WidthFault::Memory(error)) => Err(error),
     }
 }
@@ -183,7 +242,8 @@ fn extents(
 /// The equation whose operands tell most of why this one has no width: of a recurrence the last one of its body.
 fn telling<'a>(flat: &'a Flat, equation: &'a Equation) -> &'a Equation
     requires { IsEquation (equations_of flat.now) (equation_shape equation.now) }
-    ensures { IsEquation (equations_of flat.now) (equation_shape result.now) }
+    ensures equation { IsEquation (equations_of flat.now) (equation_shape result.now) }
+    ensures telling { equation_shape result.now ≡ telling_of (equations_of flat.now) (equation_shape equation.now) }
 {
     if let Op::Rec { init: _, first: _ } = equation.op {
         if let Some(Operand::Eq(body)) = equation.args.first() {
@@ -205,7 +265,7 @@ fn told_by(
 ) -> Result<Missing, AllocError>
     requires { IsFirstWithout (equations_of flat.now) number }
     ensures token { IfOk result (λ missing. missing.token ≡ token) }
-    ensures told { IfOk result (IsToldOf (equations_of flat.now)) }
+    ensures told { IfOk result (IsToldOf (equations_of flat.now) (equations_of before.now)) }
 {
     let Some(equation) = flat.equations.get(number as usize) else {
         return Ok(unknown(alloc, token));
@@ -227,7 +287,7 @@ fn missing_in(
     before: &Flat,
 ) -> Result<Missing, AllocError>
     ensures token { IfOk result (λ missing. missing.token ≡ token) }
-    ensures told { IfOk result (IsToldOf (equations_of flat.now)) }
+    ensures told { IfOk result (IsToldOf (equations_of flat.now) (equations_of before.now)) }
 {
     match first_without(alloc, flat)? {
         None => Ok(unknown(alloc, token)),

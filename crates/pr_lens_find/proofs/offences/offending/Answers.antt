@@ -1,5 +1,4 @@
 use Rattle.std.proofs.lemmas.Result.{IfOk-weaker}
-use Rattle.pr_lens_find.specs.Offences.{Behind, Unread}
 use Rattle.pr_lens_find.proofs.OffenceLemmas.{found_in}
 use Rattle.pr_lens_find.proofs.offences.offending.Goals as goal
 
