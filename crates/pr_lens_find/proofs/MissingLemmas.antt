@@ -1,6 +1,6 @@
 -- What is told of an equation without a width, and where it is made.
 use Rattle.std.proofs.Common.{◌≡◌, ◌∙◌, ◌⊎◌, ◌-◌, ℕ, List, Option, Some, None, Result, Ok, Err, IfOk, option_map, ap, sym, subst, inl, inr}
-use Rattle.std.specs.Prelude.{IfSome}
+use Rattle.std.specs.Prelude.{IfNone, IfSome, MatchOption}
 use Rattle.std.specs.declared.alloc.AllocError.{AllocError}
 use Rattle.std.specs.List.{slice_get}
 use Rattle.std.proofs.lemmas.Option.{slice_get-map}
@@ -14,15 +14,13 @@ use Rattle.pr_flat.specs.Widths.{IsFirstWithout}
 use Rattle.pr_lens_source.specs.declared.sources.Span.{Span}
 use Rattle.pr_lens_find.specs.declared.widths.Extent.{Extent}
 use Rattle.pr_lens_find.specs.declared.widths.Missing.{Missing}
-use Rattle.pr_lens_find.specs.Fronts.{Spot, WithCut}
-use Rattle.pr_lens_find.specs.Made.{HasFlat, IsManyWith, IsMadeAt, values_cut}
+use Rattle.pr_lens_find.specs.Fronts.{Spot}
+use Rattle.pr_lens_find.specs.Made.{IsManyWith}
 use Rattle.pr_lens_find.specs.Offences.{IsItemOf, values_in}
 use Rattle.pr_lens_source.specs.Spans.{StandsIn}
+use Rattle.pr_lens_source.specs.Tokens.{first_of}
 use Rattle.pr_lens_find.specs.Turns.{IsTurn}
-use Rattle.pr_lens_find.specs.Widths.{AreCommon, AreExtents, AreExtentsOf, AreUntold, IsToldOf, telling_of, LacksWidth, LacksNone, LacksFirst, IsToldCut, IsToldOfSpot, IsToldIn}
-
-pub made_at : (text : List ℕ) (tokens : List Token) (spans : List Span) (equation item token : ℕ) → IsManyWith text tokens spans equation item → StandsIn tokens spans item token → IsMadeAt text tokens spans equation token
-made_at text tokens spans equation item token many stands = record { item = item; made = many; stands = stands }
+use Rattle.pr_lens_find.specs.Widths.{AreCommon, AreExtents, AreExtentsOf, AreUntold, IsToldOf, telling_of, HasFlatWith, HasNothing, LacksWidth, LacksNone, LacksNot, LacksFirst, IsToldCut, IsToldOfSpot, IsToldIn}
 
 -- ---- equations
 pub equation_at : (flat : Flat) (number : ℕ) (e : Equation) → slice_get flat.equations.items number ≡ Some e → slice_get (equations_of flat) number ≡ Some (equation_shape e)
@@ -45,36 +43,43 @@ told_first flat before number known equation told extents m without there is com
   };
 })
 
--- ---- of a program that is cut off, and of the item that makes an equation
-pub cut_told : (spot : Spot) (count : ℕ) (flat before : Flat) (m : Missing) → WithCut spot (values_cut count) (λ program. HasFlat program flat) → WithCut spot (values_cut (count - 1)) (λ program. HasFlat program before)
-    → IsToldOf (equations_of flat) (equations_of before) m → IsToldCut spot count m
-cut_told spot count flat before m has had (inl unknown) = inl unknown
+-- ---- of a program that is cut off
+pub cut_told : (spot : Spot) (count : ℕ) (flat before : Flat) (m : Missing) → HasFlatWith spot count flat → HasFlatWith spot (count - 1) before → IsToldOf (equations_of flat) (equations_of before) m → IsToldCut spot count m
+cut_told spot count flat before m has had (inl untold) = inl (record { unknown = untold.unknown; why = HasNothing.AllHave (record { flat = flat; has = has; have = untold.have }) })
 cut_told spot count flat before m has had (inr tells) = inr (record { flat = flat; has = has; before = before; had = had; tells = tells })
 
-spot_told : (spot : Spot) (count held : ℕ) (m : Missing) → m.token ≡ held → LacksFirst spot count
-    → ((token : ℕ) → slice_get (values_in spot) (count - 1) ≡ Some token → StandsIn spot.tokens spot.spans spot.number token → held ≡ token) → IsToldCut spot count m → IsToldOfSpot spot m
-spot_told spot count held m same first point (inl unknown) = inl unknown
-spot_told spot count held m same first point (inr tells) = inr (record { count = count; first = first; point = λ token there stands. same ∙ point token there stands; tells = tells })
+first_lack : (spot : Spot) (most : ℕ) (o : Option ℕ) → IfSome o (IsTurn (LacksNone spot) (LacksWidth spot) 0 most) → IfNone o (LacksNot spot most) → MatchOption o (LacksNot spot most) (LacksFirst spot)
+first_lack spot most None is none = none
+first_lack spot most (Some count) is none = record { lacks = is.yes; none = is.no }
 
-pub spot_told_if : (spot : Spot) (count held : ℕ) (r : Result Missing AllocError) → LacksFirst spot count
-    → ((token : ℕ) → slice_get (values_in spot) (count - 1) ≡ Some token → StandsIn spot.tokens spot.spans spot.number token → held ≡ token)
-    → IfOk r (λ m. m.token ≡ held) → IfOk r (IsToldCut spot count) → IfOk r (IsToldOfSpot spot)
-spot_told_if spot count held (Ok m) first point same told = spot_told spot count held m same first point told
-spot_told_if spot count held (Err e) first point same told = tt
+pub first_lack_if : (spot : Spot) (most : ℕ) (r : Result (Option ℕ) AllocError) → IfOk r (λ o. IfSome o (IsTurn (LacksNone spot) (LacksWidth spot) 0 most)) → IfOk r (λ o. IfNone o (LacksNot spot most))
+    → IfOk r (λ o. MatchOption o (LacksNot spot most) (LacksFirst spot))
+first_lack_if spot most (Ok o) is none = first_lack spot most o is none
+first_lack_if spot most (Err e) is none = tt
 
-pub first_lack : (spot : Spot) (low high : ℕ) (o : Option ℕ) → IfSome o (IsTurn (λ count. LacksNone spot count) (λ count. LacksWidth spot count) low high) → IfSome o (LacksFirst spot)
-first_lack spot low high None is = tt
-first_lack spot low high (Some count) is = record { lacks = is.yes; none = is.no }
+-- ---- of an item
+module _ (spot : Spot) where
+  spot_told : (count held : ℕ) (m : Missing) → m.token ≡ held → LacksFirst spot count
+      → ((token : ℕ) → slice_get (values_in spot) (count - 1) ≡ Some token → StandsIn spot.tokens spot.spans spot.number token → held ≡ token)
+      → (held ≡ first_of spot.tokens spot.spans spot.number) ⊎ (slice_get (values_in spot) (count - 1) ≡ Some held) → IsToldCut spot count m → IsToldOfSpot spot m
+  spot_told count held m same first point other told = inr (record {
+    count = count;
+    first = first;
+    point = λ token there stands. same ∙ point token there stands;
+    other = elim other [ inl at ↦ inl (same ∙ at) | inr there ↦ inr (there ∙ ap (λ (k : ℕ). Some k) (sym same)) ];
+    tells = told;
+  })
 
-module _ (text : List ℕ) (tokens : List Token) (spans : List Span) (equation number : ℕ) (item : Item) where
-  abbrev spot : Spot
-  spot = record { text = text; tokens = tokens; spans = spans; number = number; item = item }
+  pub spot_told_if : (count held : ℕ) (r : Result Missing AllocError) → LacksFirst spot count
+      → ((token : ℕ) → slice_get (values_in spot) (count - 1) ≡ Some token → StandsIn spot.tokens spot.spans spot.number token → held ≡ token)
+      → (held ≡ first_of spot.tokens spot.spans spot.number) ⊎ (slice_get (values_in spot) (count - 1) ≡ Some held)
+      → IfOk r (λ m. m.token ≡ held) → IfOk r (IsToldCut spot count) → IfOk r (IsToldOfSpot spot)
+  spot_told_if count held (Ok m) first point other same told = spot_told count held m same first point other told
+  spot_told_if count held (Err e) first point other same told = tt
 
-  item_told : (m : Missing) → IsManyWith text tokens spans equation number → IsItemOf text tokens spans number item → StandsIn tokens spans number m.token → IsToldOfSpot spot m → IsToldIn text tokens spans equation m
-  item_told m made is stands (inl unknown) = inl unknown
-  item_told m made is stands (inr tells) = inr (record { number = number; made = made; stands = stands; item = item; is = is; tells = tells })
-
-  pub found_told : (r : Result Missing AllocError) → IsManyWith text tokens spans equation number → IsItemOf text tokens spans number item
-      → IfOk r (λ m. StandsIn tokens spans number m.token) → IfOk r (IsToldOfSpot spot) → IfOk r (IsToldIn text tokens spans equation)
-  found_told (Ok m) made is stands told = item_told m made is stands told
-  found_told (Err e) made is stands told = tt
+module _ (text : List ℕ) (tokens : List Token) (spans : List Span) (equation number : ℕ) where
+  pub found_told : (item : Item) (r : Result Missing AllocError) → IsManyWith text tokens spans equation number → IsItemOf text tokens spans number item
+      → IfOk r (λ m. StandsIn tokens spans number m.token) → IfOk r (IsToldOfSpot (record { text = text; tokens = tokens; spans = spans; number = number; item = item }))
+      → IfOk r (IsToldIn text tokens spans equation)
+  found_told item (Ok m) made is stands told = record { number = number; made = made; stands = stands; tells = inr (record { item = item; is = is; tells = told }) }
+  found_told item (Err e) made is stands told = tt

@@ -16,7 +16,6 @@ use Rattle.pr_lens_find.specs.declared.equations.Made.{Made}
 use Rattle.pr_lens_find.specs.declared.equations.Made.TheVariants as made
 use Rattle.pr_lens_source.specs.declared.sources.Span.{Span}
 use Rattle.pr_lens_find.specs.Fronts.{Spot, IsUnread, WithCut, front_in}
-use Rattle.pr_lens_source.specs.Spans.{StandsIn}
 use Rattle.pr_lens_source.specs.Tokens.{front_text}
 use Rattle.pr_lens_find.specs.Turns.{IsItemWith}
 
@@ -133,9 +132,3 @@ abbrev pub IsManyWith : List ℕ → List Token → List Span → ℕ → ℕ �
 IsManyWith text tokens spans equation item =
     IsItemWith (λ items. HasNoMoreIn (front_text text tokens spans items) equation) (λ items. HasMoreIn (front_text text tokens spans items) (min equation 16384))
     (length spans) item
-
--- a token of that item
-pub record IsMadeAt (text : List ℕ) (tokens : List Token) (spans : List Span) (equation token : ℕ) : Type 0 where
-  pub item : ℕ
-  pub made : IsManyWith text tokens spans equation item
-  pub stands : StandsIn tokens spans item token

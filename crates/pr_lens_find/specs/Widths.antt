@@ -1,5 +1,5 @@
 -- Equations without widths, and what is told of them.
-use Rattle.std.specs.Prelude.{ℕ, ◌≡◌, ◌⊎◌, ◌-◌, ◌<◌, List, [], ◌∷◌, Option, None, Some, map, nat_lt, option_and_then, unwrap_or, if◌then◌else◌}
+use Rattle.std.specs.Prelude.{ℕ, ◌≡◌, ◌⊎◌, ◌-◌, ◌<◌, ◌≤◌, length, List, [], ◌∷◌, Option, None, Some, map, nat_lt, option_and_then, unwrap_or, if◌then◌else◌}
 use Rattle.std.specs.List.{slice_get}
 use Rattle.std.specs.Option.{option_map_or}
 use Rattle.pr_lang.specs.declared.tokens.Token.{Token}
@@ -17,8 +17,9 @@ use Rattle.pr_lens_find.specs.declared.widths.Extent.TheVariants as extent
 use Rattle.pr_lens_find.specs.declared.widths.Missing.{Missing}
 use Rattle.pr_lens_find.specs.Fronts.{Spot, IsUnread, WithCut, front_in}
 use Rattle.pr_lens_find.specs.Made.{HasFlat, HasMore, IsUnlawful, IsManyWith, values_cut}
-use Rattle.pr_lens_find.specs.Offences.{IsItemOf, values_in}
+use Rattle.pr_lens_find.specs.Offences.{HasNoItem, IsItemOf, values_in}
 use Rattle.pr_lens_source.specs.Spans.{StandsIn}
+use Rattle.pr_lens_source.specs.Tokens.{first_of}
 
 -- these equations have widths
 pub record HaveWidths (equations : List EquationShape) : Type 0 where
@@ -94,72 +95,114 @@ pub record Tells (equations before : List EquationShape) (number : ℕ) (missing
   pub op : missing.op ≡ Some equation.op
   pub widths : AreExtents equations before equation missing.widths.items
 
--- neither an operation nor widths
-pub record IsUnknown (missing : Missing) : Type 0 where
-  pub op : missing.op ≡ None
-  pub widths : missing.widths.items ≡ []
-
 -- of the first equation without a width, by the equations of one point less
 pub record TellsFirst (equations before : List EquationShape) (missing : Missing) : Type 0 where
   pub number : ℕ
   pub without : IsFirstWithout equations number
   pub tells : Tells equations before number missing
 
+-- neither an operation nor widths
+pub record IsUnknown (missing : Missing) : Type 0 where
+  pub op : missing.op ≡ None
+  pub widths : missing.widths.items ≡ []
+
+-- this alone, since all of them have widths
+pub record IsUntold (equations : List EquationShape) (missing : Missing) : Type 0 where
+  pub unknown : IsUnknown missing
+  pub have : HaveWidths equations
+
 abbrev pub IsToldOf : List EquationShape → List EquationShape → Missing → Type 0
-IsToldOf equations before missing = IsUnknown missing ⊎ TellsFirst equations before missing
+IsToldOf equations before missing = IsUntold equations missing ⊎ TellsFirst equations before missing
 
 -- ---- of the program of a text, cut off in the item behind it
--- with so many points of the item's expressions an equation has no width
+-- with so many points of the item's expressions these are its equations
+abbrev pub HasFlatWith : Spot → ℕ → Flat → Type 0
+HasFlatWith spot count flat = WithCut spot (values_cut count) (λ program. HasFlat program flat)
+
+-- there are none: they are more than are allowed, the items before cannot be read, or a rule of scope is broken
+abbrev pub HasNoFlatWith : Spot → ℕ → Type 0
+HasNoFlatWith spot count = WithCut spot (values_cut count) (λ program. HasMore program 16384) ⊎ (IsUnread (front_in spot) ⊎ WithCut spot (values_cut count) IsUnlawful)
+
+-- an equation has no width
 pub record LacksWidth (spot : Spot) (count : ℕ) : Type 0 where
   pub flat : Flat
-  pub has : WithCut spot (values_cut count) (λ program. HasFlat program flat)
+  pub has : HasFlatWith spot count flat
   pub number : ℕ
   pub without : IsFirstWithout (equations_of flat) number
 
 -- all have widths
 pub record HasAllWidths (spot : Spot) (count : ℕ) : Type 0 where
   pub flat : Flat
-  pub has : WithCut spot (values_cut count) (λ program. HasFlat program flat)
+  pub has : HasFlatWith spot count flat
   pub have : HaveWidths (equations_of flat)
 
 -- the same, or there are no equations
 abbrev pub LacksNone : Spot → ℕ → Type 0
-LacksNone spot count = HasAllWidths spot count ⊎ (WithCut spot (values_cut count) (λ program. HasMore program 16384) ⊎ (IsUnread (front_in spot) ⊎ WithCut spot (values_cut count) IsUnlawful))
+LacksNone spot count = HasAllWidths spot count ⊎ HasNoFlatWith spot count
 
 -- with so many points an equation has no width, and with one less none lacks one
 pub record LacksFirst (spot : Spot) (count : ℕ) : Type 0 where
   pub lacks : LacksWidth spot count
   pub none : LacksNone spot (count - 1)
 
+-- no such count up to this one is found: an equation has no width with no point, or none lacks one with so many
+abbrev pub LacksNot : Spot → ℕ → Type 0
+LacksNot spot most = LacksWidth spot 0 ⊎ ((most ≤ 0) ⊎ LacksNone spot most)
+
 pub record TellsCut (spot : Spot) (count : ℕ) (missing : Missing) : Type 0 where
   pub flat : Flat
-  pub has : WithCut spot (values_cut count) (λ program. HasFlat program flat)
+  pub has : HasFlatWith spot count flat
   pub before : Flat
-  pub had : WithCut spot (values_cut (count - 1)) (λ program. HasFlat program before)
+  pub had : HasFlatWith spot (count - 1) before
   pub tells : TellsFirst (equations_of flat) (equations_of before) missing
 
+-- neither an operation nor widths, since there are no equations with so many points, all of them have widths, or there are none
+-- with one point less
+pub data HasNothing (spot : Spot) (count : ℕ) : Type 0 where
+  NoFlat : HasNoFlatWith spot count → HasNothing spot count
+  AllHave : HasAllWidths spot count → HasNothing spot count
+  NoneBefore : HasNoFlatWith spot (count - 1) → HasNothing spot count
+
+pub record TellsNothing (spot : Spot) (count : ℕ) (missing : Missing) : Type 0 where
+  pub unknown : IsUnknown missing
+  pub why : HasNothing spot count
+
 abbrev pub IsToldCut : Spot → ℕ → Missing → Type 0
-IsToldCut spot count missing = IsUnknown missing ⊎ TellsCut spot count missing
+IsToldCut spot count missing = TellsNothing spot count missing ⊎ TellsCut spot count missing
 
 -- behind this many points of the item's expressions an equation has no width, and behind one less none lacks one; the token is
--- that of the last of them, where that stands in the item
+-- that of the last of them, where that stands in the item, or else the item's first
 pub record TellsSpot (spot : Spot) (missing : Missing) : Type 0 where
   pub count : ℕ
   pub first : LacksFirst spot count
   pub point : (token : ℕ) → slice_get (values_in spot) (count - 1) ≡ Some token → StandsIn spot.tokens spot.spans spot.number token → missing.token ≡ token
-  pub tells : TellsCut spot count missing
+  pub other : (missing.token ≡ first_of spot.tokens spot.spans spot.number) ⊎ (slice_get (values_in spot) (count - 1) ≡ Some missing.token)
+  pub tells : IsToldCut spot count missing
+
+-- the item's first token alone, since there is no such count of its points
+pub record TellsFirstToken (spot : Spot) (missing : Missing) : Type 0 where
+  pub first : missing.token ≡ first_of spot.tokens spot.spans spot.number
+  pub unknown : IsUnknown missing
+  pub why : LacksNot spot (length (values_in spot))
 
 abbrev pub IsToldOfSpot : Spot → Missing → Type 0
-IsToldOfSpot spot missing = IsUnknown missing ⊎ TellsSpot spot missing
+IsToldOfSpot spot missing = TellsFirstToken spot missing ⊎ TellsSpot spot missing
 
--- the same of the item that makes an equation
-pub record TellsItem (text : List ℕ) (tokens : List Token) (spans : List Span) (equation : ℕ) (missing : Missing) : Type 0 where
+-- the same of the item of this number
+pub record TellsItem (text : List ℕ) (tokens : List Token) (spans : List Span) (number : ℕ) (missing : Missing) : Type 0 where
+  pub item : Item
+  pub is : IsItemOf text tokens spans number item
+  pub tells : IsToldOfSpot (record { text = text; tokens = tokens; spans = spans; number = number; item = item }) missing
+
+-- its first token alone, since it cannot be read
+pub record TellsNoItem (text : List ℕ) (tokens : List Token) (spans : List Span) (number : ℕ) (missing : Missing) : Type 0 where
+  pub first : missing.token ≡ first_of tokens spans number
+  pub unknown : IsUnknown missing
+  pub why : HasNoItem text tokens spans number
+
+-- of the item that makes an equation
+pub record IsToldIn (text : List ℕ) (tokens : List Token) (spans : List Span) (equation : ℕ) (missing : Missing) : Type 0 where
   pub number : ℕ
   pub made : IsManyWith text tokens spans equation number
   pub stands : StandsIn tokens spans number missing.token
-  pub item : Item
-  pub is : IsItemOf text tokens spans number item
-  pub tells : TellsSpot (record { text = text; tokens = tokens; spans = spans; number = number; item = item }) missing
-
-abbrev pub IsToldIn : List ℕ → List Token → List Span → ℕ → Missing → Type 0
-IsToldIn text tokens spans equation missing = IsUnknown missing ⊎ TellsItem text tokens spans equation missing
+  pub tells : TellsNoItem text tokens spans number missing ⊎ TellsItem text tokens spans number missing

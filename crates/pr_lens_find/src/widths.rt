@@ -4,10 +4,9 @@ ghost use Rattle.std.specs.Prelude.{◌≡◌, ◌<◌, ◌≤◌, ◌⊎◌, �
 ghost use Rattle.pr_flat.specs.Flats.{equations_of};
 ghost use Rattle.pr_flat.specs.Shape.{equation_shape};
 ghost use Rattle.pr_flat.specs.Widths.{IsFirstWithout};
-ghost use Rattle.pr_lens_find.specs.Widths.{HaveWidths, AreCommon, AreExtentsOf, AreSame, AreSameAt, AreUntold, IsEquation, IsUnknown, IsToldOf, LacksWidth, LacksNone, LacksFirst, IsToldCut, IsToldOfSpot, IsToldIn, extent_of, telling_of};
+ghost use Rattle.pr_lens_find.specs.Widths.{HaveWidths, AreCommon, AreExtentsOf, AreSame, AreSameAt, AreUntold, IsEquation, IsUnknown, IsToldOf, HasFlatWith, HasNoFlatWith, LacksWidth, LacksNone, LacksNot, LacksFirst, IsToldCut, IsToldOfSpot, IsToldIn, extent_of, telling_of};
 ghost use Rattle.pr_lens_find.specs.Fronts.{spot_of};
 ghost use Rattle.pr_lens_source.specs.Spans.{StandsIn};
-ghost use Rattle.pr_lens_find.specs.Made.{IsMadeAt};
 
 use crate::counts::{numbered, short};
 use crate::equations::{Made, equations_item, made_with};
@@ -37,19 +36,30 @@ fn first_without(alloc: Global, flat: &Flat) -> Result<Option<u32>, AllocError>
     }
 }
 
+/// The equations with so many points of the item's expressions, where there are any.
+fn flat_with(alloc: Global, part: &Part, count: usize) -> Result<Option<Flat>, AllocError>
+    requires { length part.now.source.text.now ≤ 1048576 }
+    ensures { let spot = spot_of part.now in
+        IfOk result (λ found. MatchOption found (HasNoFlatWith spot count) (HasFlatWith spot count)) }
+{
+    match made_with(alloc, part, count)? {
+        Made::Flat(flat) => Ok(Some(flat)),
+        Made::TooMany | Made::Refused => Ok(None),
+    }
+}
+
 /// Whether some equation has no width with so many points of the item's expressions.
 fn lacks(alloc: Global, part: &Part, count: usize) -> Result<bool, AllocError>
     requires { length part.now.source.text.now ≤ 1048576 }
     ensures yes { IfOk result (λ answer. IsTrue answer → LacksWidth (spot_of part.now) count) }
     ensures no { IfOk result (λ answer. IsFalse answer → LacksNone (spot_of part.now) count) }
 {
-    match made_with(alloc, part, count)? {
-        Made::Flat(flat) => match first_without(alloc, &flat)? {
-            None => Ok(false),
-            Some(_equation) => Ok(true),
-        },
-        Made::TooMany => Ok(false),
-        Made::Refused => Ok(false),
+    let Some(flat) = flat_with(alloc, part, count)? else {
+        return Ok(false);
+    };
+    match first_without(alloc, &flat)? {
+        None => Ok(false),
+        Some(_equation) => Ok(true),
     }
 }
 
@@ -74,7 +84,8 @@ impl<'a> Question for Lacking<'a> {
 /// A count of points with which some equation of the item has no width, and with one less none lacks one.
 fn first_count(alloc: Global, part: &Part, most: usize) -> Result<Option<usize>, AllocError>
     requires { length part.now.source.text.now ≤ 1048576 }
-    ensures { IfOk result (λ found. IfSome found (LacksFirst (spot_of part.now))) }
+    ensures { let spot = spot_of part.now in
+        IfOk result (λ found. MatchOption found (LacksNot spot most) (LacksFirst spot)) }
 {
     let lacking = Lacking { part: *part };
     turn_between(alloc, &lacking, 0, most)
@@ -301,10 +312,10 @@ fn missing_at(alloc: Global, part: &Part, token: usize, count: usize) -> Result<
     ensures token { IfOk result (λ missing. missing.token ≡ token) }
     ensures told { IfOk result (IsToldCut (spot_of part.now) count) }
 {
-    let Made::Flat(flat) = made_with(alloc, part, count)? else {
+    let Some(flat) = flat_with(alloc, part, count)? else {
         return Ok(unknown(alloc, token));
     };
-    let Made::Flat(before) = made_with(alloc, part, count.saturating_sub(1))? else {
+    let Some(before) = flat_with(alloc, part, count.saturating_sub(1))? else {
         return Ok(unknown(alloc, token));
     };
     missing_in(alloc, token, &flat, &before)
@@ -332,13 +343,11 @@ fn missing_of(alloc: Global, part: &Part) -> Result<Missing, AllocError>
     }
 }
 
-/// Where the first equation without a width, which has this number, is made: the token of the first point with which it
-/// has none.
+/// Where the first equation without a width, which has this number, is made, and what is known of it: the token of the
+/// first point with which it has none.
 pub fn find_missing(alloc: Global, source: &Source, equation: usize) -> Result<Missing, AllocError>
     requires { length source.now.text.now ≤ 1048576 }
-    ensures made { IfOk result (λ missing.
-        IsMadeAt source.now.text.now source.now.tokens.now source.now.spans.now equation missing.token) }
-    ensures told { IfOk result
+    ensures { IfOk result
         (IsToldIn source.now.text.now source.now.tokens.now source.now.spans.now equation) }
 {
     let number = equations_item(alloc, source, equation)?;
