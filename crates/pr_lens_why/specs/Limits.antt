@@ -1,5 +1,5 @@
 -- What is told of a limit, and of a group that fits in no stripe.
-use Rattle.std.specs.Prelude.{ℕ, ◌-◌, ◌*◌, ◌^◌, ◌==◌, Bool, List, ◌++◌, codes, decimal, min, nat_lt, if◌then◌else◌}
+use Rattle.std.specs.Prelude.{ℕ, ◌-◌, ◌*◌, ◌^◌, ◌==◌, List, ◌++◌, codes, decimal, min, nat_lt, if◌then◌else◌}
 use Rattle.pr_base.specs.declared.caps.Cap.{Cap}
 use Rattle.pr_base.specs.declared.caps.Cap.TheVariants.{Nesting, Turns, Equations, InputBytes, Outputs}
 use Rattle.pr_lens_fits.specs.declared.groups.Unfit.{Unfit}

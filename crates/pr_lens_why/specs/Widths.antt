@@ -1,10 +1,10 @@
 -- What is told of an equation without a width.
-use Rattle.std.specs.Prelude.{ℕ, ◌+◌, ◌==◌, ◌||◌, Bool, true, false, List, [], ◌∷◌, ◌++◌, Option, None, Some, codes, decimal, length, if◌then◌else◌}
+use Rattle.std.specs.Prelude.{ℕ, ◌+◌, ◌==◌, Bool, true, false, List, [], ◌∷◌, ◌++◌, Option, None, Some, codes, decimal, if◌then◌else◌}
 use Rattle.std.specs.List.{list_any}
 use Rattle.pr_flat.specs.declared.equations.Op.{Op}
 use Rattle.pr_flat.specs.declared.equations.Op.TheVariants.{Choose, Slice, Rec}
 use Rattle.pr_lens_find.specs.declared.widths.Extent.{Extent}
-use Rattle.pr_lens_find.specs.declared.widths.Extent.TheVariants.{Bits, Past, Inside}
+use Rattle.pr_lens_find.specs.declared.widths.Extent.TheVariants.{Bits, Inside}
 use Rattle.pr_lens_find.specs.declared.widths.Missing.{Missing}
 
 -- ---- operands
