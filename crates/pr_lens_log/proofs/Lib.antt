@@ -1,5 +1,3 @@
 pub mod CycleLaws
 pub mod LineLaws
-pub mod PictureLaws
-pub mod WaveLaws
 pub mod WordLaws

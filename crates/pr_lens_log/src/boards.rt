@@ -9,7 +9,7 @@ use std::alloc::{AllocError, Global};
 /// The stage in each stripe, as cycles go by.
 #[derive(Drop)]
 pub struct Board {
-    stages: Vec<Option<u32>>,
+    pub stages: Vec<Option<u32>>,
 }
 
 impl Board {

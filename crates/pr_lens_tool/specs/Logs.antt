@@ -5,8 +5,8 @@ use Rattle.pr_tool_answers.specs.declared.answers.Answer.{Answer}
 use Rattle.pr_tool_modes.specs.Files.{IsText, IsLong}
 use Rattle.pr_lens_log.specs.declared.logs.Log.{Log}
 use Rattle.pr_lens_log.specs.Logs.{IsBadAt, IsLogOf}
-use Rattle.pr_lens_log.specs.Scenes.{wave_text}
-use Rattle.pr_lens_log.specs.Pictures.{chart_text}
+use Rattle.pr_lens_wave.specs.Scenes.{wave_text}
+use Rattle.pr_lens_chart.specs.Pictures.{chart_text}
 use Rattle.pr_lens_tool.specs.declared.orders.Drawing.{Drawing}
 use Rattle.pr_lens_tool.specs.declared.orders.Drawing.TheVariants.{Wave, Chart}
 use Rattle.pr_lens_tool.specs.declared.outcomes.Outcome.{Outcome}

@@ -9,7 +9,9 @@ ghost use Rattle.pr_lens_tool.specs.Logs.{HasLog, IsDrawing, IsNoLog, drawn_text
 use crate::orders::Drawing;
 use crate::outcomes::{Outcome, Output};
 use pr_edge::{ReadAll, Shelf, read_all};
-use pr_lens_log::{Log, LogFault, chart, read_log, wave};
+use pr_lens_chart::chart;
+use pr_lens_log::{Log, LogFault, read_log};
+use pr_lens_wave::wave;
 use pr_tool::Answer;
 use std::alloc::{AllocError, Global};
 

@@ -1,0 +1,11 @@
+use Rattle.std.proofs.lemmas.Result.{IfOk-from_err}
+use Rattle.pr_lens_chart.proofs.pieces.put_attribute.Goals as goal
+
+pub returns-in_err-put : goal.returns-in_err-put
+returns-in_err-put c = IfOk-from_err _ _ c.from_residual.ensures.0
+
+pub returns-in_err-put-2 : goal.returns-in_err-put-2
+returns-in_err-put-2 c = IfOk-from_err _ _ c.from_residual-in_err-put-2.ensures.0
+
+pub returns-in_err-put_counted : goal.returns-in_err-put_counted
+returns-in_err-put_counted c = IfOk-from_err _ _ c.from_residual-in_err-put_counted.ensures.0

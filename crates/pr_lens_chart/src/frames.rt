@@ -1,0 +1,185 @@
+//! What stands around the cells.
+
+ghost use Rattle.std.specs.Prelude.{◌≡◌, ◌++◌, OnOk, codes};
+ghost use Rattle.pr_lens_chart.specs.Pictures.{below, column_at, legend_text, legend_words, lower, picture_head, row_names, stage_key, stage_keys, stripe_name, stripe_names, style_text, svg_text};
+
+use crate::colours::put_fill;
+use crate::pieces::{Area, put_area, put_digits, put_words};
+use pr_lens_log::Log;
+use pr_lens_text::{put, put_counted};
+use std::alloc::AllocError;
+
+/// Where the cells begin, from the left.
+const LEFT: usize = 80;
+
+/// Where they begin, from the top.
+pub const TOP: usize = 44;
+
+/// How wide a column is.
+pub const WIDE: usize = 30;
+
+/// How high the row of a stripe is.
+pub const HIGH: usize = 26;
+
+/// The stages of a legend at most.
+const MOST_STAGES: usize = 16;
+
+/// Where the rows below the stripes begin.
+pub fn below(stripes: usize) -> usize
+    ensures { result ≡ below stripes }
+{
+    stripes.saturating_mul(HIGH).saturating_add(TOP)
+}
+
+/// Where the column of a cycle begins.
+pub fn column_at(number: usize) -> usize
+    ensures { result ≡ column_at number }
+{
+    number.saturating_mul(WIDE).saturating_add(LEFT)
+}
+
+/// Begins a picture of a size.
+#[tactic(auto, unfolding(crate::specs::Pictures::svg_text))]
+fn put_size(text: &mut Vec<u8>, width: usize, height: usize) -> Result<(), AllocError>
+    ensures { OnOk result (text.new.items ≡ text.old.items ++ svg_text width height) }
+{
+    put_counted(
+        text,
+        "<svg xmlns=\"http://www.w3.org/2000/svg\" width=\"",
+        width,
+    )?;
+    put_counted(text, "\" height=\"", height)?;
+    put(text, "\">\n<style>\n")
+}
+
+/// Adds how words look, and a white ground.
+#[tactic(auto, unfolding(crate::specs::Pictures::style_text))]
+fn put_style(text: &mut Vec<u8>) -> Result<(), AllocError>
+    ensures { OnOk result (text.new.items ≡ text.old.items ++ style_text) }
+{
+    put(
+        text,
+        "text { font-family: sans-serif; font-size: 12px; fill: #222 }\n",
+    )?;
+    put(
+        text,
+        ".n { text-anchor: middle } .b { text-anchor: middle; font-weight: bold; fill: #fff }\n",
+    )?;
+    put(text, ".s { font-size: 9px; fill: #222 }\n</style>\n")?;
+    put(
+        text,
+        "<rect width=\"100%\" height=\"100%\" fill=\"#fff\"/>\n",
+    )
+}
+
+/// Begins a picture of so many cycles.
+#[tactic(auto, unfolding(crate::specs::Pictures::picture_head))]
+pub fn put_head(text: &mut Vec<u8>, cycles: usize, stripes: usize) -> Result<(), AllocError>
+    ensures { OnOk result (text.new.items ≡ text.old.items ++ picture_head cycles stripes) }
+{
+    let width = cycles.saturating_mul(WIDE).saturating_add(LEFT + 20);
+    let height = below(stripes).saturating_add(130);
+    put_size(text, width.max(660), height)?;
+    put_style(text)?;
+    put_words(text, "t", 8, TOP - 12, "cycle")
+}
+
+/// Adds the name of a stripe.
+#[tactic(auto, unfolding(crate::specs::Pictures::stripe_name))]
+fn put_name(text: &mut Vec<u8>, stripe: usize) -> Result<(), AllocError>
+    ensures { OnOk result (text.new.items ≡ text.old.items ++ stripe_name stripe) }
+{
+    let y = below(stripe).saturating_add(17);
+    put_words(text, "t", 8, y, "stripe")?;
+    put_digits(text, "t", 50, y, stripe)
+}
+
+/// Adds the names of stripes.
+#[tactic(auto, using(crate::proofs::PictureLaws::names_more), unfolding(crate::specs::Pictures::stripe_names))]
+fn put_stripe_names(text: &mut Vec<u8>, stripes: usize) -> Result<(), AllocError>
+    ensures { OnOk result (text.new.items ≡ text.old.items ++ stripe_names stripes) }
+{
+    for stripe in 0..stripes {
+        put_name(text, stripe)?;
+    }
+    Ok(())
+}
+
+/// Adds the names of the rows.
+#[tactic(auto, unfolding(crate::specs::Pictures::row_names))]
+pub fn put_names(text: &mut Vec<u8>, stripes: usize) -> Result<(), AllocError>
+    ensures { OnOk result (text.new.items ≡ text.old.items ++ row_names stripes) }
+{
+    put_stripe_names(text, stripes)?;
+    let y = below(stripes);
+    put_words(text, "t", 8, y.saturating_add(17), "sample in")?;
+    put_words(text, "t", 8, y.saturating_add(37), "result out")
+}
+
+/// Adds the colour of a stage to the legend.
+#[tactic(auto, unfolding(crate::specs::Pictures::stage_key))]
+fn put_stage(text: &mut Vec<u8>, stage: usize, stages: usize, y: usize) -> Result<(), AllocError>
+    ensures { OnOk result (text.new.items ≡ text.old.items ++ stage_key stages y stage) }
+{
+    let x = column_at(stage);
+    let area = Area {
+        x,
+        y,
+        width: 24,
+        height: 18,
+    };
+    put_area(text, area)?;
+    put_fill(text, stage, stages, true)?;
+    put_digits(text, "n", x.saturating_add(12), y.saturating_add(13), stage)
+}
+
+/// Adds the colours of the first so many stages.
+#[tactic(auto, using(crate::proofs::PictureLaws::keys_more), unfolding(crate::specs::Pictures::stage_keys))]
+fn put_keys(text: &mut Vec<u8>, shown: usize, stages: usize, y: usize) -> Result<(), AllocError>
+    ensures { OnOk result (text.new.items ≡ text.old.items ++ stage_keys shown stages y) }
+{
+    for stage in 0..shown {
+        put_stage(text, stage, stages, y)?;
+    }
+    Ok(())
+}
+
+/// Adds what the colours and marks mean.
+#[tactic(auto, unfolding(crate::specs::Pictures::legend_words))]
+fn put_meaning(text: &mut Vec<u8>, y: usize) -> Result<(), AllocError>
+    ensures { OnOk result (text.new.items ≡ text.old.items ++ legend_words y) }
+{
+    put_words(
+        text,
+        "t",
+        8,
+        y,
+        "dark: the stage comes into the stripe; pale: it computes; a black corner: the state of the stage",
+    )?;
+    put_words(
+        text,
+        "t",
+        8,
+        y.saturating_add(18),
+        "before is saved; grey: the cycle is stalled, and nothing moves",
+    )
+}
+
+/// Adds the legend.
+#[tactic(auto, unfolding(crate::specs::Pictures::legend_text))]
+pub fn put_legend(text: &mut Vec<u8>, log: &Log) -> Result<(), AllocError>
+    ensures { OnOk result (text.new.items ≡ text.old.items
+        ++ legend_text log.now.stages (lower (below log.now.stripes) 56)) }
+{
+    let y = below(log.stripes).saturating_add(56);
+    put_words(text, "t", 8, y.saturating_add(13), "stage")?;
+    put_keys(text, log.stages.min(MOST_STAGES), log.stages, y)?;
+    put_meaning(text, y.saturating_add(38))
+}
+
+/// Ends the picture.
+pub fn put_end(text: &mut Vec<u8>) -> Result<(), AllocError>
+    ensures { OnOk result (text.new.items ≡ text.old.items ++ codes "</svg>\n") }
+{
+    put(text, "</svg>\n")
+}

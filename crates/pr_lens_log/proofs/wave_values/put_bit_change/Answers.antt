@@ -1,8 +1,0 @@
-use Rattle.std.proofs.lemmas.Result.{IfOk-from_err}
-use Rattle.pr_lens_log.proofs.wave_values.put_bit_change.Goals as goal
-
-pub returns-in_err-put : goal.returns-in_err-put
-returns-in_err-put c = IfOk-from_err _ _ c.from_residual.ensures.0
-
-pub returns-in_err-put_name : goal.returns-in_err-put_name
-returns-in_err-put_name c = IfOk-from_err _ _ c.from_residual-in_err-put_name.ensures.0
