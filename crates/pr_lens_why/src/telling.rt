@@ -2,7 +2,7 @@
 
 ghost use Rattle.std.specs.Prelude.{◌≡◌, ◌≤◌, ◌++◌, false, length, IfOk, IsFalse, IsTrue, OnOk};
 ghost use Rattle.pr_compile.specs.Refusals.{IsCompileAnswer};
-ghost use Rattle.pr_lens_why.specs.Messages.{HasConfiguration, HasRefusal, Tells, TellsFit, TellsHelp, TellsLimit, TellsNarrow, TellsRule, TellsWide, TellsWidth};
+ghost use Rattle.pr_lens_why.specs.Messages.{HasConfiguration, HasRefusal, Tells, TellsFit, TellsHelp, TellsLimit, TellsNarrow, TellsRule, TellsSyntax, TellsWide, TellsWidth};
 ghost use Rattle.pr_lens_why.specs.Places.{IsLimitItem, IsLimitToken};
 ghost use Rattle.pr_lens_why.specs.Verdicts.{PointsRight};
 
@@ -205,6 +205,22 @@ fn tell_limit<const N: usize, const P: usize>(
     limit_token(alloc, source, narrowed, N, cap)
 }
 
+/// Tells what could have stood in the place of a wrong token; the token to look at, which is this one.
+fn tell_syntax(
+    alloc: Global,
+    message: &mut Vec<u8>,
+    source: &Source,
+    wrong: usize,
+) -> Result<usize, AllocError>
+    requires { length source.now.text.now ≤ 1048576 }
+    ensures token { IfOk result (λ token. token ≡ wrong) }
+    ensures tells { OnOk result (TellsSyntax source.now.text.now source.now.tokens.now wrong
+        message.old.items message.new.items) }
+{
+    syntax::tell(alloc, message, source, wrong)?;
+    Ok(wrong)
+}
+
 /// Tells which rule of scope an item breaks; the token to look at.
 fn tell_scope(
     alloc: Global,
@@ -259,10 +275,7 @@ pub fn tell<const N: usize, const P: usize>(
         message.old.items message.new.items) }
 {
     match fault {
-        CompileFault::Syntax { token } => {
-            syntax::tell(alloc, message, source, *token as usize)?;
-            Ok(*token as usize)
-        }
+        CompileFault::Syntax { token } => { tell_syntax(alloc, message, source, *token as usize) }
         CompileFault::Scope { rule, item } => {
             tell_scope(alloc, message, source, *rule, *item as usize)
         }
