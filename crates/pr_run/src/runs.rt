@@ -69,6 +69,8 @@ impl<'a> Walk<'a> {
 ///
 /// After a write fault the first bytes of the text are written, and the machine may hold results. The stall text and
 /// the room are changed by every run.
+// It stands apart: where it is inlined, the machine's fields are held in more registers than there are.
+#[inline(never)]
 pub fn run<const N: usize, const P: usize, S: Shelf, K: Sink>(
     machine: &mut Machine<N, P, Running>,
     feed: &mut Feed,

@@ -44,16 +44,17 @@ pub struct Gather {
 }
 
 /// A stage of 16 columns, as whole rows.
+///
+/// In this order of the fields each row begins at a multiple of 16 bytes where the stage lies in an `Option`, so that no row
+/// lies in two lines of the cache.
 #[derive(Drop)]
 pub struct Prepared {
+    pub rounds: usize,
     pub both: Gather,
     pub rest: Gather,
-    pub off: Table,
-    pub on: Table,
     pub c_bits: [u8; 16],
     pub c_carry: [u8; 16],
     pub from_c: [u8; 16],
-    pub shifts: [u16; 16],
     pub low: [u8; 16],
     pub zeros: [u8; 16],
     pub cin: [u8; 16],
@@ -62,14 +63,16 @@ pub struct Prepared {
     pub to_output: [u8; 16],
     pub to_a: [u8; 16],
     pub levels: [u8; 16],
-    pub marks: Vec<u8>,
-    pub rounds: usize,
+    pub shifts: [u16; 16],
+    pub off: Table,
     pub has_rest: bool,
     pub has_c: bool,
     pub has_carry: bool,
     pub has_sums: bool,
     pub has_state: bool,
     pub reach: usize,
+    pub on: Table,
+    pub marks: Vec<u8>,
     pub ghost terms_in: { All (λ t. t.from + 16 ≤ reach) both.terms.items },
     pub ghost rest_in: { All (λ t. t.from + 16 ≤ reach) rest.terms.items },
 }
