@@ -2,6 +2,7 @@ use Rattle.std.proofs.Common.{◌≡◌, ◌<◌, ◌∙◌, length, refl, subst
 use Rattle.pr_edge.specs.Files.{Told, OfFile, IsPart}
 use Rattle.pr_samples.specs.declared.tails.Tail.{Tail}
 use Rattle.pr_samples.specs.Feed.{name_of}
+use Rattle.std.proofs.lemmas.Grind.{common_steps}
 use Rattle.pr_samples.proofs.SeenLemmas.{reads_more}
 use Rattle.pr_samples.proofs.feed.Feed.is_too_long.Goals as goal
 
@@ -30,3 +31,20 @@ loop-shelf-preserved g c =
       same = c.read_at.ensures.same ∙ c.loop-shelf.invariant.same;
       others = λ q other. c.read_at.ensures.others q (rw named other) ∙ c.loop-shelf.invariant.others q other;
     }
+
+pub loop-shelf-smaller : goal.loop-shelf-smaller
+loop-shelf-smaller g c = grind (arith, common_steps)
+
+pub returns-in_err-count-clause-file : goal.returns-in_err-count-clause-file
+returns-in_err-count-clause-file g c = record {
+  name = c.loop-shelf.invariant.file.name;
+  widths = c.loop-shelf.invariant.file.widths;
+  limit = c.loop-shelf.invariant.file.limit;
+  most = c.loop-shelf.invariant.file.most;
+}
+
+pub returns-in_err-count-clause-same : goal.returns-in_err-count-clause-same
+returns-in_err-count-clause-same g c = c.read_at.ensures.same ∙ c.loop-shelf.invariant.same
+
+pub returns-in_err-count-clause-later : goal.returns-in_err-count-clause-later
+returns-in_err-count-clause-later g c = omega (arith, c.loop-shelf.invariant.later, c.read_at.ensures.later)

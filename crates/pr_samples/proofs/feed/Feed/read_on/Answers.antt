@@ -9,6 +9,7 @@ use Rattle.pr_samples.proofs.ReadingLemmas.{put-whole}
 use Rattle.pr_samples.proofs.Reading.{read_step, move_step, found_step, fault_step, wrong_step, raised-here}
 use Rattle.pr_samples.proofs.SeenLemmas.{reads_more, seen_same}
 use Rattle.std.proofs.lemmas.Bool.{false≢true}
+use Rattle.std.proofs.lemmas.Grind.{common_steps}
 use Rattle.pr_samples.proofs.feed.Feed.read_on.Goals as goal
 
 pub returns-then-is_wrong-clause-seen : goal.returns-then-is_wrong-clause-seen
@@ -129,3 +130,6 @@ returns-clause-seen g c = λ bytes seen.
           (let read = subst (λ (ws : List ℕ). IsReadBy f (scan_of ws f.numbers.items c.loop-cursor.cursor) file) (sym c.loop-cursor.invariant.file.widths) (on.holds file (rw tail at begins) reads) in
           rw c.loop-cursor.invariant.given at (c.finish.ensures.told file read));
     }
+
+pub loop-cursor-smaller : goal.loop-cursor-smaller
+loop-cursor-smaller g c = grind (arith, common_steps)

@@ -1,0 +1,8 @@
+use Rattle.std.proofs.Common.{arith}
+use Rattle.std.proofs.lemmas.Grind.{common_steps}
+use Rattle.pr_lens_graph.specs.Nodes.{node_text}
+use Rattle.pr_lens_graph.proofs.stages.put_node.Goals as goal
+
+pub returns : goal.returns
+unfolding node_text
+returns c = grind (arith, common_steps)
