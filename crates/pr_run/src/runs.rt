@@ -21,8 +21,7 @@ use pr_samples::{Feed, Got, Stall};
 
 impl<'a> Walk<'a> {
     /// Makes the turns of a run until it is over.
-    #[inline(always)]
-    fn turn_on<const N: usize, const P: usize, S: Shelf, K: Sink>(
+    fn take_turns<const N: usize, const P: usize, S: Shelf, K: Sink>(
         &mut self,
         machine: &mut Machine<N, P, Running>,
         feed: &mut Feed,
@@ -58,39 +57,6 @@ impl<'a> Walk<'a> {
             }
             asked += 1;
         }
-    }
-
-    /// The same. Where no log is asked for, the turns have code of their own, in which nothing of a line is put together.
-    fn take_turns<const N: usize, const P: usize, S: Shelf, K: Sink>(
-        &mut self,
-        machine: &mut Machine<N, P, Running>,
-        feed: &mut Feed,
-        shelf: &mut S,
-        stall: &mut Stall,
-        out: &mut K,
-    ) -> Result<Finished, WriteFault>
-        requires loaded { Stands machine.old (conf_of machine.old) (stripes_of machine.old) [] }
-        requires fresh { IsFresh feed.old }
-        requires inputs { widths_of feed.old ≡ (conf_of machine.old).inputs }
-        requires outputs { self.old.widths.now ≡ output_widths (conf_of machine.old) }
-        requires turns { length (turns_left stall.old) ≤ 1048576 }
-        requires first { self.old.last ≡ Got.Sample }
-        ensures ended { (s : Setting)
-            → s ≡ setting_of machine.old stall.old feed.old
-            (view (S.told shelf.old) (S.reach shelf.old) (S.faults shelf.old)) (K.told out.old) self.old.log
-            → IsEnded s machine.new feed.new
-            (view (S.told shelf.new) (S.reach shelf.new) (S.faults shelf.new)) (K.told out.new) result }
-        ensures last { IfOk result (λ e. is_sample e.last ≡ false) }
-        ensures asked { IfOk result (λ e. time_of machine.new ≤ e.asked) }
-        ensures conf { machine.new.parts.conf ≡ machine.old.parts.conf }
-        ensures stripes { stripes_of machine.new ≡ stripes_of machine.old }
-        ensures cause { OnErr result (Rose (K.faults out.old) (K.faults out.new)) }
-        ensures later { K.faults out.old ≤ K.faults out.new }
-    {
-        if self.log {
-            return self.turn_on(machine, feed, shelf, stall, out);
-        }
-        self.turn_on(machine, feed, shelf, stall, out)
     }
 }
 

@@ -6,7 +6,7 @@ use Rattle.pr_machine.specs.Stands.{conf_of, stripes_of, time_of}
 use Rattle.pr_run_script.specs.Script.{begun, turns}
 use Rattle.pr_run.specs.Setting.{view, setting_of, stall_turns}
 use Rattle.pr_run.specs.Turns.{IsOn}
-use Rattle.pr_run.proofs.turning.Walk.turn_on.Given as goal
+use Rattle.pr_run.proofs.turning.Walk.take_turns.Given as goal
 
 abbrev pub invariant-loop-now : goal.invariant-loop-now
 invariant-loop-now g l = record {

@@ -9,7 +9,7 @@ use Rattle.pr_run.specs.Setting.{Setting, IsSet, view, setting_of, stages_of}
 use Rattle.pr_run.specs.Turns.{IsOn, IsCut}
 use Rattle.pr_run.specs.Runs.{IsFinished, script_run}
 use Rattle.pr_run.proofs.WholeRuns.{set_of, on_start, time_start, turn_now, left_more, few_turns, turns_fit, done_whole, cut_whole}
-use Rattle.pr_run.proofs.turning.Walk.turn_on.Goals as goal
+use Rattle.pr_run.proofs.turning.Walk.take_turns.Goals as goal
 
 pub loop-now-init : goal.loop-now-init
 loop-now-init g c =
