@@ -44,9 +44,7 @@ pub struct Gather {
 }
 
 /// A stage of 16 columns, as whole rows.
-///
-/// In this order of the fields each row begins at a multiple of 16 bytes where the stage lies in an `Option`, so that no row
-/// lies in two lines of the cache.
+// In this order of the fields each row begins at a multiple of 16 bytes from the start of an `Option` of a stage.
 #[derive(Drop)]
 pub struct Prepared {
     pub rounds: usize,

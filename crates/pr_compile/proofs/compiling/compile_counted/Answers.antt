@@ -1,5 +1,5 @@
 use Rattle.std.proofs.Common.{arith}
-use Rattle.std.proofs.lemmas.Result.{err_from_is_err_and, IfOk-from_err}
+use Rattle.std.proofs.lemmas.Result.{err_from_is_err_and}
 use Rattle.pr_compile.proofs.Steps.{front_answer, net_answer, at_exit}
 use Rattle.pr_compile.proofs.compiling.compile_counted.Goals as goal
 
@@ -18,15 +18,3 @@ returns-in_err-compiled-clause-refused g c =
     let p = err_from_is_err_and c.from_residual-in_err-compiled.result c.from_residual-in_err-compiled.ensures.1 in
     let front = c.in_ok-front.front in
     at_exit g.row.N g.row.P c.args.narrowed c.args.text.now c.from_residual-in_err-compiled.result _ p (net_answer g.row.N g.row.P c.args.narrowed c.args.text.now front.scoped.program front.widths _ c.in_ok-front.ensures.passed.widths c.in_err-compiled.ensures.refused)
-
-pub returns-in_err-front-clause-compiled : goal.returns-in_err-front-clause-compiled
-returns-in_err-front-clause-compiled g c = IfOk-from_err _ _ c.from_residual.ensures.0
-
-pub returns-in_err-front-clause-units : goal.returns-in_err-front-clause-units
-returns-in_err-front-clause-units g c = IfOk-from_err _ _ c.from_residual.ensures.0
-
-pub returns-in_err-compiled-clause-compiled : goal.returns-in_err-compiled-clause-compiled
-returns-in_err-compiled-clause-compiled g c = IfOk-from_err _ _ c.from_residual-in_err-compiled.ensures.0
-
-pub returns-in_err-compiled-clause-units : goal.returns-in_err-compiled-clause-units
-returns-in_err-compiled-clause-units g c = IfOk-from_err _ _ c.from_residual-in_err-compiled.ensures.0

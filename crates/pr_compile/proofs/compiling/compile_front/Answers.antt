@@ -1,5 +1,5 @@
 use Rattle.std.proofs.Common.{length, List, ℕ, ◌≡◌, true, false, arith}
-use Rattle.std.proofs.lemmas.Result.{IfOk-weaker, IfErr-weaker, err_from_is_err_and, IfOk-from_err}
+use Rattle.std.proofs.lemmas.Result.{IfOk-weaker, IfErr-weaker, err_from_is_err_and}
 use Rattle.pr_flat.specs.declared.equations.Operand.{Operand}
 use Rattle.pr_flat.specs.Shape.{EquationShape, shapes_of}
 use Rattle.pr_cut_units.specs.Nets.{net_of}
@@ -57,9 +57,3 @@ returns-clause-refused g c =
     rw c.if-not-narrowed.false
     (IfErr-weaker c.configure-2.result (IsNetAnswer g.row.N g.row.P (net_of (shapes_of flat.equations.items) widths flat.outputs.items)) (IsFrontAnswer g.row.N g.row.P true front.scoped.program front.widths)
     (λ e h. narrowed_answer g.row.N g.row.P front.scoped.program front.flat front.widths c.requires.equations c.requires.widths flat widths c.in_ok-flat.ensures.narrowed c.in_ok-flat.ensures.outputs e h) c.configure-2.ensures.refused)
-
-pub returns-in_err-flat-clause-configured : goal.returns-in_err-flat-clause-configured
-returns-in_err-flat-clause-configured g c = IfOk-from_err _ _ c.from_residual.ensures.0
-
-pub returns-in_err-flat-clause-units : goal.returns-in_err-flat-clause-units
-returns-in_err-flat-clause-units g c = IfOk-from_err _ _ c.from_residual.ensures.0

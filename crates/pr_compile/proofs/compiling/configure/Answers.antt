@@ -1,5 +1,5 @@
 use Rattle.std.proofs.Common.{arith, Err, ap}
-use Rattle.std.proofs.lemmas.Result.{err_from_is_err_and, IfOk-from_err}
+use Rattle.std.proofs.lemmas.Result.{err_from_is_err_and}
 use Rattle.pr_compile.proofs.Steps.{cut_lawful, cut_answer, at_net_exit}
 use Rattle.pr_compile.proofs.compiling.configure.Goals as goal
 
@@ -15,21 +15,3 @@ pub returns-in_err-net-clause-refused : goal.returns-in_err-net-clause-refused
 returns-in_err-net-clause-refused g c =
     let p = err_from_is_err_and c.from_residual.result c.from_residual.ensures.1 in
     at_net_exit g.row.N g.row.P _ c.from_residual.result _ p (cut_answer g.row.N g.row.P _ _ (λ cap e. c.in_err-net.ensures.refused cap (ap Err e)))
-
-pub returns-in_err-net-clause-configured : goal.returns-in_err-net-clause-configured
-returns-in_err-net-clause-configured g c = IfOk-from_err _ _ c.from_residual.ensures.0
-
-pub returns-in_err-net-clause-units : goal.returns-in_err-net-clause-units
-returns-in_err-net-clause-units g c = IfOk-from_err _ _ c.from_residual.ensures.0
-
-pub returns-in_err-placement-clause-configured : goal.returns-in_err-placement-clause-configured
-returns-in_err-placement-clause-configured g c = IfOk-from_err _ _ c.from_residual-in_err-placement.ensures.0
-
-pub returns-in_err-placement-clause-units : goal.returns-in_err-placement-clause-units
-returns-in_err-placement-clause-units g c = IfOk-from_err _ _ c.from_residual-in_err-placement.ensures.0
-
-pub returns-in_err-conf-clause-configured : goal.returns-in_err-conf-clause-configured
-returns-in_err-conf-clause-configured g c = IfOk-from_err _ _ c.from_residual-in_err-conf.ensures.0
-
-pub returns-in_err-conf-clause-units : goal.returns-in_err-conf-clause-units
-returns-in_err-conf-clause-units g c = IfOk-from_err _ _ c.from_residual-in_err-conf.ensures.0

@@ -1,5 +1,4 @@
 use Rattle.std.proofs.Common.{arith, refl, append_assoc, append-nil}
-use Rattle.std.proofs.lemmas.Result.{IfOk-from_err}
 use Rattle.pr_gen.proofs.TextsLemmas.{sample_lines-none, sample_lines-more}
 use Rattle.pr_gen.proofs.lines.put_samples.Goals as goal
 
@@ -10,9 +9,3 @@ pub loop-j-preserved : goal.loop-j-preserved
 loop-j-preserved c =
     let more = sample_lines-more c.loop-j.j in
     rw more (grind (arith, append_assoc))
-
-pub returns-in_err-extend_from_slice : goal.returns-in_err-extend_from_slice
-returns-in_err-extend_from_slice c = IfOk-from_err _ _ c.from_residual.ensures.0
-
-pub returns-in_err-extend_from_slice-2 : goal.returns-in_err-extend_from_slice-2
-returns-in_err-extend_from_slice-2 c = IfOk-from_err _ _ c.from_residual-in_err-extend_from_slice-2.ensures.0
