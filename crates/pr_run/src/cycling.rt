@@ -53,16 +53,15 @@ fn write_line<K: Sink>(out: &mut K, turn: &Turn, time: u64, state: &[u8]) -> Res
 
 /// Asks the machine for one cycle, and writes its line where the log is asked for.
 #[inline(always)]
-pub fn cycle_step<const N: usize, const P: usize, K: Sink>(
+pub fn cycle_step<const N: usize, const P: usize, K: Sink, const LOG: bool>(
     machine: &mut Machine<N, P, Running>,
     out: &mut K,
-    log: bool,
 ) -> Result<(), WriteFault>
     requires { time_of machine.old < 2 ^ 63 }
-    ensures done { (s : Setting) (h : History) → IsSet s → (s.log ≡ log)
+    ensures done { (s : Setting) (h : History) → IsSet s → (s.log ≡ LOG)
         → HasDone s machine.old (K.told out.old) h
         → OnOk result (HasDone s machine.new (K.told out.new) (h ++ Cycle ∷ [])) }
-    ensures begun { (s : Setting) (h : History) → IsSet s → (s.log ≡ log)
+    ensures begun { (s : Setting) (h : History) → IsSet s → (s.log ≡ LOG)
         → HasDone s machine.old (K.told out.old) h
         → OnErr result (HasBegun s machine.new (K.told out.new) (h ++ Cycle ∷ [])) }
     ensures conf { machine.new.parts.conf ≡ machine.old.parts.conf }
@@ -73,7 +72,7 @@ pub fn cycle_step<const N: usize, const P: usize, K: Sink>(
 {
     let time = machine.time();
     let turn = machine.cycle();
-    if !log {
+    if !LOG {
         return Ok(());
     }
     write_line(out, &turn, time, saved_row(machine, turn.saved))

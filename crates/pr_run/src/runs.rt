@@ -20,7 +20,47 @@ use pr_machine::{Machine, Running};
 use pr_samples::{Feed, Got, Stall};
 
 impl<'a> Walk<'a> {
-    /// Makes the turns of a run until it is over.
+    /// Makes the turns of a run until it is over. `LOG` says whether the log is asked for: a run without one has turns of
+    /// its own, in which nothing is put together that only a line of the log needs.
+    fn turn_until_over<const N: usize, const P: usize, S: Shelf, K: Sink, const LOG: bool>(
+        &mut self,
+        machine: &mut Machine<N, P, Running>,
+        feed: &mut Feed,
+        shelf: &mut S,
+        stall: &mut Stall,
+        out: &mut K,
+    ) -> Result<Finished, WriteFault>
+        requires loaded { Stands machine.old (conf_of machine.old) (stripes_of machine.old) [] }
+        requires fresh { IsFresh feed.old }
+        requires inputs { widths_of feed.old ≡ (conf_of machine.old).inputs }
+        requires outputs { self.old.widths.now ≡ output_widths (conf_of machine.old) }
+        requires turns { length (turns_left stall.old) ≤ 1048576 }
+        requires first { self.old.last ≡ Got.Sample }
+        ensures ended { (s : Setting)
+            → s ≡ setting_of machine.old stall.old feed.old
+            (view (S.told shelf.old) (S.reach shelf.old) (S.faults shelf.old)) (K.told out.old) LOG
+            → IsEnded s machine.new feed.new
+            (view (S.told shelf.new) (S.reach shelf.new) (S.faults shelf.new)) (K.told out.new) result }
+        ensures last { IfOk result (λ e. is_sample e.last ≡ false) }
+        ensures asked { IfOk result (λ e. time_of machine.new ≤ e.asked) }
+        ensures conf { machine.new.parts.conf ≡ machine.old.parts.conf }
+        ensures stripes { stripes_of machine.new ≡ stripes_of machine.old }
+        ensures cause { OnErr result (Rose (K.faults out.old) (K.faults out.new)) }
+        ensures later { K.faults out.old ≤ K.faults out.new }
+    {
+        let mut asked = 0;
+        loop {
+            let held = stall.next();
+            match self.turn::<N, P, S, K, LOG>(machine, feed, shelf, out, held) {
+                Turned::On { last: now } => self.last = now,
+                Turned::Over { last } => return Ok(Finished { last, asked }),
+                Turned::Failed => return Err(WriteFault),
+            }
+            asked += 1;
+        }
+    }
+
+    /// Makes the turns of a run until it is over, with the lines of the log where it is asked for.
     fn take_turns<const N: usize, const P: usize, S: Shelf, K: Sink>(
         &mut self,
         machine: &mut Machine<N, P, Running>,
@@ -47,15 +87,10 @@ impl<'a> Walk<'a> {
         ensures cause { OnErr result (Rose (K.faults out.old) (K.faults out.new)) }
         ensures later { K.faults out.old ≤ K.faults out.new }
     {
-        let mut asked = 0;
-        loop {
-            let held = stall.next();
-            match self.turn(machine, feed, shelf, out, held) {
-                Turned::On { last: now } => self.last = now,
-                Turned::Over { last } => return Ok(Finished { last, asked }),
-                Turned::Failed => return Err(WriteFault),
-            }
-            asked += 1;
+        if self.log {
+            self.turn_until_over::<N, P, S, K, true>(machine, feed, shelf, stall, out)
+        } else {
+            self.turn_until_over::<N, P, S, K, false>(machine, feed, shelf, stall, out)
         }
     }
 }

@@ -48,15 +48,14 @@ fn is_over<const N: usize, const P: usize>(
 
 /// The end of a turn: the run is over, or the machine is asked for one cycle.
 #[inline(always)]
-fn close_turn<const N: usize, const P: usize, K: Sink>(
+fn close_turn<const N: usize, const P: usize, K: Sink, const LOG: bool>(
     machine: &mut Machine<N, P, Running>,
     feed: &Feed,
     out: &mut K,
-    log: bool,
     last: Got,
 ) -> Turned
     requires { time_of machine.old < 2 ^ 63 }
-    ensures after { (s : Setting) (first runs next : List (List ℕ) → Run (List ℕ)) (now : View) → IsSet s → s.log ≡ log
+    ensures after { (s : Setting) (first runs next : List (List ℕ) → Run (List ℕ)) (now : View) → IsSet s → s.log ≡ LOG
         → ((xs : List (List ℕ)) → (runs xs).over ≡ false
         → ((first xs).over ≡ false) × (next xs ≡ closed (stages_of s) s.stripes (runs xs)))
         → IsOn s runs machine.old feed.now now (K.told out.old) last
@@ -70,7 +69,7 @@ fn close_turn<const N: usize, const P: usize, K: Sink>(
     if is_over(machine, feed, last) {
         return Turned::Over { last };
     }
-    match cycle_step(machine, out, log) {
+    match cycle_step::<N, P, K, LOG>(machine, out) {
         Ok(()) => Turned::On { last },
         Err(_) => Turned::Failed,
     }
@@ -93,7 +92,7 @@ impl<'a> Walk<'a> {
     /// One turn: a sample is read and offered, all waiting results are taken and written, and where the run is not over
     /// then, the machine is asked for one cycle.
     #[inline(always)]
-    pub fn turn<const N: usize, const P: usize, S: Shelf, K: Sink>(
+    pub fn turn<const N: usize, const P: usize, S: Shelf, K: Sink, const LOG: bool>(
         &mut self,
         machine: &mut Machine<N, P, Running>,
         feed: &mut Feed,
@@ -104,13 +103,12 @@ impl<'a> Walk<'a> {
         requires inputs { widths_of feed.old ≡ (conf_of machine.old).inputs }
         requires outputs { self.old.widths.now ≡ output_widths (conf_of machine.old) }
         requires time { time_of machine.old < 2 ^ 63 }
-        ensures after { (s : Setting) (first next : List (List ℕ) → Run (List ℕ)) → IsSet s → s.log ≡ self.old.log
+        ensures after { (s : Setting) (first next : List (List ℕ) → Run (List ℕ)) → IsSet s → s.log ≡ LOG
             → ((xs : List (List ℕ)) → next xs ≡ turned (stages_of s) s.stripes (held_of held) (first xs))
             → IsOn s first machine.old feed.old
             (view (S.told shelf.old) (S.reach shelf.old) (S.faults shelf.old)) (K.told out.old) self.old.last
             → IsTurned s first next machine.new feed.new
             (view (S.told shelf.new) (S.reach shelf.new) (S.faults shelf.new)) (K.told out.new) result }
-        ensures log { self.new.log ≡ self.old.log }
         ensures widths { self.new.widths.now ≡ self.old.widths.now }
         ensures inputs { widths_of feed.new ≡ widths_of feed.old }
         ensures conf { machine.new.parts.conf ≡ machine.old.parts.conf }
@@ -122,7 +120,7 @@ impl<'a> Walk<'a> {
         let room = &mut *self.room;
         let last = feed_step(machine, feed, shelf, room, held.input, self.last);
         match drain_step(machine, out, self.widths, &mut room.result, held.output) {
-            Ok(()) => close_turn(machine, feed, out, self.log, last),
+            Ok(()) => close_turn::<N, P, K, LOG>(machine, feed, out, last),
             Err(_) => Turned::Failed,
         }
     }

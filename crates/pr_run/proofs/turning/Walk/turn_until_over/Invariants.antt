@@ -1,3 +1,5 @@
+use lib.Dec.{eqb}
+use mathlib.Core.Bool.{not}
 use Rattle.std.proofs.Common.{◌≡◌, ◌+◌, ◌-◌, ◌≤◌, ◌^◌, drop, length}
 use Rattle.pr_control.specs.Counts.{drain}
 use Rattle.pr_samples.specs.Stall.{turns_left}
@@ -6,14 +8,13 @@ use Rattle.pr_machine.specs.Stands.{conf_of, stripes_of, time_of}
 use Rattle.pr_run_script.specs.Script.{begun, turns}
 use Rattle.pr_run.specs.Setting.{view, setting_of, stall_turns}
 use Rattle.pr_run.specs.Turns.{IsOn}
-use Rattle.pr_run.proofs.turning.Walk.take_turns.Given as goal
+use Rattle.pr_run.proofs.turning.Walk.turn_until_over.Given as goal
 
 abbrev pub invariant-loop-now : goal.invariant-loop-now
 invariant-loop-now g l = record {
-  on : IsOn (setting_of l.initial.machine l.initial.stall l.initial.feed (view (g.S.Shelf.told l.initial.shelf) (g.S.Shelf.reach l.initial.shelf) (g.S.Shelf.faults l.initial.shelf)) (g.K.Sink.told l.initial.out) l.initial.self.log)
+  on : IsOn (setting_of l.initial.machine l.initial.stall l.initial.feed (view (g.S.Shelf.told l.initial.shelf) (g.S.Shelf.reach l.initial.shelf) (g.S.Shelf.faults l.initial.shelf)) (g.K.Sink.told l.initial.out) (not (eqb g.row.LOG 0)))
       (λ xs. turns (length (conf_of l.initial.machine).stages) (stripes_of l.initial.machine) (stall_turns l.initial.stall) l.asked (begun xs))
       l.machine l.feed (view (g.S.Shelf.told l.shelf) (g.S.Shelf.reach l.shelf) (g.S.Shelf.faults l.shelf)) (g.K.Sink.told l.out) l.self.last;
-  log : l.self.log ≡ l.initial.self.log;
   widths : l.self.widths.now ≡ l.initial.self.widths.now;
   left : turns_left l.stall ≡ drop l.asked (turns_left l.initial.stall);
   inputs : widths_of l.feed ≡ (conf_of l.machine).inputs;
