@@ -16,11 +16,11 @@ pub fn front_number(bytes: &[u8]) -> (usize, u64)
     let most = bytes.len().min(MOST);
     let mut n = 0;
     for i in 0..most {
-        let byte = bytes[i];
-        if byte < b'0' || byte > b'9' {
+        let digit = bytes[i].wrapping_sub(b'0');
+        if digit > 9 {
             return (i, n);
         }
-        n = 10 * n + u64::from(byte - b'0');
+        n = 10 * n + u64::from(digit);
     }
     (most, n)
 }

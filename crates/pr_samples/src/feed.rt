@@ -40,6 +40,8 @@ pub struct Feed {
     name: String,
     widths: Vec<u8>,
     numbers: Vec<Num>,
+    /// The numbers of a line that was taken from the front at once, which are short.
+    front: Vec<u64>,
     buffer: Vec<u8>,
     start: usize,
     end: usize,
@@ -51,6 +53,7 @@ pub struct Feed {
     limit: u64,
     ghost lawful: { All (λ w. w ≤ 128) widths.items },
     ghost one_each: { vec_len numbers ≡ vec_len widths },
+    ghost front_each: { vec_len front ≡ vec_len widths },
     ghost size: { vec_len buffer ≡ 65536 },
     ghost window: { start ≤ end },
     ghost within: { end ≤ vec_len buffer },
@@ -60,6 +63,18 @@ pub struct Feed {
     ghost few: { given ≤ most },
     ghost open: { tail ≡ Tail.Open → place ≤ limit },
     ghost cut: { tail ≡ Tail.Cut → limit < place },
+}
+
+/// Puts numbers into places that hold greater ones too.
+#[inline(always)]
+fn widen_row(into: &mut [Num], numbers: &[u64])
+    requires { length numbers.now ≡ length into.old }
+    ensures { into.new ≡ numbers.now }
+{
+    // Half by half: a number that was just written is read again sooner so than as one of twice the size.
+    for i in 0..into.len() {
+        into[i] = Num::from(numbers[i]);
+    }
 }
 
 /// Whether no lawful line begins as the line that was read so far.
@@ -127,11 +142,13 @@ impl Feed {
         let name = String::from_str(alloc, name)?;
         let kept = Vec::from_slice(alloc, widths)?;
         let numbers = vec![in alloc; 0; widths.len()]?;
+        let front = vec![in alloc; 0; widths.len()]?;
         let buffer = vec![in alloc; 0; BUFFER]?;
         Ok(Feed {
             name,
             widths: kept,
             numbers,
+            front,
             buffer,
             start: 0,
             end: 0,
@@ -153,11 +170,11 @@ impl Feed {
     }
 
     /// Takes the line at the front, where it is a short number for each input with one space between two, and says whether it
-    /// is. The numbers are those of its sample then.
+    /// is. The numbers of the front are those of its sample then.
     #[inline(always)]
     fn take_front(&mut self) -> bool
         ensures found { IsTrue result → (more : List ℕ) →
-            Found (Lawful self.new.numbers.items) self.new.passed (pending_of self.new ++ more)
+            Found (Lawful self.new.front.items) self.new.passed (pending_of self.new ++ more)
             ≡ first_line (widths_of self.old) (fresh (widths_of self.old)) self.old.passed (pending_of self.old ++ more) }
         ensures passed { (result ≡ false) → self.new.passed ≡ self.old.passed }
         ensures pending { (result ≡ false) → pending_of self.new ≡ pending_of self.old }
@@ -165,7 +182,7 @@ impl Feed {
         ensures bytes { SameBytes self.old self.new }
     {
         let bytes = &self.buffer[self.start..self.end];
-        match front_line(&self.widths, &mut self.numbers, bytes) {
+        match front_line(&self.widths, &mut self.front, bytes) {
             None => false,
             Some(used) => {
                 self.start += used;
@@ -221,8 +238,37 @@ impl Feed {
         }
     }
 
-    /// Answers the line that is over, of which the number is given.
+    /// Whether as many samples were given as there may be.
+    fn is_full(&self) -> bool
+        ensures full { IsTrue result → self.now.given ≡ self.now.most }
+        ensures room { (result ≡ false) → self.now.given < self.now.most }
+        ensures small { self.now.most < 2 ^ 64 }
+    {
+        self.given == self.most
+    }
+
+    /// Answers the line that was taken from the front.
     #[inline(always)]
+    fn give_front(&mut self, into: &mut [Num]) -> Got
+        requires into { length into.old ≡ length (widths_of self.old) }
+        ensures told { (file : List ℕ) → IsMet self.old (Lawful self.old.front.items) self.old.passed file
+            → GivesNext result self.old self.new into.new file }
+        ensures given { given_of self.new ≡ given_of self.old + given_by result }
+        ensures into { (is_sample result ≡ false) → into.new ≡ into.old }
+        ensures fault { result ≢ Got.ReadFault }
+        ensures file { SameFile self.old self.new }
+        ensures place { place_of self.new ≡ place_of self.old }
+        ensures tail { self.new.tail ≡ self.old.tail }
+    {
+        if self.is_full() {
+            return Got::Limit(Cap::Samples);
+        }
+        self.given += 1;
+        widen_row(into, &self.front);
+        Got::Sample
+    }
+
+    /// Answers the line that is over, of which the number is given.
     fn settle(&mut self, met: Met, line: u64, into: &mut [Num]) -> Got
         requires into { length into.old ≡ length (widths_of self.old) }
         requires met { met ≢ Met.Skipped }
@@ -238,7 +284,7 @@ impl Feed {
         match met {
             Met::Skipped => Got::End,
             Met::Lawful => {
-                if self.given == self.most {
+                if self.is_full() {
                     return Got::Limit(Cap::Samples);
                 }
                 self.given += 1;
@@ -392,7 +438,7 @@ impl Feed {
         ensures others { (q : List ℕ) → q ≢ name_of self.old → S.reach shelf.new q ≡ S.reach shelf.old q }
     {
         if self.take_front() {
-            return self.settle(Met::Lawful, self.passed, into);
+            return self.give_front(into);
         }
         self.next_line(shelf, into)
     }

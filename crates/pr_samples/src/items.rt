@@ -5,7 +5,6 @@ ghost use Rattle.pr_samples.specs.Scan.{Found, first_line, fresh};
 ghost use Rattle.pr_samples.specs.Items.{BeginsItem};
 
 use crate::digits::{front_number, is_low};
-use pr_base::Num;
 
 /// The number of an input of this width at the front, with this byte after it: how many bytes the two have, and the number.
 #[inline(always)]
@@ -22,7 +21,7 @@ fn front_item(bytes: &[u8], width: u8, stop: u8) -> Option<(usize, u64)>
 /// How many bytes the line at the front has, with its LF, where it is a short number for each input with one space between
 /// two. The numbers are those of its sample then.
 #[inline(always)]
-pub fn front_line(widths: &[u8], numbers: &mut [Num], bytes: &[u8]) -> Option<usize>
+pub fn front_line(widths: &[u8], numbers: &mut [u64], bytes: &[u8]) -> Option<usize>
     requires { length numbers.old ≡ length widths.now }
     ensures some { IfSome result (λ used. 0 < used) }
     ensures within { IfSome result (λ used. used ≤ length bytes.now) }
@@ -39,12 +38,12 @@ pub fn front_line(widths: &[u8], numbers: &mut [Num], bytes: &[u8]) -> Option<us
         let Some((count, n)) = front_item(&bytes[at..], widths[i], b' ') else {
             return None;
         };
-        numbers[i] = Num::from(n);
+        numbers[i] = n;
         at += count;
     }
     let Some((count, n)) = front_item(&bytes[at..], widths[last], b'\n') else {
         return None;
     };
-    numbers[last] = Num::from(n);
+    numbers[last] = n;
     Some(at + count)
 }

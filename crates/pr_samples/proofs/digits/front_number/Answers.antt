@@ -15,7 +15,7 @@ overflow_mul-n c =
 pub overflow_add-n : goal.overflow_add-n
 overflow_add-n c =
     let low = low_front c.loop-i.n c.loop-i.i c.loop-i.invariant.low (omega (arith, c.min-most.ensures, c.loop-i-test.true)) in
-    omega (arith, low, c.from.ensures, c.if-byte-gt57.false)
+    omega (arith, low, c.from.ensures, c.if-digit-gt9.false)
 
 pub loop-i-preserved : goal.loop-i-preserved
 loop-i-preserved c =
@@ -26,5 +26,5 @@ loop-i-preserved c =
     record {
       digits = list_all_more is_digit bytes i 0 within ∙ and_from (list_all is_digit (take i bytes)) (is_digit (get_or bytes i 0)) c.loop-i.invariant.digits digit;
       number = omega (arith, c.from.ensures, c.loop-i.invariant.number, value_after-more bytes i within);
-      low = low_more c.loop-i.n c.from.result i c.loop-i.invariant.low (omega (arith, c.from.ensures, c.if-byte-gt57.false));
+      low = low_more c.loop-i.n c.from.result i c.loop-i.invariant.low (omega (arith, c.from.ensures, c.if-digit-gt9.false));
     }

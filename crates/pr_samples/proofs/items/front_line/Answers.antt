@@ -13,8 +13,8 @@ loop-i-preserved c =
     let i = c.loop-i.i in
     let at = c.loop-i.at in
     let rest = drop at c.args.bytes.now in
-    let n = c.from.result in
-    let item : BeginsItem (get_or c.args.widths.now i 0) 32 c.in-Some.count n rest = rw (take_rest, ← c.from.ensures) at c.in-Some.ensures in
+    let n = c.in-Some.n in
+    let item : BeginsItem (get_or c.args.widths.now i 0) 32 c.in-Some.count n rest = rw take_rest at c.in-Some.ensures in
     let bound : c.in-Some.count ≤ length rest = item.within in
     record {
       within = omega (arith, simp length-drop at bound);
@@ -35,8 +35,8 @@ returns-clause-line c = λ passed more.
     let some : 0 < length widths = grind (arith, nat_tests) in
     let end : c.loop-i.i ≡ last = omega (arith, c.loop-i-test.false, c.loop-i.auto.i-end) in
     let found = c.in-Some-front_item in
-    let n = c.from-2.result in
-    let item : BeginsItem (get_or widths last 0) 10 found.count n rest = rw (take_rest, ← c.from-2.ensures) at found.ensures in
+    let n = found.n in
+    let item : BeginsItem (get_or widths last 0) 10 found.count n rest = rw take_rest at found.ensures in
     c.loop-i.invariant.read passed more
     ∙ ap (λ k. first_line widths (scan_of widths numbers (before_number k)) passed (rest ++ more)) end
     ∙ last_read widths numbers last n found.count passed rest more (omega arith) (omega arith) item

@@ -11,22 +11,22 @@ pub returns-then-take_front-clause-told : goal.returns-then-take_front-clause-to
 returns-then-take_front-clause-told g c = λ file tells reads.
     let e = c.take_front.ensures in
     let f' = c.take_front.new.self in
-    let met = found_step c.args.self.now f' _ (Lawful f'.numbers.items) file reads e.file e.bytes (e.found c.if-take_front.true) in
-    rw e.bytes.given at (c.settle.ensures.told file met)
+    let met = found_step c.args.self.now f' _ (Lawful f'.front.items) file reads e.file e.bytes (e.found c.if-take_front.true) in
+    rw e.bytes.given at (c.give_front.ensures.told file met)
 
 pub returns-then-take_front-clause-seen : goal.returns-then-take_front-clause-seen
 returns-then-take_front-clause-seen g c = λ bytes seen.
     let e = c.take_front.ensures in
     let f = c.args.self.now in
     let f' = c.take_front.new.self in
-    let tail = c.settle.ensures.tail ∙ e.bytes.tail in
+    let tail = c.give_front.ensures.tail ∙ e.bytes.tail in
     record {
       bytes = bytes;
-      seen = seen_same (g.S.Shelf.told c.args.shelf.now) bytes f _ seen (c.settle.ensures.file.name ∙ e.file.name) (c.settle.ensures.place ∙ e.bytes.place) tail;
+      seen = seen_same (g.S.Shelf.told c.args.shelf.now) bytes f _ seen (c.give_front.ensures.file.name ∙ e.file.name) (c.give_front.ensures.place ∙ e.bytes.place) tail;
       began = λ file begins. rw tail at begins;
       holds = λ file begins reads.
-          (let met = found_step f f' _ (Lawful f'.numbers.items) file reads e.file e.bytes (e.found c.if-take_front.true) in
-          rw e.bytes.given at (c.settle.ensures.told file met));
+          (let met = found_step f f' _ (Lawful f'.front.items) file reads e.file e.bytes (e.found c.if-take_front.true) in
+          rw e.bytes.given at (c.give_front.ensures.told file met));
     }
 
 pub returns-then-take_front-clause-missing : goal.returns-then-take_front-clause-missing
