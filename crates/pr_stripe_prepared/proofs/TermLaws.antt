@@ -1,5 +1,5 @@
 -- Terms that gather a row of places, block by block.
-use Rattle.std.proofs.Common.{◌≡◌, ℕ, ◌+◌, ◌*◌, ◌/◌, ◌%◌, ◌<◌, ◌≤◌, ◌==◌, ◌++◌, true, false, List, [], ◌∷◌, get_or, nat_lt, nat_le, bit_or, if◌then◌else◌, refl, sym, ap, ◌∙◌, arith, inl, inr}
+use Rattle.std.proofs.Common.{◌≡◌, ℕ, zero, suc, Bool, replicate, ◌+◌, ◌*◌, ◌/◌, ◌%◌, ◌<◌, ◌≤◌, ◌==◌, ◌++◌, true, false, List, [], ◌∷◌, get_or, nat_lt, nat_le, bit_or, if◌then◌else◌, refl, sym, ap, ◌∙◌, arith, inl, inr}
 use Rattle.std.proofs.lemmas.Bool.{cases_lt}
 use Rattle.std.proofs.lemmas.Bool.Decides.{nat_tests}
 use Rattle.std.specs.Int.Bits.{or_zero_r}
@@ -28,6 +28,19 @@ pick_other p b ne = let e : (p / 16 == b) ≡ false = grind (arith, nat_tests) i
 
 pub looked_low : (place from : ℕ) (row : List ℕ) → place < 16 → looked place from row ≡ get_or row (from + place) 0
 looked_low place from row h = let e : nat_le 128 place ≡ false = grind (arith, nat_tests) in ap (λ t. if t then 0 else get_or row (from + place) 0) e
+
+zeros_at : (n p : ℕ) → get_or {A = ℕ} (replicate n 0) p 0 ≡ 0
+zeros_at zero p = refl
+zeros_at (suc n) zero = refl
+zeros_at (suc n) (suc p) = zeros_at n p
+
+either_zero : (b : Bool) (x : ℕ) → x ≡ 0 → (if b then 0 else x) ≡ 0
+either_zero true x e = refl
+either_zero false x e = e
+
+-- nothing is found in zeros
+pub looked_zeros : (place n : ℕ) → looked place 0 (replicate n 0) ≡ 0
+looked_zeros place n = either_zero (nat_le 128 place) _ (zeros_at n (0 + place))
 
 pub looked_none : (place from : ℕ) (row : List ℕ) → 128 ≤ place → looked place from row ≡ 0
 looked_none place from row h = let e : nat_le 128 place ≡ true = grind (arith, nat_tests) in ap (λ t. if t then 0 else get_or row (from + place) 0) e

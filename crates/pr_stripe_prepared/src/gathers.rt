@@ -1,6 +1,6 @@
 //! Bytes that are gathered from a row and a state.
 
-ghost use Rattle.std.specs.Prelude.{◌≡◌, ◌+◌, ◌≤◌, ℕ, All, length, slice_index, bit_or};
+ghost use Rattle.std.specs.Prelude.{true, ◌≡◌, replicate, ◌+◌, ◌≤◌, ℕ, All, length, slice_index, bit_or};
 ghost use Rattle.pr_lanes.specs.Lanes.{HasLanes};
 ghost use Rattle.pr_stripe_prepared.specs.Gather.{begun_byte, gathered_byte, looked};
 
@@ -34,14 +34,19 @@ fn known(g: &Gather, state: u8x16) -> u8x32
     either(known, look_up(state, u8x32::from_array(g.states)))
 }
 
-/// What is gathered of bytes that are known, of a state, and of the outputs of the columns.
+/// What is gathered of bytes that are known, of a state, and of the outputs of the columns. In the first round these are
+/// 0, and nothing is looked up in them.
 #[inline(always)]
-fn begun(g: &Gather, state: u8x16, made: u8x16) -> u8x32
+fn begun<const FIRST: bool>(g: &Gather, state: u8x16, made: u8x16) -> u8x32
     requires state { length state ≡ 16 }
     requires made { length made ≡ 16 }
+    requires first { FIRST ≡ true → made ≡ replicate 16 0 }
     ensures { HasLanes 32 result (begun_byte g.now state made) }
 {
     let known = known(g, state);
+    if FIRST {
+        return known;
+    }
     if !g.has_here {
         return known;
     }
@@ -50,14 +55,21 @@ fn begun(g: &Gather, state: u8x16, made: u8x16) -> u8x32
 
 /// Both rows of columns, gathered from a row, a state, and the outputs of the columns.
 #[inline(always)]
-pub(crate) fn gathered(g: &Gather, row: &[u8], state: u8x16, made: u8x16, reach: usize) -> u8x32
+pub(crate) fn gathered<const FIRST: bool>(
+    g: &Gather,
+    row: &[u8],
+    state: u8x16,
+    made: u8x16,
+    reach: usize,
+) -> u8x32
+    requires first { FIRST ≡ true → made ≡ replicate 16 0 }
     requires terms { All (λ t. t.from + 16 ≤ reach) g.now.terms.items }
     requires row { reach ≤ length row.now }
     requires state { length state ≡ 16 }
     requires made { length made ≡ 16 }
     ensures { HasLanes 32 result (gathered_byte g.now row.now state made) }
 {
-    let mut all = begun(g, state, made);
+    let mut all = begun::<FIRST>(g, state, made);
     for term in &g.terms {
         all = either(all, block_of(row, term));
     }

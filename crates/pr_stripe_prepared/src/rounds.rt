@@ -1,6 +1,6 @@
 //! The columns of a stage, round by round.
 
-ghost use Rattle.std.specs.Prelude.{ℕ, List, ◌≡◌, ◌+◌, ◌<◌, ◌≤◌, length, slice_index, slice_index_or};
+ghost use Rattle.std.specs.Prelude.{ℕ, List, true, ◌≡◌, replicate, ◌+◌, ◌<◌, ◌≤◌, length, slice_index, slice_index_or};
 ghost use Rattle.pr_conf.specs.declared.pes.Pe.{Pe};
 ghost use Rattle.pr_stripe_columns.specs.Elements.{IsColumn};
 ghost use Rattle.pr_stripe_prepared.specs.Prepared.{IsPrepared};
@@ -19,9 +19,11 @@ pub(crate) struct Known {
     carries: u8x16,
 }
 
-/// All columns once more, where those of one level more become right.
+/// All columns once more, where those of one level more become right. Before the first round nothing is known.
 #[inline(always)]
-fn round(q: &Prepared, row: &[u8], state: u8x16, before: Known) -> Known
+fn round<const FIRST: bool>(q: &Prepared, row: &[u8], state: u8x16, before: Known) -> Known
+    requires first { FIRST ≡ true
+        → (before.output ≡ replicate 16 0) × (before.carries ≡ replicate 16 0) }
     requires row { q.now.reach ≤ length row.now }
     requires state { length state ≡ 16 }
     requires output { length before.output ≡ 16 }
@@ -33,7 +35,7 @@ fn round(q: &Prepared, row: &[u8], state: u8x16, before: Known) -> Known
         → IsRight q.now pes row.now state before.a before.output before.carries r
         → IsRight q.now pes row.now state result.a result.output result.carries (r + 1) }
 {
-    let (a, b, c) = operands(q, row, state, before.output, before.carries);
+    let (a, b, c) = operands::<FIRST>(q, row, state, before.output, before.carries);
     let made = results(q, a, b, c);
     Known {
         a,
@@ -48,6 +50,7 @@ fn nothing() -> Known
     ensures a { length result.a ≡ 16 }
     ensures output { length result.output ≡ 16 }
     ensures carries { length result.carries ≡ 16 }
+    ensures nothing { (result.output ≡ replicate 16 0) × (result.carries ≡ replicate 16 0) }
 {
     let none = u8x16::splat(0);
     Known {
@@ -69,7 +72,7 @@ fn columns_in_rounds(q: &Prepared, row: &[u8], state: u8x16) -> Known
 {
     let mut made = nothing();
     for _round in 0..q.rounds {
-        made = round(q, row, state, made);
+        made = round::<false>(q, row, state, made);
     }
     made
 }
@@ -86,7 +89,7 @@ pub(crate) fn columns(q: &Prepared, row: &[u8], state: u8x16) -> Known
 {
     if q.rounds == 1 {
         // Most stages have one round: written out, it keeps no count and no rows for the next round.
-        return round(q, row, state, nothing());
+        return round::<true>(q, row, state, nothing());
     }
     columns_in_rounds(q, row, state)
 }

@@ -10,12 +10,12 @@ same : (a b c d s : ℕ) → a ≡ c → b ≡ d → shifted a b s ≡ shifted c
 same a b c d s e f = ap (λ x. shifted x b s) e ∙ ap (λ x. shifted c x s) f
 
 pub returns-then-q-clause-b : goal.returns-then-q-clause-b
-returns-then-q-clause-b c = λ k s l shift few unshifted.
+returns-then-q-clause-b g c = λ k s l shift few unshifted.
     c.shifted_row-b.ensures.bytes k s l (ap (λ ws. get_or ws k 0) c.words_of.ensures.is ∙ shift) few
     ∙ same _ _ _ _ s (c.high_half-hi.ensures.each k l ∙ c.gathered-both.ensures.each (16 + k) (omega arith)) (c.low_half.ensures.each k l ∙ c.gathered-rest.ensures.each k (omega arith))
 
 pub returns-then-q-clause-c : goal.returns-then-q-clause-c
-returns-then-q-clause-c c =
+returns-then-q-clause-c g c =
     let q = c.args.q.now in
     let x = λ (k : ℕ). gathered_byte q.rest c.args.row.now c.args.state c.args.made (16 + k) in
     let put = λ (k : ℕ) (y : ℕ). if q.has_carry then bit_or y (ones_where (get_or c.args.carries k 0) (get_or q.c_carry k 0)) else y in
@@ -26,7 +26,7 @@ returns-then-q-clause-c c =
     ∙ sym (ap (λ b. if b then ones_where (x k) (get_or q.c_bits k 0) else 0) c.if-q.true)))
 
 pub returns-else-q-clause-c : goal.returns-else-q-clause-c
-returns-else-q-clause-c c =
+returns-else-q-clause-c g c =
     let q = c.args.q.now in
     let x = λ (k : ℕ). gathered_byte q.rest c.args.row.now c.args.state c.args.made (16 + k) in
     let put = λ (k : ℕ) (y : ℕ). if q.has_carry then bit_or y (ones_where (get_or c.args.carries k 0) (get_or q.c_carry k 0)) else y in
