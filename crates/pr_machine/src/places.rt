@@ -78,14 +78,13 @@ fn compute_at<const N: usize, const P: usize>(
             let number = stripe.stage_number();
             let row = row_at(prev);
             let valid = if number == 0 { valid } else { row.valid() };
-            let prepared = &buffers.prepared[number as usize];
-            stripe.compute_prepared(
-                row,
-                &buffers.sample,
-                valid,
-                stage_at(conf, number),
-                prepared,
-            );
+            let stage = stage_at(conf, number);
+            match &buffers.prepared[number as usize] {
+                Some(prepared) => {
+                    stripe.compute_prepared(row, &buffers.sample, valid, stage, prepared);
+                }
+                None => stripe.compute(row, &buffers.sample, valid, stage),
+            }
         }
         Place::Blank(_) | Place::Away => {}
     }

@@ -77,9 +77,11 @@ fn columns_in_rounds(q: &Prepared, row: &[u8], state: u8x16) -> Known
     made
 }
 
-/// A and the outputs of all columns.
+/// A and the outputs of all columns. Most stages have one round: written out, it keeps no count and no rows for the next
+/// round.
 #[inline(always)]
-pub(crate) fn columns(q: &Prepared, row: &[u8], state: u8x16) -> Known
+pub(crate) fn columns<const ONCE: bool>(q: &Prepared, row: &[u8], state: u8x16) -> Known
+    requires once { ONCE ≡ true → q.now.rounds ≡ 1 }
     requires row { q.now.reach ≤ length row.now }
     requires state { length state ≡ 16 }
     ensures a { length result.a ≡ 16 }
@@ -87,8 +89,7 @@ pub(crate) fn columns(q: &Prepared, row: &[u8], state: u8x16) -> Known
     ensures columns { (pes : List Pe) (count k : ℕ) (d : Pe) → IsPrepared q.now pes count → k < 16
         → IsColumn row.now state pes k (slice_index_or pes k d) (slice_index result.output k) (slice_index result.a k) }
 {
-    if q.rounds == 1 {
-        // Most stages have one round: written out, it keeps no count and no rows for the next round.
+    if ONCE {
         return round::<true>(q, row, state, nothing());
     }
     columns_in_rounds(q, row, state)

@@ -7,6 +7,7 @@ ghost use Rattle.pr_base.specs.Pe.{Made};
 ghost use Rattle.pr_stripe_columns.specs.Elements.{outputs_of};
 ghost use Rattle.pr_stripe_prepared.specs.Elements.{AreMarks};
 ghost use Rattle.pr_stripe_prepared.specs.Prepared.{IsPrepared};
+ghost use Rattle.pr_stripe_prepared.specs.Steps.{IsStep};
 
 use crate::rounds::columns;
 use crate::stages::Prepared;
@@ -55,6 +56,55 @@ fn pass(registers: &mut [u8], before: &[u8], marks: &[u8], output: &[u8], count:
     }
 }
 
+/// A step in one round, or in as many as there are.
+#[inline(always)]
+fn step_by<const ONCE: bool>(
+    q: &Prepared,
+    registers: &mut [u8],
+    state: &mut [u8],
+    row: &[u8],
+    before: &[u8],
+    count: usize,
+)
+    requires once { ONCE ≡ true → q.now.rounds ≡ 1 }
+    requires few { count ≤ 16 }
+    requires registers { length registers.old ≡ count * 16 }
+    requires before { length before.now ≡ count * 16 }
+    requires marks { vec_len q.now.marks ≡ count * 16 }
+    requires row { q.now.reach ≤ length row.now }
+    requires state { length state.old ≡ 16 }
+    ensures { IsStep q.now count row.now before.now state.old registers.new state.new }
+{
+    let was = loaded(state);
+    let made = columns::<ONCE>(q, row, was);
+    pass(registers, before, &q.marks, &made.output.to_array(), count);
+    if q.has_state {
+        let first = choose(was, made.output, row_of(&q.to_output));
+        store(state, choose(first, made.a, row_of(&q.to_a)));
+    }
+}
+
+/// A step in as many rounds as there are. It stands apart, so that the step of most stages keeps nothing for it.
+#[inline(never)]
+fn step_in_rounds(
+    q: &Prepared,
+    registers: &mut [u8],
+    state: &mut [u8],
+    row: &[u8],
+    before: &[u8],
+    count: usize,
+)
+    requires few { count ≤ 16 }
+    requires registers { length registers.old ≡ count * 16 }
+    requires before { length before.now ≡ count * 16 }
+    requires marks { vec_len q.now.marks ≡ count * 16 }
+    requires row { q.now.reach ≤ length row.now }
+    requires state { length state.old ≡ 16 }
+    ensures { IsStep q.now count row.now before.now state.old registers.new state.new }
+{
+    step_by::<false>(q, registers, state, row, before, count);
+}
+
 /// Makes so many registers of the row that is read and of those before, and changes the state.
 #[inline(always)]
 pub fn step(
@@ -75,12 +125,10 @@ pub fn step(
         → registers.new ≡ registers_to count 16 false pes (made_from 16 row.now state.old [] pes) before.now }
     ensures state { (pes : List Pe) → IsPrepared q.now pes count → state.new ≡ state_map 16 pes state.old row.now }
 {
-    let was = loaded(state);
-    let made = columns(q, row, was);
-    pass(registers, before, &q.marks, &made.output.to_array(), count);
-    if q.has_state {
-        let first = choose(was, made.output, row_of(&q.to_output));
-        store(state, choose(first, made.a, row_of(&q.to_a)));
+    if q.rounds == 1 {
+        step_by::<true>(q, registers, state, row, before, count);
+    } else {
+        step_in_rounds(q, registers, state, row, before, count);
     }
 }
 

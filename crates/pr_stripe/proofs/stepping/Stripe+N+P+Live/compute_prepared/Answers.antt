@@ -8,8 +8,8 @@ use Rattle.pr_stripe.proofs.stepping.Stripe+N+P+Live.compute_prepared.Goals as g
 pub first_step-requires : goal.first_step-requires
 first_step-requires g c =
     let many = c.args.prev.now.most_registers in
-    let p = c.requires.prepared c.in-Some.prepared c.in-Some.is in
-    let e : g.row.N ≡ 16 = omega (arith, p.long, c.args.stage.now.size, c.args.stage.now.pes.ok.0) in
+    let p = c.requires.prepared in
+    let e : g.row.N ≡ 16 = omega (arith, p.long, c.args._stage.now.size, c.args._stage.now.pes.ok.0) in
     let k : (g.row.P - 1) * g.row.N ≡ (g.row.P - 1) * 16 = ap (λ n. (g.row.P - 1) * n) e in
     let zeros = c.deref.ensures.value ∙ c.args.self.now.zero ∙ ap (λ n. replicate n 0) k in
     record {
@@ -25,8 +25,8 @@ first_step-requires g c =
 pub step-requires : goal.step-requires
 step-requires g c =
     let many = c.args.prev.now.most_registers in
-    let p = c.requires.prepared c.in-Some.prepared c.in-Some.is in
-    let e : g.row.N ≡ 16 = omega (arith, p.long, c.args.stage.now.size, c.args.stage.now.pes.ok.0) in
+    let p = c.requires.prepared in
+    let e : g.row.N ≡ 16 = omega (arith, p.long, c.args._stage.now.size, c.args._stage.now.pes.ok.0) in
     let k : (g.row.P - 1) * g.row.N ≡ (g.row.P - 1) * 16 = ap (λ n. (g.row.P - 1) * n) e in
     let row : length c.deref-else-self-eq0.result.now ≡ (g.row.P - 1) * 16 = c.deref-else-self-eq0.ensures.len ∙ c.args.prev.now.size ∙ k in
     record {
@@ -40,9 +40,9 @@ step-requires g c =
 
 pub returns-then-self-eq0-clause-state : goal.returns-then-self-eq0-clause-state
 returns-then-self-eq0-clause-state g c =
-    let pes = c.args.stage.now.pes.items in
-    let p = c.requires.prepared c.in-Some.prepared c.in-Some.is in
-    let e : g.row.N ≡ 16 = omega (arith, p.long, c.args.stage.now.size, c.args.stage.now.pes.ok.0) in
+    let pes = c.args._stage.now.pes.items in
+    let p = c.requires.prepared in
+    let e : g.row.N ≡ 16 = omega (arith, p.long, c.args._stage.now.size, c.args._stage.now.pes.ok.0) in
     state_is g.row.N g.row.P (c.args.self.now.mark.stage == 0) pes pes c.args.self.now.state.items _ c.args.bus.now c.args.bus.now _ _ _
     (reads_bus c.args.self.now.mark.stage c.args.valid c.args.bus.now (shown c.args.prev.now) c.if-self-eq0.true c.if-not-valid.false)
     c.deref_mut-then-self-eq0.ensures.value refl refl (c.first_step.ensures.state pes p ∙ ap (λ n. state_map n pes c.deref_mut-then-self-eq0.result.now c.args.bus.now) (sym e))
@@ -50,9 +50,9 @@ returns-then-self-eq0-clause-state g c =
 
 pub returns-then-self-eq0-clause-row : goal.returns-then-self-eq0-clause-row
 returns-then-self-eq0-clause-row g c =
-    let pes = c.args.stage.now.pes.items in
-    let p = c.requires.prepared c.in-Some.prepared c.in-Some.is in
-    let e : g.row.N ≡ 16 = omega (arith, p.long, c.args.stage.now.size, c.args.stage.now.pes.ok.0) in
+    let pes = c.args._stage.now.pes.items in
+    let p = c.requires.prepared in
+    let e : g.row.N ≡ 16 = omega (arith, p.long, c.args._stage.now.size, c.args._stage.now.pes.ok.0) in
     row_is g.row.N g.row.P (c.args.self.now.mark.stage == 0) c.args.valid pes pes c.args.self.now.state.items _ c.args.bus.now c.args.bus.now _ _ _
     (reads_bus c.args.self.now.mark.stage c.args.valid c.args.bus.now (shown c.args.prev.now) c.if-self-eq0.true c.if-not-valid.false) c.if-not-valid.false
     c.deref_mut-then-self-eq0.ensures.value refl refl
@@ -63,9 +63,9 @@ returns-then-self-eq0-clause-row g c =
 
 pub returns-else-self-eq0-clause-state : goal.returns-else-self-eq0-clause-state
 returns-else-self-eq0-clause-state g c =
-    let pes = c.args.stage.now.pes.items in
-    let p = c.requires.prepared c.in-Some.prepared c.in-Some.is in
-    let e : g.row.N ≡ 16 = omega (arith, p.long, c.args.stage.now.size, c.args.stage.now.pes.ok.0) in
+    let pes = c.args._stage.now.pes.items in
+    let p = c.requires.prepared in
+    let e : g.row.N ≡ 16 = omega (arith, p.long, c.args._stage.now.size, c.args._stage.now.pes.ok.0) in
     state_is g.row.N g.row.P (c.args.self.now.mark.stage == 0) pes pes c.args.self.now.state.items _ c.args.prev.now.bytes.items c.deref-else-self-eq0.result.now _ _ _
     (reads_row c.args.self.now.mark.stage c.args.valid c.args.prev.now.valid c.args.bus.now c.args.prev.now.bytes.items c.if-self-eq0.false c.if-not-valid.false c.requires.valid)
     c.deref_mut-else-self-eq0-2.ensures.value c.deref-else-self-eq0.ensures.value refl (c.step.ensures.state pes p ∙ ap (λ n. state_map n pes c.deref_mut-else-self-eq0-2.result.now c.deref-else-self-eq0.result.now) (sym e))
@@ -73,9 +73,9 @@ returns-else-self-eq0-clause-state g c =
 
 pub returns-else-self-eq0-clause-row : goal.returns-else-self-eq0-clause-row
 returns-else-self-eq0-clause-row g c =
-    let pes = c.args.stage.now.pes.items in
-    let p = c.requires.prepared c.in-Some.prepared c.in-Some.is in
-    let e : g.row.N ≡ 16 = omega (arith, p.long, c.args.stage.now.size, c.args.stage.now.pes.ok.0) in
+    let pes = c.args._stage.now.pes.items in
+    let p = c.requires.prepared in
+    let e : g.row.N ≡ 16 = omega (arith, p.long, c.args._stage.now.size, c.args._stage.now.pes.ok.0) in
     row_is g.row.N g.row.P (c.args.self.now.mark.stage == 0) c.args.valid pes pes c.args.self.now.state.items _ c.args.prev.now.bytes.items c.deref-else-self-eq0.result.now _ _ _
     (reads_row c.args.self.now.mark.stage c.args.valid c.args.prev.now.valid c.args.bus.now c.args.prev.now.bytes.items c.if-self-eq0.false c.if-not-valid.false c.requires.valid) c.if-not-valid.false
     c.deref_mut-else-self-eq0-2.ensures.value c.deref-else-self-eq0.ensures.value refl
