@@ -71,7 +71,7 @@ fn widen_row(into: &mut [Num], numbers: &[u64])
     requires { length numbers.now ≡ length into.old }
     ensures { into.new ≡ numbers.now }
 {
-    // Half by half: a number that was just written is read again sooner so than as one of twice the size.
+    // One by one, and of half the size: what was just written is read again sooner so than as a whole row.
     for i in 0..into.len() {
         into[i] = Num::from(numbers[i]);
     }

@@ -1,6 +1,5 @@
-use lib.Dec.{eqb}
 use mathlib.Core.Bool.{not}
-use Rattle.std.proofs.Common.{◌≡◌, ◌==◌, ℕ, replicate, get_or, bit_or, bit_and, Bool, true, false, refl, sym, ap, ◌∙◌, if◌then◌else◌}
+use Rattle.std.proofs.Common.{◌≡◌, ◌==◌, ℕ, get_or, bit_or, Bool, true, false, refl, sym, ap, ◌∙◌, if◌then◌else◌}
 use Rattle.std.proofs.lemmas.Bool.{ne_eqb}
 use Rattle.std.proofs.lemmas.List.{get_or-replicate}
 use Rattle.std.specs.Int.Bits.{or_zero_r, and_zero_l}

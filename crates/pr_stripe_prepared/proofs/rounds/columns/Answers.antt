@@ -1,4 +1,3 @@
-use lib.Dec.{eqb}
 use mathlib.Core.Bool.{not}
 use Rattle.std.proofs.Common.{ap, arith}
 use Rattle.std.proofs.lemmas.Bool.{ne_eqb}

@@ -1,4 +1,3 @@
-use Rattle.std.proofs.Common.{sym}
 use Rattle.pr_run.proofs.turning.Walk.take_turns.Goals as goal
 
 pub returns-then-self-clause-ended : goal.returns-then-self-clause-ended

@@ -1,4 +1,4 @@
-use Rattle.std.proofs.Common.{◌≡◌, ◌<◌, ◌-◌, ap, sym, ◌∙◌, Some, arith}
+use Rattle.std.proofs.Common.{◌≡◌, ◌-◌, ap, sym, ◌∙◌, Some, arith}
 use Rattle.pr_base.specs.declared.caps.Cap.{Cap}
 use Rattle.pr_samples.specs.Fed.{Limit, Lawful, line_and}
 use Rattle.pr_samples.proofs.ReadingLemmas.{IsMeeting-over, IsMeeting-sample}
