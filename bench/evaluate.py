@@ -3,7 +3,7 @@
 
     bench/evaluate.py [SAMPLES]     so many samples of each program, 1000000 where none is said
 
-It prints the processor time of each (user and system, the best of three runs) and their ratio. It wants the built program
+It prints the processor time of each (user and system, the best of five runs, in turn) and their ratio. It wants the built program
 (crates/piperench/out/piperench, or the one in PIPERENCH) and `rustc`, or the compiler in RUSTC."""
 
 import os
@@ -12,7 +12,7 @@ import subprocess
 import sys
 import tempfile
 
-from compare import HERE, TAPS, TOOL, seconds_of, write_samples
+from compare import HERE, TAPS, TOOL, best_in_turn, write_samples
 
 SUM = "input x:8; let s[0]:24 = x; for i in 1..101 { let s[i]:24 = s[i-1] + x; } output y = s[100];"
 
@@ -28,8 +28,7 @@ def main():
         print(f"{'program':12} {'eval, s':>8} {'plain, s':>9} {'ratio':>6}")
         for name, text in [("filter", TAPS), ("sum of 100", SUM)]:
             program.write_text(text + "\n")
-            ours = seconds_of([TOOL, "eval", program, samples], work / "ours")
-            theirs = seconds_of([plain, name], work / "theirs", samples)
+            ours, theirs = best_in_turn(([TOOL, "eval", program, samples], work / "ours"), ([plain, name], work / "theirs", samples))
             same = (work / "ours").read_bytes() == (work / "theirs").read_bytes()
             failed = failed or not same
             print(f"{name:12} {ours:8.2f} {theirs:9.2f} {ours / theirs:6.1f}{'' if same else '  the texts differ'}", flush=True)
