@@ -6,6 +6,36 @@ ghost use Rattle.pr_samples.specs.Fed.{is_digit, value_after};
 /// The digits that are read at once at most: a `u64` holds each number of so many.
 const MOST: usize = 18;
 
+/// How many digits stand at the front, three at most, and the number that they write. All three are read whatever they are,
+/// so that the processor has nothing to guess: how many digits a number has is random in most texts.
+#[inline(always)]
+fn few_digits(bytes: &[u8]) -> (usize, u64)
+    ensures within { result.0 ≤ length bytes.now }
+    ensures digits { list_all is_digit (take result.0 bytes.now) ≡ true }
+    ensures number { result.1 ≡ value_after 0 (take result.0 bytes.now) }
+    ensures low { result.1 < 10 ^ result.0 }
+    ensures few { result.0 ≤ 3 }
+{
+    if bytes.len() < 3 {
+        return (0, 0);
+    }
+    let first = bytes[0].wrapping_sub(b'0');
+    let second = bytes[1].wrapping_sub(b'0');
+    let third = bytes[2].wrapping_sub(b'0');
+    let one = u64::from(first);
+    let two = 10 * one + u64::from(second);
+    let three = 10 * two + u64::from(third);
+    if first > 9 {
+        (0, 0)
+    } else if second > 9 {
+        (1, one)
+    } else if third > 9 {
+        (2, two)
+    } else {
+        (3, three)
+    }
+}
+
 /// How many digits stand at the front, as far as they are read at once, and the number that they write.
 #[inline(always)]
 pub fn front_number(bytes: &[u8]) -> (usize, u64)
@@ -14,8 +44,8 @@ pub fn front_number(bytes: &[u8]) -> (usize, u64)
     ensures number { result.1 ≡ value_after 0 (take result.0 bytes.now) }
 {
     let most = bytes.len().min(MOST);
-    let mut n = 0;
-    for i in 0..most {
+    let (begun, mut n) = few_digits(bytes);
+    for i in begun..most {
         let digit = bytes[i].wrapping_sub(b'0');
         if digit > 9 {
             return (i, n);
