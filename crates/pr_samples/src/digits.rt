@@ -1,5 +1,5 @@
 // The digits at the front of some bytes, read at once.
-ghost use Rattle.std.specs.Prelude.{◌≡◌, ◌≤◌, ◌^◌, ◌<◌, IsTrue, length, take, true};
+ghost use Rattle.std.specs.Prelude.{◌≡◌, ◌≤◌, ◌^◌, ◌<◌, IsTrue, length, slice_index, take, true, false};
 ghost use Rattle.std.specs.List.{list_all};
 ghost use Rattle.pr_samples.specs.Fed.{is_digit, value_after};
 
@@ -15,6 +15,7 @@ fn few_digits(bytes: &[u8]) -> (usize, u64)
     ensures number { result.1 ≡ value_after 0 (take result.0 bytes.now) }
     ensures low { result.1 < 10 ^ result.0 }
     ensures few { result.0 ≤ 3 }
+    ensures whole { 3 ≤ length bytes.now → result.0 < 3 → is_digit (slice_index bytes.now result.0) ≡ false }
 {
     if bytes.len() < 3 {
         return (0, 0);
@@ -42,6 +43,7 @@ pub fn front_number(bytes: &[u8]) -> (usize, u64)
     ensures within { result.0 ≤ length bytes.now }
     ensures digits { list_all is_digit (take result.0 bytes.now) ≡ true }
     ensures number { result.1 ≡ value_after 0 (take result.0 bytes.now) }
+    ensures whole { result.0 < length bytes.now → result.0 < 18 → is_digit (slice_index bytes.now result.0) ≡ false }
 {
     let most = bytes.len().min(MOST);
     let (begun, mut n) = few_digits(bytes);
