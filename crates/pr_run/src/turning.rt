@@ -109,6 +109,7 @@ impl<'a> Walk<'a> {
             (view (S.told shelf.old) (S.reach shelf.old) (S.faults shelf.old)) (K.told out.old) self.old.last
             → IsTurned s first next machine.new feed.new
             (view (S.told shelf.new) (S.reach shelf.new) (S.faults shelf.new)) (K.told out.new) result }
+        ensures log { self.new.log ≡ self.old.log }
         ensures widths { self.new.widths.now ≡ self.old.widths.now }
         ensures inputs { widths_of feed.new ≡ widths_of feed.old }
         ensures conf { machine.new.parts.conf ≡ machine.old.parts.conf }
