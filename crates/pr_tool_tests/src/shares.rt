@@ -1,246 +1,192 @@
 //! Programs that take turns.
 
-use crate::calls::{Wanted, answer_over, answer_to, check_call};
-use crate::files::{BAD_LINE, GROWING_SUM, XOR, named};
-use pr_edge::{MemShelf, MemSink, SureSink};
-use pr_tool::{Answer, Cap, Cause};
+use crate::calls::{
+    OK, PLAIN, READ_FAULT, Setting, WRITE_FAULT, check_calls, check_lines, check_text,
+};
+use crate::files::{Files, put_long, texts};
 use std::alloc::{AllocError, Global};
 use std::process::Abort;
-use std::test::Fail;
 
-/// A running sum of eight bits that begins with 250.
-const RUNNING_SUM: &str = "input x:8; rec s:8 = 250 by s@1 + x; output y = s;";
+/// A program with inputs of seventeen bytes, and lists.
+const TEXTS: &str = "\
+    #w input a:128; input b:8; output y = b;\
+    #two r q 1\np s 2\n\
+    #blank-line \n r q 1\n\
+    #no-turn r q 0\n\
+    #bad-second r q 1\np b 2\
+    #bad-twice p b 1\np b 1\n\
+    #first-gone r n 1\np s 1000000\n\
+    #second-gone p b 9\nr n 1\n\
+    #program-gone r q 1\nn s 2\n\
+    #no-width r q 1\ng s 2\nn s 1\n\
+    #wide-inputs w q 1\n\
+    #no-items e e 1\n\
+    #no-samples p e 1\nr e 1\n\
+    #eight p s 1\np s 2\np s 3\np s 1\np s 1\np s 1\np s 1\np s 1\n";
 
-/// Inputs of seventeen bytes.
-const SEVENTEEN: &str = "input a:128; input b:8; output y = b;";
+/// Lists, the first of which has the running sum, a line in each turn, and the exclusive or, two lines.
+const CASES: &str = "\
+$ share two --stripes _ --fabric wide --narrow
+0: 255
+1: 6
+1: 254
+0: 0
+0: 1
+= Ok 0
+$ share blank-line --stripes _ --fabric wide --narrow
+= BadList { line: 2 } 14
+bad list: line 2
+$ share e --stripes _ --fabric wide --narrow
+= BadList { line: 1 } 14
+bad list: line 1
+$ share no-turn --stripes _ --fabric wide --narrow
+= BadList { line: 1 } 14
+bad list: line 1
+$ share bad-second --stripes _ --fabric wide --narrow
+0: 255
+1: 6
+1: 254
+0: 0
+0: 1
+= Part { program: 1, cause: BadSample { line: 3 } } 7
+program 1: bad sample: line 3
+$ share bad-twice --stripes _ --fabric wide --narrow
+0: 6
+1: 6
+0: 254
+1: 254
+= Part { program: 0, cause: BadSample { line: 3 } } 7
+program 0: bad sample: line 3
+$ share first-gone --stripes _ --fabric wide --narrow
+1: 6
+1: 254
+= ReadFault 10
+read fault
+$ share second-gone --stripes _ --fabric wide --narrow
+0: 6
+0: 254
+= ReadFault 10
+read fault
+$ share program-gone --stripes _ --fabric wide --narrow
+= ReadFault 10
+read fault
+$ share no-width --stripes _ --fabric wide --narrow
+= Part { program: 1, cause: NoWidth { equation: 2 } } 4
+program 1: no width: equation 2
+$ share wide-inputs --stripes _ --fabric wide --narrow
+= Part { program: 0, cause: Limit { which: InputBytes } } 6
+program 0: limit: input-bytes 16
+$ share no-items --stripes _ --fabric wide --narrow
+= Part { program: 0, cause: Scope { rule: 10, item: 0 } } 3
+program 0: scope: rule 10 item 0
+$ share no-samples --stripes _ --fabric wide --narrow
+= Ok 0
+$ share eight --stripes _ --fabric wide --narrow
+0: 6
+1: 6
+1: 254
+2: 6
+2: 254
+3: 6
+4: 6
+5: 6
+6: 6
+7: 6
+0: 254
+3: 254
+4: 254
+5: 254
+6: 254
+7: 254
+= Ok 0
+";
 
-/// The programs, the samples, and a list.
-fn files(alloc: Global, list: &str) -> Result<Vec<(String, Vec<u8>)>, AllocError> {
-    let files = vec![in alloc;
-        named(alloc, "l", list)?,
-        named(alloc, "r", RUNNING_SUM)?,
-        named(alloc, "q", "5\n1\n1\n")?,
-        named(alloc, "p", XOR)?,
-        named(alloc, "s", "5 3\n255 1\n")?,
-        named(alloc, "b", BAD_LINE)?,
-        named(alloc, "g", GROWING_SUM)?,
-        named(alloc, "w", SEVENTEEN)?,
-        named(alloc, "e", "")?,
-    ]?;
+/// Makes the calls on so many stripes.
+fn check_lists(rt: &impl Abort, alloc: Global, stripes: &str) -> Result<(), AllocError> {
+    let setting = Setting {
+        blank: stripes,
+        ..PLAIN
+    };
+    check_calls(rt, alloc, texts(alloc, TEXTS)?, &setting, CASES)
+}
+
+#[test]
+fn lists(rt: HostRuntime) -> Result<(), AllocError> {
+    check_lists(&rt, rt.alloc(), "2")?;
+    check_lists(&rt, rt.alloc(), "16")
+}
+
+/// Appends lists of as many bytes as are allowed, and of one more: blanks stand behind the first line.
+fn put_lists(alloc: Global, files: &mut Files) -> Result<(), AllocError> {
+    put_long(alloc, files, "most", "r q 1\n", " ", 65_529, "\n")?;
+    put_long(alloc, files, "more", "r q 1\n", " ", 65_530, "\n")
+}
+
+/// The texts of all calls, and these lists.
+fn long_files(alloc: Global) -> Result<Files, AllocError> {
+    let mut files = texts(alloc, "")?;
+    put_lists(alloc, &mut files)?;
     Ok(files)
 }
 
-/// A list, the answer, the status, the text and the note that it is to come to.
-type Case<'a> = (&'a str, Answer, u8, &'a str, &'a str);
+const LONG: &str = "\
+$ share most
+0: 255
+0: 0
+0: 1
+= Ok 0
+$ share more
+= Limit { which: ListBytes } 6
+limit: list-bytes 65536
+";
 
-const CASES: [Case<'_>; 14] = [
-    ("r q 1\np s 2\n", Answer::Ok, 0, LINES, ""),
-    (
-        "\n r q 1\n",
-        Answer::BadList { line: 2 },
-        14,
-        "",
-        "bad list: line 2\n",
-    ),
-    (
-        "",
-        Answer::BadList { line: 1 },
-        14,
-        "",
-        "bad list: line 1\n",
-    ),
-    (
-        "r q 0\n",
-        Answer::BadList { line: 1 },
-        14,
-        "",
-        "bad list: line 1\n",
-    ),
-    (
-        "r q 1\np b 2",
-        Answer::Part {
-            program: 1,
-            cause: Cause::BadSample { line: 3 },
-        },
-        7,
-        LINES,
-        "program 1: bad sample: line 3\n",
-    ),
-    (
-        "p b 1\np b 1\n",
-        Answer::Part {
-            program: 0,
-            cause: Cause::BadSample { line: 3 },
-        },
-        7,
-        "0: 6\n1: 6\n0: 254\n1: 254\n",
-        "program 0: bad sample: line 3\n",
-    ),
-    (
-        "r n 1\np s 1000000\n",
-        Answer::ReadFault,
-        10,
-        "1: 6\n1: 254\n",
-        "read fault\n",
-    ),
-    (
-        "p b 9\nr n 1\n",
-        Answer::ReadFault,
-        10,
-        "0: 6\n0: 254\n",
-        "read fault\n",
-    ),
-    ("r q 1\nn s 2\n", Answer::ReadFault, 10, "", "read fault\n"),
-    (
-        "r q 1\ng s 2\nn s 1\n",
-        Answer::Part {
-            program: 1,
-            cause: Cause::NoWidth { equation: 2 },
-        },
-        4,
-        "",
-        "program 1: no width: equation 2\n",
-    ),
-    (
-        "w q 1\n",
-        Answer::Part {
-            program: 0,
-            cause: Cause::Limit {
-                which: Cap::InputBytes,
-            },
-        },
-        6,
-        "",
-        "program 0: limit: input-bytes 16\n",
-    ),
-    (
-        "e e 1\n",
-        Answer::Part {
-            program: 0,
-            cause: Cause::Scope { rule: 10, item: 0 },
-        },
-        3,
-        "",
-        "program 0: scope: rule 10 item 0\n",
-    ),
-    ("p e 1\nr e 1\n", Answer::Ok, 0, "", ""),
-    (
-        "p s 1\np s 2\np s 3\np s 1\np s 1\np s 1\np s 1\np s 1\n",
-        Answer::Ok,
-        0,
-        "0: 6\n1: 6\n1: 254\n2: 6\n2: 254\n3: 6\n4: 6\n5: 6\n6: 6\n7: 6\n0: 254\n3: 254\n4: 254\n5: 254\n6: 254\n7: 254\n",
-        "",
-    ),
-];
+#[test]
+fn long_lists(rt: HostRuntime) -> Result<(), AllocError> {
+    let alloc = rt.alloc();
+    check_calls(&rt, alloc, long_files(alloc)?, &PLAIN, LONG)
+}
 
-/// The running sum, a line in each turn, and the exclusive or, two lines.
+/// The call of which reads and writes fail, and its lines.
+const TWO: &str = "share two --stripes 2";
+
 const LINES: &str = "0: 255\n1: 6\n1: 254\n0: 0\n0: 1\n";
-
-#[test]
-fn lists(rt: HostRuntime) -> Result<(), Fail> {
-    let alloc = rt.alloc();
-    for (list, answer, status, text, note) in CASES {
-        let wanted = Wanted {
-            answer,
-            status,
-            text,
-            note,
-        };
-        for stripes in ["2", "16"] {
-            let words = [
-                "share",
-                "l",
-                "--stripes",
-                stripes,
-                "--fabric",
-                "wide",
-                "--narrow",
-            ];
-            check_call(&rt, alloc, &words, files(alloc, list)?, wanted)?;
-        }
-    }
-    Ok(())
-}
-
-/// A list of more bytes than are allowed.
-#[test]
-fn long_lists(rt: HostRuntime) -> Result<(), Fail> {
-    let alloc = rt.alloc();
-    for (blanks, answer) in [
-        (65_529, Answer::Ok),
-        (
-            65_530,
-            Answer::Limit {
-                which: Cap::ListBytes,
-            },
-        ),
-    ] {
-        let mut bytes = Vec::from_slice(alloc, b"r q 1\n")?;
-        for _ in 0..blanks {
-            bytes.push(b' ')?;
-        }
-        bytes.push(b'\n')?;
-        let files = vec![in alloc;
-            (String::from_str(alloc, "l")?, bytes),
-            named(alloc, "r", RUNNING_SUM)?,
-            named(alloc, "q", "5\n1\n1\n")?,
-        ]?;
-        let mut out = SureSink::make(alloc, 100)?;
-        let mut note = SureSink::make(alloc, 100)?;
-        let came = answer_to(alloc, &["share", "l"], files, &mut out, &mut note)?;
-        assert_eq!(rt; came, answer);
-    }
-    Ok(())
-}
-
-/// What the first list comes to where these calls fail. What is written are the first bytes of its lines, or the lines
-/// of the samples that were read.
-fn came_to(
-    alloc: Global,
-    reads: Vec<u64>,
-    writes: Vec<u64>,
-    out: &mut Vec<u8>,
-) -> Result<Answer, AllocError> {
-    let mut shelf = MemShelf::make(alloc, files(alloc, "r q 1\np s 2\n")?, reads)?;
-    let mut sink = MemSink::make(alloc, 200, writes)?;
-    let mut note = SureSink::make(alloc, 100)?;
-    let words = ["share", "l", "--stripes", "2"];
-    let answer = answer_over(alloc, &words, &mut shelf, &mut sink, &mut note)?;
-    out.extend_from_slice(sink.bytes())?;
-    Ok(answer)
-}
 
 /// Five files take two reads each: one finds the bytes, the other the end. Where the first read of a program's samples
 /// fails, only the lines of the other are written; where the second does, all lines.
 #[test]
-fn every_read_fails(rt: HostRuntime) -> Result<(), Fail> {
+fn every_read_fails(rt: HostRuntime) -> Result<(), AllocError> {
     let alloc = rt.alloc();
-    let second = "1: 6\n1: 254\n";
-    let first = "0: 255\n0: 0\n0: 1\n";
-    let wanted = ["", "", "", "", "", "", second, first, LINES, LINES];
-    for call in 1..wanted.len() + 1 {
-        let mut out = Vec::new(alloc);
-        let reads = vec![in alloc; call as u64]?;
-        let answer = came_to(alloc, reads, Vec::new(alloc), &mut out)?;
-        assert_eq!(rt; answer, Answer::ReadFault, "read {call}");
-        assert_eq!(rt; out.as_slice(), wanted[call - 1].as_bytes(), "read {call}");
+    for read in 1..11u64 {
+        let wanted = match read {
+            7 => "1: 6\n1: 254\n",
+            8 => "0: 255\n0: 0\n0: 1\n",
+            9 | 10 => LINES,
+            _ => "",
+        };
+        let setting = Setting { read, ..PLAIN };
+        let files = texts(alloc, TEXTS)?;
+        check_text(
+            &rt,
+            alloc,
+            TWO,
+            files,
+            &setting,
+            READ_FAULT,
+            wanted.as_bytes(),
+        )?;
     }
     Ok(())
 }
 
 /// Each of the five lines takes two writes: its number, and the rest.
 #[test]
-fn every_write_fails(rt: HostRuntime) -> Result<(), Fail> {
+fn every_write_fails(rt: HostRuntime) -> Result<(), AllocError> {
     let alloc = rt.alloc();
-    for call in 1..11u64 {
-        let mut out = Vec::new(alloc);
-        let answer = came_to(alloc, Vec::new(alloc), vec![in alloc; call]?, &mut out)?;
-        assert_eq!(rt; answer, Answer::WriteFault, "write {call}");
-        assert!(rt; LINES.as_bytes().starts_with(&out));
+    for write in 1..12u64 {
+        let setting = Setting { write, ..PLAIN };
+        let ending = if write < 11 { WRITE_FAULT } else { OK };
+        let files = texts(alloc, TEXTS)?;
+        check_lines(&rt, alloc, TWO, files, &setting, ending, LINES)?;
     }
-    let mut out = Vec::new(alloc);
-    let answer = came_to(alloc, Vec::new(alloc), vec![in alloc; 11]?, &mut out)?;
-    assert_eq!(rt; answer, Answer::Ok);
-    assert_eq!(rt; out.as_slice(), LINES.as_bytes());
     Ok(())
 }
