@@ -1,18 +1,19 @@
 //! What runs come to.
 
-use crate::trials::{Wanted, check_run, shelf_of};
-use pr_base::Cap;
+use crate::trials::{check_run, shelf_of};
 use pr_edge::MemShelf;
 use pr_tool_files::{
     BASE, Change, Kind, NEWER, OLDER, OTHER, WIDE, WIDER, XOR, made, packed, repeated,
 };
-use pr_tool_modes::Answer;
-use std::test::Fail;
+use std::alloc::{AllocError, Global};
+use std::process::Abort;
 
-/// Two samples, and what the exclusive or makes of them.
+/// Two samples, and what the exclusive or makes of them on both fabrics.
 const TWO: &[u8] = b"5 3\n255 1\n";
 
-const RESULTS: &[u8] = b"6\n254\n";
+const RESULTS: &str = "6\n254\n= Ok, 16 columns\n";
+
+const WIDE_RESULTS: &str = "6\n254\n= Ok, 32 columns\n";
 
 /// The exclusive or on the wide fabric, in the older format.
 const WIDE_AND_OLDER: Kind = Kind::Plain {
@@ -21,121 +22,111 @@ const WIDE_AND_OLDER: Kind = Kind::Plain {
     table: XOR,
 };
 
-/// A run of this configuration on the two samples leaves a machine of so many columns and writes these lines.
-const CONFIGURATIONS: [(Kind, usize, &[u8]); 5] = [
-    (NEWER, 16, RESULTS),
-    (OLDER, 16, RESULTS),
-    (OTHER, 16, b"254\n254\n"),
-    (WIDER, 32, RESULTS),
-    (WIDE_AND_OLDER, 32, RESULTS),
-];
-
-#[test]
-fn both_formats_on_both_fabrics(rt: HostRuntime) -> Result<(), Fail> {
-    let alloc = rt.alloc();
-    for (kind, columns, lines) in CONFIGURATIONS {
-        let wanted = Wanted {
-            answer: Answer::Ok,
-            lines,
-            columns,
-        };
-        let configuration = made(alloc, kind, Change::Nothing)?;
-        let mut shelf = shelf_of(alloc, configuration, TWO, b"", Vec::new(alloc))?;
-        check_run(&rt, alloc, false, &mut shelf, wanted)?;
-    }
-    Ok(())
+/// Checks what comes of a run of this configuration on the two samples.
+fn check_kind(
+    rt: &impl Abort,
+    alloc: Global,
+    kind: Kind,
+    wanted: &str,
+    case: &str,
+) -> Result<(), AllocError> {
+    let configuration = made(alloc, kind, Change::Nothing)?;
+    let shelf = shelf_of(alloc, configuration, TWO, b"", Vec::new(alloc))?;
+    check_run(rt, alloc, false, shelf, wanted, case)
 }
 
-/// Samples, a stall text, what a run of the exclusive or comes to, its lines, and the columns of the machine.
-const RUNS: [(&[u8], &[u8], Answer, &[u8], usize); 6] = [
-    (TWO, b"o\noib..", Answer::Ok, RESULTS, 16),
-    (TWO, b"..x", Answer::BadStall { place: 2 }, b"", 0),
-    (b"", b"", Answer::Ok, b"", 16),
-    (b"5\t3\r\n\r\n 255 1", b"o", Answer::Ok, RESULTS, 16),
-    (
-        b"5 3\n255 1\n7 x\n1 1\n2 2\n",
-        b"i",
-        Answer::BadSample { line: 3 },
-        RESULTS,
-        16,
-    ),
-    (b"256 1\n", b"", Answer::BadSample { line: 1 }, b"", 16),
-];
+#[test]
+fn both_formats_on_both_fabrics(rt: HostRuntime) -> Result<(), AllocError> {
+    let alloc = rt.alloc();
+    let other = "254\n254\n= Ok, 16 columns\n";
+    check_kind(&rt, alloc, NEWER, RESULTS, "newer")?;
+    check_kind(&rt, alloc, OLDER, RESULTS, "older")?;
+    check_kind(&rt, alloc, OTHER, other, "other")?;
+    check_kind(&rt, alloc, WIDER, WIDE_RESULTS, "wider")?;
+    check_kind(&rt, alloc, WIDE_AND_OLDER, WIDE_RESULTS, "wide and older")
+}
+
+/// Checks what comes of a run of the exclusive or on samples under a stall text.
+fn check_texts(
+    rt: &impl Abort,
+    alloc: Global,
+    samples: &str,
+    stall: &[u8],
+    wanted: &str,
+) -> Result<(), AllocError> {
+    let configuration = packed(alloc, BASE, XOR)?;
+    let failing = Vec::new(alloc);
+    let shelf = shelf_of(alloc, configuration, samples.as_bytes(), stall, failing)?;
+    check_run(rt, alloc, true, shelf, wanted, samples)
+}
 
 #[test]
-fn samples_and_stall_texts(rt: HostRuntime) -> Result<(), Fail> {
+fn samples_and_stall_texts(rt: HostRuntime) -> Result<(), AllocError> {
     let alloc = rt.alloc();
-    for (samples, stall, answer, lines, columns) in RUNS {
-        let wanted = Wanted {
-            answer,
-            lines,
-            columns,
-        };
-        let configuration = packed(alloc, BASE, XOR)?;
-        let mut shelf = shelf_of(alloc, configuration, samples, stall, Vec::new(alloc))?;
-        check_run(&rt, alloc, true, &mut shelf, wanted)?;
-    }
-    Ok(())
+    let two = "5 3\n255 1\n";
+    let blanks = "5\t3\r\n\r\n 255 1";
+    let bad_line = "5 3\n255 1\n7 x\n1 1\n2 2\n";
+    let bad_third = "6\n254\n= BadSample { line: 3 }, 16 columns\n";
+    let bad_first = "= BadSample { line: 1 }, 16 columns\n";
+    check_texts(&rt, alloc, two, b"o\noib..", RESULTS)?;
+    check_texts(
+        &rt,
+        alloc,
+        two,
+        b"..x",
+        "= BadStall { place: 2 }, 0 columns\n",
+    )?;
+    check_texts(&rt, alloc, "", b"", "= Ok, 16 columns\n")?;
+    check_texts(&rt, alloc, blanks, b"o", RESULTS)?;
+    check_texts(&rt, alloc, bad_line, b"i", bad_third)?;
+    check_texts(&rt, alloc, "256 1\n", b"", bad_first)
 }
 
 /// A line may be longer than what is read at once.
 #[test]
-fn long_line(rt: HostRuntime) -> Result<(), Fail> {
+fn long_line(rt: HostRuntime) -> Result<(), AllocError> {
     let alloc = rt.alloc();
-    let wanted = Wanted {
-        answer: Answer::Ok,
-        lines: b"6\n",
-        columns: 16,
-    };
     let mut samples = repeated(alloc, b"0", 200_000)?;
     samples.extend_from_slice(b"5 3\n")?;
-    let mut shelf = shelf_of(
-        alloc,
-        packed(alloc, BASE, XOR)?,
-        &samples,
-        b"",
-        Vec::new(alloc),
-    )?;
-    check_run(&rt, alloc, false, &mut shelf, wanted)?;
-    Ok(())
-}
-
-/// What a refusal is to be: nothing is written, and no machine left.
-fn refusal(answer: Answer) -> Wanted<'static> {
-    Wanted {
-        answer,
-        lines: b"",
-        columns: 0,
-    }
-}
-
-#[test]
-fn a_stall_text_that_is_too_long(rt: HostRuntime) -> Result<(), Fail> {
-    let alloc = rt.alloc();
-    let long = repeated(alloc, b".", 1_048_577)?;
     let configuration = packed(alloc, BASE, XOR)?;
-    let mut shelf = shelf_of(alloc, configuration, TWO, &long, Vec::new(alloc))?;
-    let wanted = refusal(Answer::Limit {
-        which: Cap::StallBytes,
-    });
-    check_run(&rt, alloc, true, &mut shelf, wanted)?;
-    Ok(())
+    let shelf = shelf_of(alloc, configuration, &samples, b"", Vec::new(alloc))?;
+    check_run(
+        &rt,
+        alloc,
+        false,
+        shelf,
+        "6\n= Ok, 16 columns\n",
+        "long line",
+    )
 }
 
 #[test]
-fn a_fabric_that_there_is_not(rt: HostRuntime) -> Result<(), Fail> {
+fn a_stall_text_that_is_too_long(rt: HostRuntime) -> Result<(), AllocError> {
+    let alloc = rt.alloc();
+    let stall = repeated(alloc, b".", 1_048_577)?;
+    let wanted = "= Limit { which: StallBytes }, 0 columns\n";
+    check_texts(&rt, alloc, "5 3\n255 1\n", &stall, wanted)
+}
+
+#[test]
+fn a_fabric_that_there_is_not(rt: HostRuntime) -> Result<(), AllocError> {
     let alloc = rt.alloc();
     let configuration = packed(alloc, WIDE + 1, XOR)?;
-    let mut shelf = shelf_of(alloc, configuration, TWO, b"x", Vec::new(alloc))?;
-    let wanted = refusal(Answer::BadConfig { rule: 3, place: 1 });
-    check_run(&rt, alloc, true, &mut shelf, wanted)?;
-    Ok(())
+    let shelf = shelf_of(alloc, configuration, TWO, b"x", Vec::new(alloc))?;
+    let wanted = "= BadConfig { rule: 3, place: 1 }, 0 columns\n";
+    check_run(&rt, alloc, true, shelf, wanted, "no fabric")
 }
 
 #[test]
-fn no_files(rt: HostRuntime) -> Result<(), Fail> {
+fn no_files(rt: HostRuntime) -> Result<(), AllocError> {
     let alloc = rt.alloc();
-    let mut shelf = MemShelf::make(alloc, Vec::new(alloc), Vec::new(alloc))?;
-    check_run(&rt, alloc, true, &mut shelf, refusal(Answer::ReadFault))?;
-    Ok(())
+    let shelf = MemShelf::make(alloc, Vec::new(alloc), Vec::new(alloc))?;
+    check_run(
+        &rt,
+        alloc,
+        true,
+        shelf,
+        "= ReadFault, 0 columns\n",
+        "no files",
+    )
 }
