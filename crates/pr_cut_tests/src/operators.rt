@@ -2,7 +2,7 @@
 
 use crate::shown::Shown;
 use crate::table::{NUMBERS, ROWS, Row};
-use crate::texts::net_of;
+use crate::texts::{Stop, net_of};
 use pr_base::{Width, byte_of, cut, slices};
 use pr_net::Net;
 use std::alloc::{AllocError, Global};
@@ -80,34 +80,40 @@ fn sample_of(alloc: Global, row: &Row, sample: [u8; 4]) -> Result<Vec<u8>, Alloc
             bytes.push(byte_of(number, i))?;
         }
     }
-    bytes.push(condition)?;
-    bytes.push(amount)?;
+    bytes.extend_from_slice(&[condition, amount])?;
     Ok(bytes)
 }
 
-/// The outputs of the last sample of a row.
-fn values_of(alloc: Global, net: &Net, row: &Row) -> Result<String, AllocError> {
-    let mut shown = Shown::new(alloc, net)?;
+/// The net of the program of a row.
+fn net_of_row(alloc: Global, row: &Row) -> Result<Net, Stop> {
+    let text = text_of(alloc, row)?;
+    net_of(alloc, &text, 64)
+}
+
+/// Shows the samples of a row.
+fn show(alloc: Global, net: &Net, row: &Row, shown: &mut Shown) -> Result<(), AllocError> {
     for sample in row.samples {
         let sample = sample_of(alloc, row, sample)?;
-        shown.next(alloc, net, sample)?;
+        shown.next(alloc, net, &sample)?;
     }
-    let mut text = String::new(alloc);
-    for output in &net.outputs {
-        let number = format!(in alloc; "{:x} ", shown.number(&output.slices))?;
-        text.push_str(&number)?;
-    }
-    Ok(text)
+    Ok(())
+}
+
+/// The outputs of the last sample of a row.
+fn values_of(alloc: Global, row: &Row) -> Result<String, Stop> {
+    let net = net_of_row(alloc, row)?;
+    let mut shown = Shown::new(alloc, &net)?;
+    show(alloc, &net, row, &mut shown)?;
+    let mut values = String::new(alloc);
+    shown.put_numbers(&net, &mut values)?;
+    Ok(values)
 }
 
 #[test]
 fn operators_at_many_widths(rt: HostRuntime) -> Result<(), Fail> {
     for row in &ROWS {
-        let text = text_of(rt.alloc(), row)?;
-        assert!(rt; text.len() < 10000);
-        let net = net_of(rt.alloc(), text.as_bytes(), 64)?;
-        let values = values_of(rt.alloc(), &net, row)?;
-        assert_eq!(rt; values.as_str(), row.values, "of {text}");
+        let values = values_of(rt.alloc(), row)?;
+        assert_eq!(rt; values.as_str(), row.values);
     }
     Ok(())
 }

@@ -3,11 +3,12 @@
 ghost use Rattle.std.specs.Prelude.{◌≤◌};
 
 use crate::shown::Shown;
-use crate::texts::{Stop, route_text};
-use crate::through::through;
+use crate::texts::{Routed, Stop, route_text};
+use crate::through::put_through;
 use pr_conf::Configuration;
 use pr_net::Net;
 use std::alloc::{AllocError, Global};
+use std::fmt::Write;
 use std::test::Fail;
 
 /// A filter of sixteen taps.
@@ -24,86 +25,109 @@ const PRODUCT: &str = "input a:8; input b:8; output y = a * b;";
 /// A recurrence whose group has 24 cells.
 const TOO_WIDE: &str = "input x:64; rec s:64 = 0 by (s@1 ^ x) & s@1; output y = s;";
 
-/// What the slices of the outputs show at each sample.
-fn shown_by(alloc: Global, net: &Net, samples: &[&[u8]]) -> Result<Vec<u8>, AllocError> {
+/// Appends what the slices of the outputs show at each sample.
+fn put_shown(
+    alloc: Global,
+    net: &Net,
+    samples: &[&[u8]],
+    bytes: &mut Vec<u8>,
+) -> Result<(), AllocError> {
     let mut shown = Shown::new(alloc, net)?;
-    let mut all = Vec::new(alloc);
     for sample in samples {
-        shown.next(alloc, net, sample.to_vec(alloc)?)?;
-        shown.put_results(net, &mut all)?;
+        shown.next(alloc, net, sample)?;
+        shown.put_results(net, bytes)?;
     }
-    Ok(all)
+    Ok(())
 }
 
-/// What the configuration gives at each sample.
-fn given_by<const N: usize, const P: usize>(
+/// Appends what the configuration gives at each sample.
+fn put_given<const N: usize, const P: usize>(
     alloc: Global,
     conf: &Configuration<N, P>,
     samples: &[&[u8]],
-) -> Result<Vec<u8>, AllocError> {
+    bytes: &mut Vec<u8>,
+) -> Result<(), AllocError> {
     let mut rows = Vec::new(alloc);
     for sample in samples {
         rows.push(sample.to_vec(alloc)?)?;
     }
-    through(alloc, conf, rows)
+    put_through(alloc, conf, &mut rows, bytes)
 }
 
-/// The bytes that the net of a text shows for these samples, if its configuration gives the same.
-fn results_of<const N: usize, const P: usize>(
+/// Appends the bytes that a configuration gives, or how far they are from what its net shows.
+fn put_bytes<const N: usize, const P: usize>(
     alloc: Global,
+    routed: &Routed<N, P>,
+    samples: &[&[u8]],
+    told: &mut String,
+) -> Result<(), AllocError> {
+    let mut shown = Vec::new(alloc);
+    put_shown(alloc, &routed.net, samples, &mut shown)?;
+    let mut given = Vec::new(alloc);
+    put_given(alloc, &routed.conf, samples, &mut given)?;
+    if given.as_slice() != shown.as_slice() {
+        told.push_str(" other bytes than the net:")?;
+    }
+    for byte in &given {
+        write!(told, " {byte}")?;
+    }
+    Ok(())
+}
+
+/// Appends what the configuration of a text gives.
+fn put_told<const N: usize, const P: usize>(
+    alloc: Global,
+    name: &str,
     text: &str,
     samples: &[&[u8]],
-) -> Result<Option<Vec<u8>>, Stop>
+    told: &mut String,
+) -> Result<(), Stop>
     requires columns { 1 ≤ N }
     requires most_columns { N ≤ 64 }
     requires registers { 2 ≤ P }
     requires most_registers { P ≤ 16 }
 {
-    if text.len() > 1000 {
-        return Ok(None);
+    write!(told, "{name} on {} columns of {}:", N, P)?;
+    match route_text::<N, P>(alloc, text) {
+        Ok(routed) => put_bytes(alloc, &routed, samples, told)?,
+        Err(Stop::NoFit(unit)) => write!(told, " the group of unit {unit} fits nowhere")?,
+        Err(stop) => return Err(stop),
     }
-    let routed = route_text::<N, P>(alloc, text.as_bytes())?;
-    let shown = shown_by(alloc, &routed.net, samples)?;
-    let given = given_by(alloc, &routed.conf, samples)?;
-    if shown.as_slice() == given.as_slice() {
-        return Ok(Some(given));
-    }
-    Ok(None)
+    told.push_str("\n")?;
+    Ok(())
+}
+
+/// The bytes that configurations give, if the nets show the same, or the last unit of the group that fits in no stripe.
+const GIVEN: &str = "\
+filter on 16 columns of 8: 8 0 0 17 0 0 27 0 0 38 0 0 50 0 0
+filter on 4 columns of 16: 8 0 0 17 0 0 27 0 0 38 0 0 50 0 0
+saved state on 16 columns of 8: 0 255 254
+saved state on 4 columns of 4: 0 255 254
+product on 16 columns of 8: 1 254 21 0 32 78
+product on 4 columns of 8: 1 254 21 0 32 78
+wide group on 16 columns of 8: the group of unit 3 fits nowhere
+wide group on 32 columns of 16: 0 0 0 0 0 0 0 0 0 0 0 0 0 0 0 0
+";
+
+fn put_all_told(alloc: Global, told: &mut String) -> Result<(), Stop> {
+    let ones: [&[u8]; 5] = [&[1], &[1], &[1], &[1], &[1]];
+    put_told::<16, 8>(alloc, "filter", FILTER, &ones, told)?;
+    put_told::<4, 16>(alloc, "filter", FILTER, &ones, told)?;
+    let few: [&[u8]; 3] = [&[5], &[1], &[1]];
+    put_told::<16, 8>(alloc, "saved state", SAVED_STATE, &few, told)?;
+    put_told::<4, 4>(alloc, "saved state", SAVED_STATE, &few, told)?;
+    let factors: [&[u8]; 3] = [&[255, 255], &[3, 7], &[100, 200]];
+    put_told::<16, 8>(alloc, "product", PRODUCT, &factors, told)?;
+    put_told::<4, 8>(alloc, "product", PRODUCT, &factors, told)?;
+    let wide: [&[u8]; 2] = [&[7, 0, 0, 0, 0, 0, 0, 0], &[1, 0, 0, 0, 0, 0, 0, 0]];
+    put_told::<16, 8>(alloc, "wide group", TOO_WIDE, &[], told)?;
+    put_told::<32, 16>(alloc, "wide group", TOO_WIDE, &wide, told)
 }
 
 #[test]
 fn configurations_give_what_the_nets_show(rt: HostRuntime) -> Result<(), Fail> {
-    let alloc = rt.alloc();
-    let ones: [&[u8]; 5] = [&[1], &[1], &[1], &[1], &[1]];
-    let sums = Some(vec![in alloc; 8, 0, 0, 17, 0, 0, 27, 0, 0, 38, 0, 0, 50, 0, 0]?);
-    assert_eq!(rt; results_of::<16, 8>(alloc, FILTER, &ones)?, sums);
-    assert_eq!(rt; results_of::<4, 16>(alloc, FILTER, &ones)?, sums);
-    let few: [&[u8]; 3] = [&[5], &[1], &[1]];
-    let inverses = Some(vec![in alloc; 0, 255, 254]?);
-    assert_eq!(rt; results_of::<16, 8>(alloc, SAVED_STATE, &few)?, inverses);
-    assert_eq!(rt; results_of::<4, 4>(alloc, SAVED_STATE, &few)?, inverses);
-    let factors: [&[u8]; 3] = [&[255, 255], &[3, 7], &[100, 200]];
-    let products = Some(vec![in alloc; 1, 254, 21, 0, 32, 78]?);
-    assert_eq!(rt; results_of::<16, 8>(alloc, PRODUCT, &factors)?, products);
-    assert_eq!(rt; results_of::<4, 8>(alloc, PRODUCT, &factors)?, products);
-    Ok(())
-}
-
-/// The last unit of the group that fits in no stripe of sixteen columns.
-fn no_fit(alloc: Global, text: &str) -> Result<u32, Stop> {
-    match results_of::<16, 8>(alloc, text, &[]) {
-        Err(Stop::NoFit(unit)) => Ok(unit),
-        Err(stop) => Err(stop),
-        Ok(_) => Err(Stop::Refused),
-    }
-}
-
-#[test]
-fn a_recurrence_of_too_many_cells(rt: HostRuntime) -> Result<(), Fail> {
-    let alloc = rt.alloc();
-    assert_eq!(rt; no_fit(alloc, TOO_WIDE)?, 3);
-    let samples: [&[u8]; 2] = [&[7, 0, 0, 0, 0, 0, 0, 0], &[1, 0, 0, 0, 0, 0, 0, 0]];
-    let noughts = Some(vec![in alloc; 0; 16]?);
-    assert_eq!(rt; results_of::<32, 16>(alloc, TOO_WIDE, &samples)?, noughts);
+    let mut told = String::new(rt.alloc());
+    put_all_told(rt.alloc(), &mut told)?;
+    assert_eq!(rt; told.as_str(), GIVEN);
     Ok(())
 }

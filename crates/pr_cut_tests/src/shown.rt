@@ -4,6 +4,7 @@ use crate::elements::{Bytes, Made, at};
 use pr_base::{Carry, Next};
 use pr_net::{Cell, Net, Slice, Unit, Wire, WireBit};
 use std::alloc::{AllocError, Global};
+use std::fmt::Write;
 
 /// The bytes of all cells, one unit after the other.
 #[derive(Drop)]
@@ -101,9 +102,10 @@ impl Shown {
         &mut self,
         alloc: Global,
         net: &Net,
-        sample: Vec<u8>,
+        sample: &[u8],
     ) -> Result<(), AllocError> {
-        self.sample = sample;
+        self.sample.clear();
+        self.sample.extend_from_slice(sample)?;
         self.bytes.clear();
         let mut states = Vec::new(alloc);
         for unit in &net.units {
@@ -127,6 +129,14 @@ impl Shown {
             for slice in &output.slices {
                 bytes.push(self.slice(*slice))?;
             }
+        }
+        Ok(())
+    }
+
+    /// Appends the numbers of the outputs in hexadecimal digits.
+    pub(crate) fn put_numbers(&self, net: &Net, numbers: &mut String) -> Result<(), AllocError> {
+        for output in &net.outputs {
+            write!(numbers, "{:x} ", self.number(&output.slices))?;
         }
         Ok(())
     }

@@ -1,6 +1,6 @@
 //! Texts of programs on their way to nets.
 
-ghost use Rattle.std.specs.Prelude.{◌≤◌, length, IfOk};
+ghost use Rattle.std.specs.Prelude.{◌≤◌, IfOk};
 ghost use Rattle.pr_flat.specs.Shape.{shapes_of};
 ghost use Rattle.pr_flat.specs.Widths.{AreWidths};
 
@@ -9,6 +9,7 @@ use pr_compile_front::{Front, FrontFault, read_program};
 use pr_conf::Configuration;
 use pr_cut::cut;
 use pr_cut_plan::CutFault;
+use pr_cutmul::RowFault;
 use pr_flat::Flat;
 use pr_net::Net;
 use pr_place::{PlaceFault, place};
@@ -43,6 +44,15 @@ impl From<CutFault> for Stop {
     }
 }
 
+impl From<RowFault> for Stop {
+    fn from(fault: RowFault) -> Stop {
+        match fault {
+            RowFault::Limit(cap) => Stop::Passed(cap),
+            RowFault::Memory(error) => Stop::Memory(error),
+        }
+    }
+}
+
 impl From<PlaceFault> for Stop {
     fn from(fault: PlaceFault) -> Stop {
         match fault {
@@ -54,26 +64,41 @@ impl From<PlaceFault> for Stop {
 
 /// The program of a text with its equations and their widths.
 #[tactic(auto, using(crate::proofs::Lawful::front_widths))]
-pub(crate) fn front_of(alloc: Global, text: &[u8]) -> Result<Front, Stop>
-    requires { length text.now ≤ 1048576 }
+pub(crate) fn front_of(alloc: Global, text: &str) -> Result<Front, Stop>
     ensures { IfOk result (λ f. AreWidths (shapes_of f.flat.equations.items) f.widths) }
 {
-    match read_program(alloc, text) {
+    if text.len() > 10_000 {
+        return Err(Stop::Refused);
+    }
+    match read_program(alloc, text.as_bytes()) {
         Ok(front) => Ok(front),
         Err(FrontFault::Memory(error)) => Err(Stop::Memory(error)),
         Err(_) => Err(Stop::Refused),
     }
 }
 
+/// The net of equations, for so many columns.
+pub(crate) fn net_of_flat(
+    alloc: Global,
+    flat: &Flat,
+    widths: &Widths,
+    columns: usize,
+) -> Result<Net, Stop>
+    requires widths { AreWidths (shapes_of flat.now.equations.items) widths.now }
+    requires some { 1 ≤ columns }
+    requires few { columns ≤ 64 }
+{
+    let net = cut(alloc, flat, widths, columns)?;
+    Ok(net)
+}
+
 /// The net of a text, for so many columns.
-pub(crate) fn net_of(alloc: Global, text: &[u8], columns: usize) -> Result<Net, Stop>
-    requires text { length text.now ≤ 1048576 }
+pub(crate) fn net_of(alloc: Global, text: &str, columns: usize) -> Result<Net, Stop>
     requires some { 1 ≤ columns }
     requires few { columns ≤ 64 }
 {
     let front = front_of(alloc, text)?;
-    let net = cut(alloc, &front.flat, &front.widths, columns)?;
-    Ok(net)
+    net_of_flat(alloc, &front.flat, &front.widths, columns)
 }
 
 /// A net, and its configuration.
@@ -104,9 +129,8 @@ fn route_flat<const N: usize, const P: usize>(
 /// The net of a text, placed and routed.
 pub(crate) fn route_text<const N: usize, const P: usize>(
     alloc: Global,
-    text: &[u8],
+    text: &str,
 ) -> Result<Routed<N, P>, Stop>
-    requires text { length text.now ≤ 1048576 }
     requires columns { 1 ≤ N }
     requires most_columns { N ≤ 64 }
     requires registers { 2 ≤ P }

@@ -4,6 +4,7 @@ use crate::elements::{Bytes, Made, at};
 use pr_base::{Carry, Next};
 use pr_conf::{Bit, Configuration, Pe, Source, Stage, Tap};
 use std::alloc::{AllocError, Global};
+use std::mem;
 
 /// What the elements of a stage read at one sample.
 #[derive(Drop)]
@@ -17,6 +18,20 @@ struct Seat {
 }
 
 impl Seat {
+    /// The elements before the first sample.
+    fn new(alloc: Global, pes: &[Pe], registers: usize) -> Result<Seat, AllocError> {
+        let mut states = Vec::new(alloc);
+        for pe in pes {
+            states.push(pe.init)?;
+        }
+        Ok(Seat {
+            registers,
+            row: Vec::new(alloc),
+            states,
+            shown: Vec::new(alloc),
+        })
+    }
+
     fn byte(&self, source: Source) -> u8 {
         match source {
             Source::Const(byte) => byte,
@@ -83,6 +98,21 @@ impl Seat {
         Ok(states)
     }
 
+    /// Makes the registers before a sample those after it.
+    fn take(
+        &mut self,
+        alloc: Global,
+        pes: &[Pe],
+        first: bool,
+        row: &mut Vec<u8>,
+    ) -> Result<(), AllocError> {
+        mem::swap(&mut self.row, row);
+        self.shown.clear();
+        self.states = self.show(alloc, pes)?;
+        *row = self.registers(alloc, pes, first)?;
+        Ok(())
+    }
+
     /// The registers after the sample.
     fn registers(&self, alloc: Global, pes: &[Pe], first: bool) -> Result<Vec<u8>, AllocError> {
         let mut all = Vec::new(alloc);
@@ -100,30 +130,19 @@ impl Seat {
     }
 }
 
-/// What a stage makes of all rows.
+/// Takes all rows through a stage.
 fn through_stage<const N: usize>(
     alloc: Global,
     stage: &Stage<N>,
     registers: usize,
     first: bool,
-    rows: Vec<Vec<u8>>,
-) -> Result<Vec<Vec<u8>>, AllocError> {
-    let mut states = Vec::new(alloc);
-    for pe in &stage.pes {
-        states.push(pe.init)?;
-    }
-    let mut made = Vec::new(alloc);
+    rows: &mut [Vec<u8>],
+) -> Result<(), AllocError> {
+    let mut seat = Seat::new(alloc, &stage.pes, registers)?;
     for row in rows {
-        let mut seat = Seat {
-            registers,
-            row,
-            states,
-            shown: Vec::new(alloc),
-        };
-        states = seat.show(alloc, &stage.pes)?;
-        made.push(seat.registers(alloc, &stage.pes, first)?)?;
+        seat.take(alloc, &stage.pes, first, row)?;
     }
-    Ok(made)
+    Ok(())
 }
 
 fn tapped(row: &[u8], registers: usize, tap: Tap) -> u8 {
@@ -152,21 +171,21 @@ fn put_outputs<const N: usize, const P: usize>(
     Ok(())
 }
 
-/// The bytes of the outputs at each sample.
-pub(crate) fn through<const N: usize, const P: usize>(
+/// Appends the bytes of the outputs at each sample. The rows are the samples at first, and then what the last stage
+/// makes of them.
+pub(crate) fn put_through<const N: usize, const P: usize>(
     alloc: Global,
     conf: &Configuration<N, P>,
-    samples: Vec<Vec<u8>>,
-) -> Result<Vec<u8>, AllocError> {
-    let mut rows = samples;
+    rows: &mut [Vec<u8>],
+    results: &mut Vec<u8>,
+) -> Result<(), AllocError> {
     let mut first = true;
     for stage in &conf.stages {
-        rows = through_stage(alloc, stage, P, first, rows)?;
+        through_stage(alloc, stage, P, first, rows)?;
         first = false;
     }
-    let mut results = Vec::new(alloc);
-    for row in &rows {
-        put_outputs(conf, row, &mut results)?;
+    for row in rows.iter() {
+        put_outputs(conf, row, results)?;
     }
-    Ok(results)
+    Ok(())
 }

@@ -4,18 +4,20 @@ ghost use Rattle.std.specs.Prelude.{◌≡◌, ◌^◌, ◌≤◌, length};
 ghost use Rattle.pr_samples.specs.Feed.{widths_of};
 
 use crate::slow::SlowShelf;
+use crate::told::put_file;
 use pr_base::Num;
 use pr_edge::{MemShelf, Shelf};
 use pr_samples::{Feed, Got};
 use std::alloc::{AllocError, Global};
+use std::fmt::Write;
 
 /// The samples that a feed gave, as pairs, and how they end.
 pub(crate) type Fed = (Vec<(Num, Num)>, Got);
 
 /// A shelf with this text as the file `s`.
 pub(crate) fn shelf_of(alloc: Global, text: &[u8]) -> Result<MemShelf, AllocError> {
-    let name = String::from_str(alloc, "s")?;
-    let files = vec![in alloc; (name, Vec::from_slice(alloc, text)?)]?;
+    let mut files = Vec::new(alloc);
+    put_file(alloc, &mut files, "s", text)?;
     MemShelf::make(alloc, files, Vec::new(alloc))
 }
 
@@ -72,4 +74,17 @@ pub(crate) fn fed_slowly(
     let mut feed = Feed::make(alloc, "s", &[8, 8])?;
     let mut shelf = SlowShelf::make(alloc, text, most, failing)?;
     collect(alloc, &mut shelf, &mut feed)
+}
+
+/// Appends the samples, and how they end.
+pub(crate) fn put_pairs(fed: &Fed, told: &mut String) -> Result<(), AllocError> {
+    for (a, b) in &fed.0 {
+        write!(told, "({a}, {b}) ")?;
+    }
+    writeln!(told, "{:?}", fed.1)
+}
+
+/// Appends how many samples there are, and how they end.
+pub(crate) fn put_count(fed: &Fed, told: &mut String) -> Result<(), AllocError> {
+    writeln!(told, "{} {:?}", fed.0.len(), fed.1)
 }

@@ -20,3 +20,5 @@ mod slow;
 mod stalls;
 #[cfg(test)]
 mod system;
+#[cfg(test)]
+mod told;

@@ -1,57 +1,70 @@
 //! Files and sinks in memory.
 
-use pr_edge::{MemShelf, MemSink, ReadAll, SureShelf, SureSink, read_all, write_all};
+use crate::told::{put_file, put_text, put_whole, put_writes};
+use pr_edge::{MemShelf, MemSink, SureShelf, SureSink};
 use std::alloc::{AllocError, Global};
 use std::test::Fail;
 
-fn named(alloc: Global, name: &str, text: &str) -> Result<(String, Vec<u8>), AllocError> {
-    Ok((
-        String::from_str(alloc, name)?,
-        Vec::from_slice(alloc, text.as_bytes())?,
-    ))
+/// A shelf whose third call fails, with two files of the same name.
+fn failing_shelf(alloc: Global) -> Result<MemShelf, AllocError> {
+    let mut files = Vec::new(alloc);
+    put_file(alloc, &mut files, "a", b"one")?;
+    put_file(alloc, &mut files, "a", b"two!")?;
+    MemShelf::make(alloc, files, vec![in alloc; 3u64]?)
+}
+
+fn put_reads(alloc: Global, told: &mut String) -> Result<(), AllocError> {
+    let mut shelf = failing_shelf(alloc)?;
+    put_whole(alloc, &mut shelf, "a", 3, told)?;
+    put_whole(alloc, &mut shelf, "a", 3, told)?;
+    put_whole(alloc, &mut shelf, "a", 2, told)?;
+    put_whole(alloc, &mut shelf, "b", 2, told)
 }
 
 #[test]
 fn reads_files(rt: HostRuntime) -> Result<(), Fail> {
-    let alloc = rt.alloc();
-    let files = vec![in alloc; named(alloc, "a", "one")?, named(alloc, "a", "two!")?]?;
-    let failing = vec![in alloc; 3u64]?;
-    let mut shelf = MemShelf::make(alloc, files, failing)?;
-    let whole = read_all(alloc, &mut shelf, "a", 3)?;
-    assert_eq!(rt; whole.as_slice(), b"one".as_slice());
-    let third_call = read_all(alloc, &mut shelf, "a", 3);
-    assert!(rt; matches!(third_call, Err(ReadAll::ReadFault)));
-    let long = read_all(alloc, &mut shelf, "a", 2);
-    assert!(rt; matches!(long, Err(ReadAll::TooLong)));
-    let missing = read_all(alloc, &mut shelf, "b", 2);
-    assert!(rt; matches!(missing, Err(ReadAll::ReadFault)));
+    let mut told = String::new(rt.alloc());
+    put_reads(rt.alloc(), &mut told)?;
+    assert_eq!(rt; told.as_str(), "one\nReadFault\nTooLong\nReadFault\n");
     Ok(())
+}
+
+/// Writes to a sink with room for six bytes whose second call fails.
+fn put_failing_writes(alloc: Global, told: &mut String) -> Result<(), AllocError> {
+    let mut sink = MemSink::make(alloc, 6, vec![in alloc; 2u64]?)?;
+    put_writes(&mut sink, &["one", "two", "six", "!"], told)?;
+    put_text(sink.bytes(), told)
 }
 
 #[test]
 fn writes_and_fails_in_turn(rt: HostRuntime) -> Result<(), Fail> {
-    let alloc = rt.alloc();
-    let failing = vec![in alloc; 2u64]?;
-    let mut sink = MemSink::make(alloc, 6, failing)?;
-    assert!(rt; write_all(&mut sink, b"one").is_ok());
-    assert!(rt; write_all(&mut sink, b"two").is_err());
-    assert!(rt; write_all(&mut sink, b"six").is_ok());
-    assert!(rt; write_all(&mut sink, b"!").is_err());
-    assert_eq!(rt; sink.bytes(), b"onesix".as_slice());
+    let mut told = String::new(rt.alloc());
+    put_failing_writes(rt.alloc(), &mut told)?;
+    let wanted = "one written\ntwo failed\nsix written\n! failed\nonesix";
+    assert_eq!(rt; told.as_str(), wanted);
     Ok(())
+}
+
+fn put_sure_reads(alloc: Global, told: &mut String) -> Result<(), AllocError> {
+    let mut files = Vec::new(alloc);
+    put_file(alloc, &mut files, "a", b"one")?;
+    let mut shelf = SureShelf::make(files);
+    put_whole(alloc, &mut shelf, "a", 9, told)?;
+    put_whole(alloc, &mut shelf, "b", 9, told)
+}
+
+/// Writes to a sink that has room for four bytes and drops the others.
+fn put_sure_writes(alloc: Global, told: &mut String) -> Result<(), AllocError> {
+    let mut sink = SureSink::make(alloc, 4)?;
+    put_writes(&mut sink, &["one", "two"], told)?;
+    put_text(sink.bytes(), told)
 }
 
 #[test]
 fn never_fails(rt: HostRuntime) -> Result<(), Fail> {
-    let alloc = rt.alloc();
-    let files = vec![in alloc; named(alloc, "a", "one")?]?;
-    let mut shelf = SureShelf::make(files);
-    let mut sink = SureSink::make(alloc, 4)?;
-    let there = read_all(alloc, &mut shelf, "a", 9)?;
-    let missing = read_all(alloc, &mut shelf, "b", 9)?;
-    assert!(rt; missing.is_empty());
-    write_all(&mut sink, &there)?;
-    write_all(&mut sink, b"two")?;
-    assert_eq!(rt; sink.bytes(), b"onet".as_slice());
+    let mut told = String::new(rt.alloc());
+    put_sure_reads(rt.alloc(), &mut told)?;
+    put_sure_writes(rt.alloc(), &mut told)?;
+    assert_eq!(rt; told.as_str(), "one\n\none written\ntwo written\nonet");
     Ok(())
 }
