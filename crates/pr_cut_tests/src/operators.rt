@@ -111,9 +111,9 @@ fn values_of(alloc: Global, row: &Row) -> Result<String, Stop> {
 
 #[test]
 fn operators_at_many_widths(rt: HostRuntime) -> Result<(), Fail> {
-    for row in &ROWS {
+    for (number, row) in ROWS.iter().enumerate() {
         let values = values_of(rt.alloc(), row)?;
-        assert_eq!(rt; values.as_str(), row.values);
+        assert_eq!(rt; values.as_str(), row.values, "row {number}");
     }
     Ok(())
 }
