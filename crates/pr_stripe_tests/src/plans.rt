@@ -1,5 +1,7 @@
 //! Plans against a log of the cycles, and a store.
 
+ghost use Rattle.std.specs.Prelude.{◌<◌, length};
+
 use pr_control::{Plan, Store};
 use std::test::Fail;
 
@@ -34,13 +36,22 @@ fn three_stages_stay(rt: HostRuntime) {
     assert!(rt; plan.ring().is_none());
 }
 
+/// The rows of a store.
+fn rows(store: &Store<2>) -> [[u8; 2]; 3]
+    requires { 2 < length store.now }
+{
+    let mut rows = [[0; 2]; 3];
+    for stage in 0..3u32 {
+        rows[stage as usize].copy_from_slice(store.row(stage));
+    }
+    rows
+}
+
 /// A row is put, and the others stay.
 #[test]
 fn rows_of_a_store(rt: HostRuntime) -> Result<(), Fail> {
     let mut store = Store::<2>::make(rt.alloc(), &[1, 2, 3, 4, 5, 6])?;
     store.put(1, &[7, 8]);
-    assert!(rt; store.row(0) == [1, 2].as_slice());
-    assert!(rt; store.row(1) == [7, 8].as_slice());
-    assert!(rt; store.row(2) == [5, 6].as_slice());
+    assert!(rt; rows(&store) == [[1, 2], [7, 8], [5, 6]]);
     Ok(())
 }

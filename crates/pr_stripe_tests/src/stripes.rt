@@ -21,29 +21,32 @@ const CYCLES: &str = "7 21  7 112 125 190  3 92 25 202  63 136 245 22
 128 128  128 205 78 211  108 105 90 15  152 69 166 139
 90 14  -";
 
-/// What the first stage shows after each cycle.
+/// What the first stage shows after each cycle, and the states of the three stages in the store after them.
 const FIRST: &str = "175 0 0 14  0 29 0 0  0 0 94 0
 16 0 0 14  0 125 0 0  0 0 46 0
 -
 0 0 0 0  0 1 0 0  0 0 0 0
 132 0 0 9  0 1 0 0  0 0 9 0
--";
+-
+128 1 9 9  9 9 9 9  9 9 9 9";
 
-/// What the later stage shows after each cycle.
+/// The same of the later stage.
 const LATER: &str = "7 112 148 190  158 92 25 202  63 136 245 1
 255 72 178 214  133 180 209 98  55 96 45 0
 -
 0 77 74 83  36 233 218 143  24 197 38 0
 128 205 218 211  52 105 90 15  152 69 166 0
--";
+-
+9 9 9 9  52 105 166 9  9 9 9 9";
 
-/// What the stage of a filter shows after each cycle.
+/// The same of the stage of a filter.
 const FILTER: &str = "9 112 125 190  3 164 25 202  63 136 245 22
 7 72 181 214  123 236 209 98  55 96 45 46
 -
 255 77 206 83  236 225 226 143  24 197 38 11
 0 205 78 211  108 105 90 15  152 69 166 139
--";
+-
+9 9 9 9  9 9 9 9  128 9 9 9";
 
 /// The numbers of a text up to the first word that is none, twelve at most; the others are 0.
 fn registers_in(words: &str) -> Registers {
@@ -93,49 +96,40 @@ fn writing(alloc: Global, bytes: [u8; 4], write: u8) -> Result<Stage<4>, AllocEr
     Ok(Stage { pes })
 }
 
-/// A stripe whose stage computed once, on what the stripe before shows.
+/// A stripe on the stage of this number, as the store has it. It shows a bubble.
+fn armed(alloc: Global, number: u32, store: &Store<4>) -> Result<Stripe<4, 4, Live>, AllocError>
+    requires { number < length store.now }
+    ensures { IfOk result (λ s. s.mark.stage ≡ number) }
+{
+    Ok(Stripe::<4, 4, Blank>::make(alloc)?.arm(number, store))
+}
+
+/// A stripe that shows what a row does, with these bytes in the register after the one of its number.
 fn after(
     alloc: Global,
     number: u32,
-    prev: &Stripe<4, 4, Live>,
-    stage: &Stage<4>,
+    row: &Row<4, 4>,
+    bytes: [u8; 4],
 ) -> Result<Stripe<4, 4, Live>, AllocError>
-    requires number { number < 3 }
-    requires lawful { (n : ℕ) → are_lawful_pes (site_of 4 4 2 n) stage.now.pes.items ≡ true }
+    requires { number < 3 }
 {
+    let stage = writing(alloc, bytes, number as u8 + 1)?;
     let store = Store::<4>::make(alloc, &[0; 12])?;
-    let mut stripe = Stripe::<4, 4, Blank>::make(alloc)?.arm(number, &store);
-    stripe.compute(prev.row(), &[0, 0], prev.row().valid(), stage);
+    let mut stripe = armed(alloc, number, &store)?;
+    stripe.compute(row, &[0, 0], number == 0 || row.valid(), &stage);
     Ok(stripe)
 }
 
-/// A stripe that shows these registers, each written by a stage.
-fn showing(alloc: Global, registers: Registers) -> Result<Stripe<4, 4, Live>, AllocError> {
-    let store = Store::<4>::make(alloc, &[0; 12])?;
-    let blank = Stripe::<4, 4, Blank>::make(alloc)?;
-    let mut first = Stripe::<4, 4, Blank>::make(alloc)?.arm(0, &store);
-    first.compute(
-        blank.row(),
-        &[0, 0],
-        true,
-        &writing(alloc, registers[0], 1)?,
-    );
-    let second = after(alloc, 1, &first, &writing(alloc, registers[1], 2)?)?;
-    after(alloc, 2, &second, &writing(alloc, registers[2], 3)?)
-}
-
-/// A stripe that shows a bubble.
-fn bubble(alloc: Global) -> Result<Stripe<4, 4, Live>, AllocError> {
-    let store = Store::<4>::make(alloc, &[0; 12])?;
-    Ok(Stripe::<4, 4, Blank>::make(alloc)?.arm(0, &store))
-}
-
-/// The stripe before, which shows these registers, or a bubble.
+/// The stripe before, which shows these registers, each written by a stage, or a bubble.
 fn before(alloc: Global, shown: Option<Registers>) -> Result<Stripe<4, 4, Live>, AllocError> {
-    match shown {
-        Some(registers) => showing(alloc, registers),
-        None => bubble(alloc),
+    let store = Store::<4>::make(alloc, &[0; 12])?;
+    let mut stripe = armed(alloc, 0, &store)?;
+    if let Some(registers) = shown {
+        for number in 0..3u32 {
+            stripe = after(alloc, number, stripe.row(), registers[number as usize])?;
+        }
     }
+    Ok(stripe)
 }
 
 /// Whether a row shows these registers.
@@ -189,19 +183,32 @@ fn cycle_in(line: &str) -> ([u8; 2], Option<Registers>) {
     ([bytes[0], bytes[1]], shown_in(shown))
 }
 
+/// The stage of this number.
+fn stage_of(alloc: Global, number: u32) -> Result<Stage<4>, AllocError>
+    requires { number < 3 }
+    ensures { IfOk result (λ s. are_lawful_pes (site_of 4 4 2 number) s.pes.items ≡ true) }
+{
+    match number {
+        0 => first_stage(alloc),
+        1 => later_stage(alloc),
+        _ => filter_stage(alloc),
+    }
+}
+
 /// The first of these lines that a stage does not show after its cycle.
-fn other_line(
+fn other_cycle(
     alloc: Global,
     stripe: &mut Stripe<4, 4, Live>,
-    stage: &Stage<4>,
+    cycles: &str,
     lines: &'static str,
 ) -> Result<Option<&'static str>, AllocError>
-    requires { are_lawful_pes (site_of 4 4 2 stripe.old.mark.stage) stage.now.pes.items ≡ true }
+    requires { stripe.old.mark.stage < 3 }
     ensures { stripe.new.mark.stage ≡ stripe.old.mark.stage }
 {
-    for (line, shown) in CYCLES.lines().zip(lines.lines()) {
+    let stage = stage_of(alloc, stripe.stage_number())?;
+    for (line, shown) in cycles.lines().zip(lines.lines()) {
         let (sample, prev) = cycle_in(line);
-        cycle(alloc, stripe, stage, sample, prev)?;
+        cycle(alloc, stripe, &stage, sample, prev)?;
         if !is_shown(stripe, shown_in(shown)) {
             return Ok(Some(shown));
         }
@@ -209,126 +216,109 @@ fn other_line(
     Ok(None)
 }
 
-/// Whether a stripe is on the stage of this number, gives it up and saves its state.
-fn is_saved(stripe: Stripe<4, 4, Live>, number: u32, store: &mut Store<4>) -> bool
-    requires { stripe.mark.stage < length store.old }
-    ensures { length store.new ≡ length store.old }
+/// Whether a stripe is on the stage of this number, gives it up and saves its state, so that the store has these.
+fn is_saved(
+    stripe: Stripe<4, 4, Live>,
+    number: u32,
+    store: &mut Store<4>,
+    wanted: Registers,
+) -> bool
+    requires number { stripe.mark.stage < length store.old }
+    requires stages { 2 < length store.old }
 {
     let is_live = stripe.stage_number() == number;
     let due = stripe.retire();
     let is_due = due.stage_number() == number;
     let saved = due.save(store);
-    is_live && is_due && !saved.row().valid()
+    is_live && is_due && !saved.row().valid() && states(store) == wanted
 }
 
-/// What of a stage's cycles on rows and bubbles is not as it is to be, or of the states in the store after them.
-fn check_stage(
+/// The states in the last of these lines.
+fn states_in(lines: &str) -> Registers {
+    registers_in(lines.lines().last().unwrap_or(""))
+}
+
+/// The first of these lines that a stage does not show, or `states` where those in the last line are not in the store then.
+/// All states begin as this byte.
+fn other_line(
     alloc: Global,
     number: u32,
-    stage: &Stage<4>,
+    state: u8,
+    cycles: &str,
     lines: &'static str,
-    wanted: [[u8; 4]; 3],
 ) -> Result<Option<&'static str>, AllocError>
-    requires lawful { are_lawful_pes (site_of 4 4 2 number) stage.now.pes.items ≡ true }
-    requires number { number < 3 }
+    requires { number < 3 }
 {
-    let mut store = Store::<4>::make(alloc, &[9; 12])?;
-    let mut stripe = Stripe::<4, 4, Blank>::make(alloc)?.arm(number, &store);
-    let other = other_line(alloc, &mut stripe, stage, lines)?;
-    if other.is_some() {
-        return Ok(other);
-    }
-    if !is_saved(stripe, number, &mut store) || states(&store) != wanted {
+    let mut store = Store::<4>::make(alloc, &[state; 12])?;
+    let mut stripe = armed(alloc, number, &store)?;
+    let other = other_cycle(alloc, &mut stripe, cycles, lines)?;
+    if other.is_none() && !is_saved(stripe, number, &mut store, states_in(lines)) {
         return Ok(Some("states"));
     }
-    Ok(None)
+    Ok(other)
 }
 
-/// The states of the other stages stay.
+/// What each stage shows, and that the states of the other stages stay.
 #[test]
-fn the_first_stage_makes_its_map(rt: HostRuntime) -> Result<(), Fail> {
-    let alloc = rt.alloc();
-    let states = [[128, 1, 9, 9], [9; 4], [9; 4]];
-    assert_eq!(rt;
-        check_stage(alloc, 0, &first_stage(alloc)?, FIRST, states)?,
-        None
-    );
+fn each_stage_makes_its_map(rt: HostRuntime) -> Result<(), Fail> {
+    let shown = [FIRST, LATER, FILTER];
+    for number in 0..3u32 {
+        let other = other_line(rt.alloc(), number, 9, CYCLES, shown[number as usize])?;
+        assert_eq!(rt; other, None, "stage {number}");
+    }
     Ok(())
 }
 
+/// 98,559 and eight times 200 are 100,159. A bubble follows.
 #[test]
-fn a_later_stage_makes_its_map(rt: HostRuntime) -> Result<(), Fail> {
-    let alloc = rt.alloc();
-    let states = [[9; 4], [52, 105, 166, 9], [9; 4]];
-    assert_eq!(rt;
-        check_stage(alloc, 1, &later_stage(alloc)?, LATER, states)?,
-        None
-    );
+fn a_filter_adds_with_the_carry(rt: HostRuntime) -> Result<(), Fail> {
+    let cycles = "0 0  5 0 0 0  0 255 128 1  0 0 0 0
+0 0  -";
+    let lines = "200 0 0 0  0 63 135 1  0 0 0 0
+-
+200 200 200 200  200 200 200 200  5 200 200 200";
+    let other = other_line(rt.alloc(), 2, 200, cycles, lines)?;
+    assert_eq!(rt; other, None);
     Ok(())
 }
 
-#[test]
-fn the_stage_of_a_filter_makes_its_map(rt: HostRuntime) -> Result<(), Fail> {
-    let alloc = rt.alloc();
-    let states = [[9; 4], [9; 4], [128, 9, 9, 9]];
-    assert_eq!(rt;
-        check_stage(alloc, 2, &filter_stage(alloc)?, FILTER, states)?,
-        None
-    );
-    Ok(())
-}
-
-/// A stripe on the stage of a filter, with the states of this store, after a cycle on what the stripe before shows.
-fn filtered(
-    alloc: Global,
-    store: &Store<4>,
-    shown: Registers,
-) -> Result<Stripe<4, 4, Live>, AllocError>
+/// A stripe on the stage of a filter, with the states of this store, after a cycle in which the stripe before shows 5.
+fn filtered(alloc: Global, store: &Store<4>) -> Result<Stripe<4, 4, Live>, AllocError>
     requires { 2 < length store.now }
     ensures { IfOk result (λ s. s.mark.stage ≡ 2) }
 {
-    let mut stripe = Stripe::<4, 4, Blank>::make(alloc)?.arm(2, store);
-    cycle(
-        alloc,
-        &mut stripe,
-        &filter_stage(alloc)?,
-        [0, 0],
-        Some(shown),
-    )?;
+    let mut stripe = armed(alloc, 2, store)?;
+    let stage = filter_stage(alloc)?;
+    let shown = [[5, 0, 0, 0], [0; 4], [0; 4]];
+    cycle(alloc, &mut stripe, &stage, [0, 0], Some(shown))?;
     Ok(stripe)
 }
 
-/// 98,559 and eight times 200 are 100,159.
-#[test]
-fn a_filter_adds_with_the_carry(rt: HostRuntime) -> Result<(), Fail> {
-    let store = Store::<4>::make(rt.alloc(), &[200; 12])?;
-    let shown = [[5, 0, 0, 0], [0, 0xff, 0x80, 0x01], [0; 4]];
-    let stripe = filtered(rt.alloc(), &store, shown)?;
-    let registers = [[200, 0, 0, 0], [0, 0x3f, 0x87, 0x01], [0; 4]];
-    assert!(rt; is_shown(&stripe, Some(registers)));
-    Ok(())
-}
-
-/// Whether a stripe takes another stage in place, and then shows a bubble.
-fn is_rearmed(stripe: &mut Stripe<4, 4, Live>, stage: u32, store: &mut Store<4>) -> bool
+/// Whether a stripe takes another stage in place, and then shows a bubble, and the store has these states.
+fn is_rearmed(
+    stripe: &mut Stripe<4, 4, Live>,
+    stage: u32,
+    store: &mut Store<4>,
+    wanted: Registers,
+) -> bool
     requires held { stripe.old.mark.stage < length store.old }
     requires stage { stage < length store.old }
+    requires stages { 2 < length store.old }
     ensures stage { stripe.new.mark.stage ≡ stage }
     ensures store { length store.new ≡ length store.old }
 {
     stripe.rearm(stage, store);
-    stripe.stage_number() == stage && is_shown(stripe, None)
+    stripe.stage_number() == stage && is_shown(stripe, None) && states(store) == wanted
 }
 
 /// A stripe that takes another stage in place leaves its state in the store, and shows a bubble.
 #[test]
 fn a_stripe_takes_another_stage(rt: HostRuntime) -> Result<(), Fail> {
     let mut store = Store::<4>::make(rt.alloc(), &[1, 1, 1, 1, 2, 2, 2, 2, 3, 3, 3, 3])?;
-    let mut stripe = filtered(rt.alloc(), &store, [[5, 0, 0, 0], [0; 4], [0; 4]])?;
+    let mut stripe = filtered(rt.alloc(), &store)?;
     assert!(rt; states(&store) == [[1; 4], [2; 4], [3; 4]]);
-    assert!(rt; is_rearmed(&mut stripe, 1, &mut store));
-    assert!(rt; states(&store) == [[1; 4], [2; 4], [5, 3, 3, 3]]);
-    assert!(rt; is_rearmed(&mut stripe, 0, &mut store));
-    assert!(rt; states(&store) == [[1; 4], [2; 4], [5, 3, 3, 3]]);
+    let wanted = [[1; 4], [2; 4], [5, 3, 3, 3]];
+    assert!(rt; is_rearmed(&mut stripe, 1, &mut store, wanted));
+    assert!(rt; is_rearmed(&mut stripe, 0, &mut store, wanted));
     Ok(())
 }
