@@ -1,55 +1,60 @@
 //! Reads and writes that fail.
 
-use crate::configurations::XOR;
-use crate::trials::{Outside, Trial, check_run, repeated};
-use pr_run::RunEnd;
+use crate::trials::{FREE, Trial, check_run};
+use std::alloc::{AllocError, Global};
 use std::test::Fail;
 
-/// The exclusive or on 16 stripes.
-const FREE: Trial = Trial {
-    program: XOR,
-    stripes: 16,
-    turns: b"",
-    log: false,
-};
-
-/// The same, where the output side is held.
-const HELD: Trial = Trial {
+/// The output side is held, the first write fails, and so does each read but the first.
+const HELD: Trial<'static> = Trial {
     turns: &[b'o'; 1_000],
+    reads: &[2, 3, 4, 5, 6, 7, 8, 9, 10, 11, 12],
+    writes: &[1],
     ..FREE
 };
+
+/// So many times the same piece, and this at the end.
+fn repeated(alloc: Global, piece: &str, count: usize, end: &str) -> Result<String, AllocError> {
+    let mut text = String::new(alloc);
+    for _ in 0..count {
+        text.push_str(piece)?;
+    }
+    text.push_str(end)?;
+    Ok(text)
+}
 
 #[test]
 fn third_read_fails(rt: HostRuntime) -> Result<(), Fail> {
     let alloc = rt.alloc();
-    let outside = Outside {
-        samples: repeated(alloc, b"5 3\n", 175_000)?,
-        reads: vec![in alloc; 3]?,
-        writes: Vec::new(alloc),
+    let samples = repeated(alloc, "5 3\n", 175_000, "")?;
+    let trial = Trial {
+        samples: &samples,
+        reads: &[3],
+        ..FREE
     };
-    let lines = repeated(alloc, b"6\n", 32_768)?;
-    check_run(&rt, alloc, FREE, outside, RunEnd::ReadFault, &lines)?;
+    let wanted = repeated(alloc, "6\n", 32_768, "ReadFault")?;
+    check_run(&rt, alloc, trial, &wanted)?;
     Ok(())
 }
 
 #[test]
 fn second_write_fails(rt: HostRuntime) -> Result<(), Fail> {
-    let alloc = rt.alloc();
-    let mut outside = Outside::of(alloc, b"5 3\n255 1\n")?;
-    outside.writes.push(2)?;
-    check_run(&rt, alloc, FREE, outside, RunEnd::WriteFault, b"6\n")?;
+    let trial = Trial {
+        samples: "5 3\n255 1\n",
+        writes: &[2],
+        ..FREE
+    };
+    check_run(&rt, rt.alloc(), trial, "6\nWriteFault")?;
     Ok(())
 }
 
 /// The samples after the first buffer are not read, so that the write fails before a read.
 #[test]
 fn back_pressure(rt: HostRuntime) -> Result<(), Fail> {
-    let alloc = rt.alloc();
-    let outside = Outside {
-        samples: repeated(alloc, b"5 3\n", 175_000)?,
-        reads: vec![in alloc; 2, 3, 4, 5, 6, 7, 8, 9, 10, 11, 12]?,
-        writes: vec![in alloc; 1]?,
+    let samples = repeated(rt.alloc(), "5 3\n", 175_000, "")?;
+    let trial = Trial {
+        samples: &samples,
+        ..HELD
     };
-    check_run(&rt, alloc, HELD, outside, RunEnd::WriteFault, b"")?;
+    check_run(&rt, rt.alloc(), trial, "WriteFault")?;
     Ok(())
 }

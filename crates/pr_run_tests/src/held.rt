@@ -1,12 +1,13 @@
 //! A run in which the output side is held.
 
-use crate::configurations::XOR;
-use crate::trials::{Outside, Trial, check_run};
-use pr_run::RunEnd;
+use crate::trials::{FREE, Trial, check_run};
 use std::alloc::{AllocError, Global};
 use std::fmt::Write;
 use std::ops::Range;
 use std::test::Fail;
+
+/// How the run ends.
+const END: &str = "Done { cycles: 32, stalls: 22, results: 30 }";
 
 /// The lines of the cycles in which the results of these numbers leave, each with the line of its result where
 /// `is_free`.
@@ -49,6 +50,7 @@ fn held_text(alloc: Global) -> Result<String, AllocError> {
     text.push_str("cycle 31 conf - save - in - out 29\n")?;
     put_results(&mut text, 29..30)?;
     text.push_str("end cycles 32 stalls 22 records 30\n")?;
+    text.push_str(END)?;
     Ok(text)
 }
 
@@ -61,26 +63,24 @@ fn samples(alloc: Global) -> Result<String, AllocError> {
     Ok(samples)
 }
 
+/// The text of the same run without a log.
+fn plain_text(alloc: Global) -> Result<String, AllocError> {
+    let mut text = String::new(alloc);
+    put_results(&mut text, 0..30)?;
+    text.push_str(END)?;
+    Ok(text)
+}
+
 #[test]
 fn held_output(rt: HostRuntime) -> Result<(), Fail> {
-    let alloc = rt.alloc();
-    let samples = samples(alloc)?;
-    let mut lines = String::new(alloc);
-    put_results(&mut lines, 0..30)?;
-    let end = RunEnd::Done {
-        cycles: 32,
-        stalls: 22,
-        results: 30,
+    let samples = samples(rt.alloc())?;
+    let trial = Trial {
+        turns: &[b'o'; 40],
+        samples: &samples,
+        ..FREE
     };
-    for (log, text) in vec![in alloc; (true, held_text(alloc)?), (false, lines)]? {
-        let trial = Trial {
-            program: XOR,
-            stripes: 16,
-            turns: &[b'o'; 40],
-            log,
-        };
-        let outside = Outside::of(alloc, samples.as_bytes())?;
-        check_run(&rt, alloc, trial, outside, end, text.as_bytes())?;
-    }
+    check_run(&rt, rt.alloc(), trial, &plain_text(rt.alloc())?)?;
+    let logged = Trial { log: true, ..trial };
+    check_run(&rt, rt.alloc(), logged, &held_text(rt.alloc())?)?;
     Ok(())
 }
