@@ -1,13 +1,13 @@
 //! Equations made by hand, and their widths.
 
-ghost use Rattle.std.specs.Prelude.{◌≡◌, [], ◌∷◌, ◌++◌, IfOk};
+ghost use Rattle.std.specs.Prelude.{◌≡◌, [], ◌∷◌, IfOk};
 ghost use Rattle.pr_flat.specs.declared.equations.Operand.TheVariants.{Eq};
 ghost use Rattle.pr_flat.specs.Shape.{equation_shape, shapes_of};
 ghost use Rattle.pr_flat.specs.Facts.{IsFlat};
-ghost use Rattle.pr_width_tests.specs.Made.{shape_made, input_made};
+ghost use Rattle.pr_width_tests.specs.Made.{shape_made, input_made, recurrence_made};
 
 use pr_flat::{Equation, Flat, Op, Operand};
-use pr_width::{WidthFault, Widths, solve};
+use pr_width::{WidthFault, solve};
 use std::alloc::{AllocError, Global};
 use std::test::Fail;
 
@@ -51,91 +51,94 @@ fn operation(
     Ok(vec![in alloc; input, made]?)
 }
 
-/// The same, and one equation more.
-fn followed(
+/// The same without a declared width, and a recurrence with this initial value that goes on by the operation.
+fn recurrence(
     alloc: Global,
-    first: Vec<Equation>,
+    width: u8,
     op: Op,
     args: &[Operand],
+    init: u64,
     declared: Option<u8>,
 ) -> Result<Vec<Equation>, AllocError>
-    ensures { IfOk result (λ v. shapes_of v.items ≡ shapes_of first.items ++ shape_made op args.now declared ∷ []) }
+    ensures { IfOk result (λ v. shapes_of v.items ≡ recurrence_made width op args.now init declared) }
 {
-    let made = equation(alloc, op, args, declared)?;
-    let mut equations = first;
-    equations.push(made)?;
+    let mut equations = operation(alloc, width, op, args, None)?;
+    equations.push(equation(alloc, Op::Rec { init, first: 1 }, &[MADE], declared)?)?;
     Ok(equations)
 }
 
-/// What solving makes of equations of which the first is an output.
-fn solved(alloc: Global, equations: Vec<Equation>) -> Result<Result<Widths, WidthFault>, AllocError>
+/// Whether equations, of which the first is an output, have these widths, or the equation of this number has none.
+fn are_solved(
+    alloc: Global,
+    equations: Vec<Equation>,
+    wanted: Result<&[u8], u32>,
+) -> Result<bool, AllocError>
     requires { IsFlat (shapes_of equations.items) (Eq 0 ∷ []) }
 {
     let outputs = vec![in alloc; X]?;
     let flat = Flat { equations, outputs };
-    Ok(solve(alloc, &flat))
+    Ok(match solve(alloc, &flat) {
+        Ok(found) => wanted == Ok(found.of.as_slice()),
+        Err(WidthFault::NoWidth { equation }) => wanted == Err(equation),
+        Err(WidthFault::Memory(error)) => return Err(error),
+    })
 }
 
-fn has_widths(answer: &Result<Widths, WidthFault>, widths: &[u8]) -> bool {
-    match answer {
-        Ok(found) => found.of.as_slice() == widths,
-        Err(_) => false,
-    }
+/// Whether an operation on an input of this width is solved so.
+fn is_solved(
+    alloc: Global,
+    width: u8,
+    op: Op,
+    args: &[Operand],
+    declared: Option<u8>,
+    wanted: Result<&[u8], u32>,
+) -> Result<bool, AllocError>
+    requires { IsFlat (input_made width ∷ shape_made op args.now declared ∷ []) (Eq 0 ∷ []) }
+{
+    are_solved(alloc, operation(alloc, width, op, args, declared)?, wanted)
 }
 
-fn has_none(answer: &Result<Widths, WidthFault>, number: u32) -> bool {
-    match answer {
-        Err(WidthFault::NoWidth { equation }) => *equation == number,
-        _ => false,
-    }
+/// Whether a recurrence that goes on by such an operation is solved so.
+fn recurs(
+    alloc: Global,
+    width: u8,
+    op: Op,
+    args: &[Operand],
+    init: u64,
+    declared: Option<u8>,
+    wanted: Result<&[u8], u32>,
+) -> Result<bool, AllocError>
+    requires { IsFlat (recurrence_made width op args.now init declared) (Eq 0 ∷ []) }
+{
+    let equations = recurrence(alloc, width, op, args, init, declared)?;
+    are_solved(alloc, equations, wanted)
 }
 
 #[test]
 fn a_recurrence_has_the_least_width(rt: HostRuntime) -> Result<(), Fail> {
     let alloc = rt.alloc();
-    let sum = operation(alloc, 8, Op::Add, &[PAST, X], None)?;
-    let growing = followed(alloc, sum, Op::Rec { init: 0, first: 1 }, &[MADE], None)?;
-    assert!(rt; has_none(&solved(alloc, growing)?, 2));
-    let mixture = operation(alloc, 8, Op::Xor, &[PAST, X], None)?;
-    let mixed = followed(alloc, mixture, Op::Rec { init: 0, first: 1 }, &[MADE], None)?;
-    assert!(rt; has_widths(&solved(alloc, mixed)?, &[8, 8, 8]));
-    let common = operation(alloc, 8, Op::And, &[PAST, X], None)?;
-    let begun = followed(
-        alloc,
-        common,
-        Op::Rec {
-            init: 300,
-            first: 1,
-        },
-        &[MADE],
-        None,
-    )?;
-    assert!(rt; has_widths(&solved(alloc, begun)?, &[8, 9, 9]));
+    let args = [PAST, X];
+    assert!(rt; recurs(alloc, 8, Op::Add, &args, 0, None, Err(2))?);
+    assert!(rt; recurs(alloc, 8, Op::Xor, &args, 0, None, Ok(&[8, 8, 8]))?);
+    assert!(rt; recurs(alloc, 8, Op::And, &args, 300, None, Ok(&[8, 9, 9]))?);
     Ok(())
 }
 
 #[test]
 fn what_a_body_lacks_counts_at_an_open_recurrence(rt: HostRuntime) -> Result<(), Fail> {
     let alloc = rt.alloc();
-    let choice = operation(alloc, 2, Op::Choose, &[X, PAST, X], None)?;
-    let open = followed(alloc, choice, Op::Rec { init: 0, first: 1 }, &[MADE], None)?;
-    assert!(rt; has_none(&solved(alloc, open)?, 2));
-    let same = operation(alloc, 2, Op::Choose, &[X, PAST, X], None)?;
-    let declared = followed(alloc, same, Op::Rec { init: 0, first: 1 }, &[MADE], Some(8))?;
-    assert!(rt; has_none(&solved(alloc, declared)?, 1));
+    let args = [X, PAST, X];
+    assert!(rt; recurs(alloc, 2, Op::Choose, &args, 0, None, Err(2))?);
+    assert!(rt; recurs(alloc, 2, Op::Choose, &args, 0, Some(8), Err(1))?);
     Ok(())
 }
 
 #[test]
 fn operations_without_width(rt: HostRuntime) -> Result<(), Fail> {
     let alloc = rt.alloc();
-    let condition = operation(alloc, 2, Op::Choose, &[X, X, X], Some(8))?;
-    assert!(rt; has_none(&solved(alloc, condition)?, 1));
-    let high = operation(alloc, 8, Op::Slice(8, 0), &[X], None)?;
-    assert!(rt; has_none(&solved(alloc, high)?, 1));
-    let wide = operation(alloc, 128, Op::Add, &[X, X], None)?;
-    assert!(rt; has_none(&solved(alloc, wide)?, 1));
-    let cut = operation(alloc, 128, Op::Add, &[X, X], Some(128))?;
-    assert!(rt; has_widths(&solved(alloc, cut)?, &[128, 128]));
+    assert!(rt; is_solved(alloc, 2, Op::Choose, &[X, X, X], Some(8), Err(1))?);
+    assert!(rt; is_solved(alloc, 8, Op::Slice(8, 0), &[X], None, Err(1))?);
+    assert!(rt; is_solved(alloc, 128, Op::Add, &[X, X], None, Err(1))?);
+    assert!(rt; is_solved(alloc, 128, Op::Add, &[X, X], Some(128), Ok(&[128, 128]))?);
     Ok(())
 }
