@@ -1,12 +1,10 @@
 //! One configuration on several numbers of stripes.
 
-use crate::fabrics::{IDLE, cell, machine_of, previous, stage_of};
-use crate::trials::Trial;
+use crate::fabrics::{BEFORE, PASSING};
+use crate::trials::{Setting, play_new};
 use pr_conf::{Carry, Mode, Next, Pe, Source};
-use pr_machine::{Machine, Running};
 use std::alloc::{AllocError, Global};
 use std::process::Abort;
-use std::test::Fail;
 
 /// The states that the stages begin with.
 const FIRST_STATES: [u8; 7] = [11, 41, 71, 101, 131, 161, 191];
@@ -15,6 +13,9 @@ const FIRST_STATES: [u8; 7] = [11, 41, 71, 101, 131, 161, 191];
 /// was read.
 fn adder(stage: usize, init: u8) -> Pe {
     Pe {
+        a: if stage == 0 { Source::Bus(0) } else { BEFORE },
+        hi: Source::State(0),
+        table: 0xcc,
         mode: Mode::Sum,
         cin: if stage % 3 == 2 {
             Carry::One
@@ -27,15 +28,7 @@ fn adder(stage: usize, init: u8) -> Pe {
             Next::A
         },
         init,
-        ..cell(
-            if stage == 0 {
-                Source::Bus(0)
-            } else {
-                previous(0)
-            },
-            Source::State(0),
-            0xcc,
-        )
+        ..PASSING
     }
 }
 
@@ -51,46 +44,42 @@ fn add_states(values: &mut [u8], stage: usize, init: u8) {
     }
 }
 
-/// Seven stages that add their states.
-fn adders(
+/// Runs the samples through seven such stages on so many stripes, under a stall text that holds each side at times, and
+/// checks the results.
+fn check_stripes(
     rt: &impl Abort,
     alloc: Global,
+    stages: &[[Pe; 2]],
     stripes: usize,
-) -> Result<Machine<16, 8, Running>, AllocError> {
-    let mut stages = Vec::new(alloc);
-    for (stage, init) in FIRST_STATES.iter().enumerate() {
-        stages.push(stage_of(alloc, adder(stage, *init), IDLE)?)?;
-    }
-    machine_of(rt, alloc, vec![in alloc; 8]?, stages, stripes)
-}
-
-/// Runs the samples under a stall text that holds each side at times, and checks the results.
-fn check_results(
-    rt: &impl Abort,
-    mut trial: Trial,
     samples: &[[u8; 1]],
     results: &[u8],
 ) -> Result<(), AllocError> {
-    trial.run(samples, b"..io.boo.ib", 700)?;
-    trial.finish()?;
-    assert!(rt; trial.results.as_slice() == results);
+    let setting = Setting {
+        stages,
+        stripes,
+        stall: "..io.boo.ib",
+        turns: 700,
+    };
+    let trial = play_new(rt, alloc, setting, samples)?;
+    assert!(rt; trial.results.as_slice() == results, "{stripes} stripes");
     Ok(())
 }
 
 #[test]
-fn any_number_of_stripes_gives_the_same_results(rt: HostRuntime) -> Result<(), Fail> {
+fn any_number_of_stripes_gives_the_same_results(rt: HostRuntime) -> Result<(), AllocError> {
     let mut samples = [[0u8; 1]; 40];
     let mut results = [0u8; 40];
     for k in 0..40u8 {
         samples[usize::from(k)] = [k.wrapping_mul(67) ^ 29];
         results[usize::from(k)] = k.wrapping_mul(67) ^ 29;
     }
+    let mut stages = [[Pe::IDLE; 2]; 7];
     for (stage, init) in FIRST_STATES.iter().enumerate() {
+        stages[stage][0] = adder(stage, *init);
         add_states(&mut results, stage, *init);
     }
-    for stripes in [2usize, 3, 5, 7, 8, 256] {
-        let trial = Trial::of(rt.alloc(), adders(&rt, rt.alloc(), stripes)?);
-        check_results(&rt, trial, &samples, &results)?;
+    for stripes in [2, 3, 5, 7, 8, 256] {
+        check_stripes(&rt, rt.alloc(), &stages, stripes, &samples, &results)?;
     }
     Ok(())
 }

@@ -1,31 +1,21 @@
 //! Turns of a machine, and what came of them.
 
-use pr_conf::Turn;
+use crate::fabrics::machine_of;
+use pr_conf::{Pe, Turn};
 use pr_machine::{Machine, Running};
 use std::alloc::{AllocError, Global};
+use std::fmt::Write;
+use std::process::Abort;
 
-/// A machine, and what came of its turns so far.
+/// What came of the turns of a machine so far.
 #[derive(Drop)]
 pub(crate) struct Trial {
-    pub(crate) machine: Machine<16, 8, Running>,
     /// How many samples were accepted.
-    pub(crate) offered: usize,
-    /// What each cycle did.
-    pub(crate) log: Vec<Turn>,
+    offered: usize,
+    /// What each cycle did, a line each.
+    pub(crate) log: String,
     /// The results taken.
     pub(crate) results: Vec<u8>,
-    /// The row of each saved state, as the store then had it.
-    pub(crate) saved: Vec<u8>,
-}
-
-/// Times and counts of a machine.
-#[derive(Clone, Copy, PartialEq, Eq, Debug)]
-pub(crate) struct Counts {
-    pub(crate) time: u64,
-    pub(crate) entered: u64,
-    pub(crate) left: u64,
-    pub(crate) waiting_in: usize,
-    pub(crate) waiting_out: usize,
 }
 
 /// Offers a sample, if it has the sample's size, and says whether it was accepted.
@@ -56,24 +46,29 @@ fn take_all(
     Ok(())
 }
 
-/// One cycle, if the time has not run out.
-fn cycle(machine: &mut Machine<16, 8, Running>) -> Option<Turn> {
-    if machine.time() < 1 << 63 {
-        return Some(machine.cycle());
-    }
-    None
-}
-
 /// Appends the state row of a stage, if the store has it.
-fn append_stored(
+fn put_stored(
+    log: &mut String,
     machine: &Machine<16, 8, Running>,
     stage: u32,
-    rows: &mut Vec<u8>,
 ) -> Result<(), AllocError> {
-    match machine.stored(stage) {
-        None => Ok(()),
-        Some(row) => rows.extend_from_slice(row),
+    if let Some(row) = machine.stored(stage) {
+        for byte in row {
+            write!(log, " {byte}")?;
+        }
     }
+    Ok(())
+}
+
+/// Appends what a cycle did: the stage that was configured and its stripe, the stage whose state was saved, and the
+/// numbers of the sample that entered and of the result that left.
+fn put_turn(log: &mut String, time: u64, turn: &Turn) -> Result<(), AllocError> {
+    let word = if turn.advanced { "cycle" } else { "stall" };
+    write!(
+        log,
+        "{word} {time} conf {:?} save {:?} in {:?} out {:?}",
+        turn.configured, turn.saved, turn.entered, turn.left
+    )
 }
 
 /// Which side a byte of a stall text leaves free: that of the inputs, and that of the outputs.
@@ -90,76 +85,121 @@ fn stall_at(stall: &[u8], turn: usize) -> u8 {
 }
 
 impl Trial {
-    /// Before the first turn.
-    pub(crate) fn of(alloc: Global, machine: Machine<16, 8, Running>) -> Trial {
-        Trial {
-            machine,
-            offered: 0,
-            log: Vec::new(alloc),
-            results: Vec::new(alloc),
-            saved: Vec::new(alloc),
-        }
-    }
-
     /// Offers the next sample, if there is one.
-    fn offer_next<const B: usize>(&mut self, samples: &[[u8; B]]) {
+    fn offer_next<const B: usize>(
+        &mut self,
+        machine: &mut Machine<16, 8, Running>,
+        samples: &[[u8; B]],
+    ) {
         if let Some(sample) = samples.get(self.offered) {
-            if offer(&mut self.machine, sample) {
+            if offer(machine, sample) {
                 self.offered += 1;
             }
         }
     }
 
-    /// One cycle, with its line of the log and the state that it saved.
-    fn cycle(&mut self) -> Result<(), AllocError> {
-        let Some(turn) = cycle(&mut self.machine) else {
+    /// Appends the counts of a machine that is stalled.
+    fn put_counts(&mut self, machine: &Machine<16, 8, Running>) -> Result<(), AllocError> {
+        write!(
+            self.log,
+            ": entered {} left {} taken {} waiting {} and {}",
+            machine.entered(),
+            machine.left(),
+            self.results.len(),
+            machine.waiting_in(),
+            machine.waiting_out()
+        )
+    }
+
+    /// One cycle, if the time has not run out, with its line of the log: behind what it did stand the counts, if it was
+    /// stalled, and the row of a state that it saved, as the store then has it.
+    fn cycle(&mut self, machine: &mut Machine<16, 8, Running>) -> Result<(), AllocError> {
+        let time = machine.time();
+        if time >= 1 << 63 {
             return Ok(());
-        };
-        self.log.push(turn)?;
-        match turn.saved {
-            None => Ok(()),
-            Some(stage) => append_stored(&self.machine, stage, &mut self.saved),
         }
+        let turn = machine.cycle();
+        put_turn(&mut self.log, time, &turn)?;
+        if !turn.advanced {
+            self.put_counts(machine)?;
+        }
+        if let Some(stage) = turn.saved {
+            put_stored(&mut self.log, machine, stage)?;
+        }
+        self.log.push_str("\n")
     }
 
     /// One turn: a sample is offered and the results are taken, each if its side is free, and then comes a cycle.
-    fn turn<const B: usize>(&mut self, samples: &[[u8; B]], held: u8) -> Result<(), AllocError> {
+    fn turn<const B: usize>(
+        &mut self,
+        machine: &mut Machine<16, 8, Running>,
+        samples: &[[u8; B]],
+        held: u8,
+    ) -> Result<(), AllocError> {
         let (inputs, outputs) = free_sides(held);
         if inputs {
-            self.offer_next(samples);
+            self.offer_next(machine, samples);
         }
         if outputs {
-            take_all(&mut self.machine, &mut self.results)?;
+            take_all(machine, &mut self.results)?;
         }
-        self.cycle()
+        self.cycle(machine)
     }
 
-    /// So many turns under a stall text that goes round.
-    pub(crate) fn run<const B: usize>(
+    /// So many turns under a stall text that goes round, and then the results that still wait are taken.
+    fn run<const B: usize>(
         &mut self,
+        machine: &mut Machine<16, 8, Running>,
         samples: &[[u8; B]],
         stall: &[u8],
         turns: usize,
     ) -> Result<(), AllocError> {
         for turn in 0..turns {
-            self.turn(samples, stall_at(stall, turn))?;
+            self.turn(machine, samples, stall_at(stall, turn))?;
         }
-        Ok(())
+        take_all(machine, &mut self.results)
     }
+}
 
-    /// Takes the results that still wait.
-    pub(crate) fn finish(&mut self) -> Result<(), AllocError> {
-        take_all(&mut self.machine, &mut self.results)
-    }
+/// Runs samples through a machine for so many turns under a stall text, and takes all results.
+pub(crate) fn play<const B: usize>(
+    alloc: Global,
+    machine: &mut Machine<16, 8, Running>,
+    samples: &[[u8; B]],
+    stall: &[u8],
+    turns: usize,
+) -> Result<Trial, AllocError> {
+    let mut trial = Trial {
+        offered: 0,
+        log: String::new(alloc),
+        results: Vec::new(alloc),
+    };
+    trial.run(machine, samples, stall, turns)?;
+    Ok(trial)
+}
 
-    /// The machine's times and counts.
-    pub(crate) fn counts(&self) -> Counts {
-        Counts {
-            time: self.machine.time(),
-            entered: self.machine.entered(),
-            left: self.machine.left(),
-            waiting_in: self.machine.waiting_in(),
-            waiting_out: self.machine.waiting_out(),
-        }
-    }
+/// On what machine samples are tried, under which stall text, and for how many turns.
+#[derive(Clone, Copy)]
+pub(crate) struct Setting<'a> {
+    pub(crate) stages: &'a [[Pe; 2]],
+    pub(crate) stripes: usize,
+    pub(crate) stall: &'a str,
+    pub(crate) turns: usize,
+}
+
+/// Runs samples of 8 bits each through a new machine.
+pub(crate) fn play_new<const B: usize>(
+    rt: &impl Abort,
+    alloc: Global,
+    setting: Setting<'_>,
+    samples: &[[u8; B]],
+) -> Result<Trial, AllocError> {
+    let mut machine = machine_of(rt, alloc, &[8; B], setting.stages, setting.stripes)?;
+    play(
+        alloc,
+        &mut machine,
+        samples,
+        setting.stall.as_bytes(),
+        setting.turns,
+    )
 }
