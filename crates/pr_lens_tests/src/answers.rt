@@ -1,50 +1,74 @@
 //! Words that are no call, and the line that is told of a refusal beside what is written.
 
-use crate::calls::{Call, Noted, other_call, other_note};
-use std::test::Fail;
+use crate::calls::check_calls;
+use std::alloc::AllocError;
+
+/// Calls for the help, calls that are none, and the bounds of a number.
+const WORDS: &str = "\
+$ pipelens --help
+= 0
+...usage: pipelens TASK FILE...
+$ pipelens why p --help
+= 0
+...usage: pipelens TASK FILE...
+$ pipelens why
+= 2
+...
+$ pipelens look p
+= 2
+...
+$ pipelens why p p
+= 2
+...
+$ pipelens why p --fabric narrow
+= 2
+...
+$ pipelens cost p --samples 4294967296
+= 2
+...
+$ pipelens cost p --samples 0
+= 0
+...samples of a run 0
+...
+";
 
 #[test]
-fn words(rt: HostRuntime) -> Result<(), Fail> {
-    let program = "input x:8;\noutput y = x;";
-    let calls: [Call; 8] = [
-        (&["--help"], 0, "usage: pipelens TASK FILE"),
-        (&["why", "p", "--help"], 0, "usage: pipelens TASK FILE"),
-        (&["why"], 2, ""),
-        (&["look", "p"], 2, ""),
-        (&["why", "p", "p"], 2, ""),
-        (&["why", "p", "--fabric", "narrow"], 2, ""),
-        (&["cost", "p", "--samples", "4294967296"], 2, ""),
-        (&["cost", "p", "--samples", "0"], 0, "samples of a run 0\n"),
-    ];
-    assert_eq!(rt; other_call(rt.alloc(), &calls, program)?, None);
-    Ok(())
+fn words(rt: HostRuntime) -> Result<(), AllocError> {
+    check_calls(&rt, rt.alloc(), "input x:8;\noutput y = x;", WORDS)
 }
 
+/// Calls that write nothing, with the line that is told of each.
+const NOTES: &str = "\
+$ pipelens cost p
+input x:8
+output y = x;
+= 3
+! syntax: token 4
+$ pipelens graph p
+input x:8;
+rec s = 0 by s@1 + x;
+output y = s;
+= 4
+! no width: equation 2
+$ pipelens cost p --fabric wide
+input a:128;
+input b:128;
+input c:128;
+output y = a;
+= 6
+! limit: input-bytes 32
+$ pipelens chart p
+12
+cycle 0
+
+= 15
+! bad log: line 2
+$ pipelens look p
+= 2
+! usage: pipelens TASK FILE [--fabric F] [--narrow] [--samples N]; pipelens --help says more
+";
+
 #[test]
-fn notes(rt: HostRuntime) -> Result<(), Fail> {
-    let calls: [Noted; 5] = [
-        (
-            &["cost", "p"],
-            "input x:8\noutput y = x;",
-            "syntax: token 4\n",
-        ),
-        (
-            &["graph", "p"],
-            "input x:8;\nrec s = 0 by s@1 + x;\noutput y = s;",
-            "no width: equation 2\n",
-        ),
-        (
-            &["cost", "p", "--fabric", "wide"],
-            "input a:128;\ninput b:128;\ninput c:128;\noutput y = a;",
-            "limit: input-bytes 32\n",
-        ),
-        (&["chart", "p"], "12\ncycle 0\n", "bad log: line 2\n"),
-        (
-            &["look", "p"],
-            "",
-            "usage: pipelens TASK FILE [--fabric F] [--narrow] [--samples N]; pipelens --help says more\n",
-        ),
-    ];
-    assert_eq!(rt; other_note(rt.alloc(), &calls)?, None);
-    Ok(())
+fn notes(rt: HostRuntime) -> Result<(), AllocError> {
+    check_calls(&rt, rt.alloc(), "", NOTES)
 }

@@ -3,121 +3,104 @@
 use pr_edge::{SureShelf, SureSink};
 use pr_lens_tool::{Reply, pipelens};
 use std::alloc::{AllocError, Global};
+use std::process::Abort;
 
 /// The bytes that a call may write here.
 const ROOM: usize = 16_384;
 
-/// Whether the bytes have these words in them.
-fn has(bytes: &[u8], words: &[u8]) -> bool {
-    if words.is_empty() {
-        return true;
-    }
-    for start in 0..bytes.len() {
-        if bytes[start..].starts_with(words) {
-            return true;
-        }
-    }
-    false
-}
-
-/// The words of a call, the program's name first.
-fn words_of(alloc: Global, given: &[&str]) -> Result<Vec<String>, AllocError> {
-    let mut words = vec![in alloc; String::from_str(alloc, "pipelens")?]?;
-    for word in given {
+/// The words of a line as the system gives them.
+fn words_of(alloc: Global, line: &str) -> Result<Vec<String>, AllocError> {
+    let mut words = Vec::new(alloc);
+    words.push(String::from_str(alloc, "pipelens")?)?;
+    for word in line.split(' ') {
         words.push(String::from_str(alloc, word)?)?;
     }
     Ok(words)
 }
 
-/// Calls the companion, with this text in the file `p`: what it comes to, and what it writes.
-pub(crate) fn called(
-    alloc: Global,
-    given: &[&str],
-    text: &str,
-) -> Result<(Reply, SureSink), AllocError> {
-    let words = words_of(alloc, given)?;
-    let file = (
-        String::from_str(alloc, "p")?,
-        Vec::from_slice(alloc, text.as_bytes())?,
-    );
-    let mut shelf = SureShelf::make(vec![in alloc; file]?);
+/// A shelf with this text in the file `p`.
+fn shelf_of(alloc: Global, text: &str) -> Result<SureShelf, AllocError> {
+    let mut files = Vec::new(alloc);
+    let name = String::from_str(alloc, "p")?;
+    files.push((name, Vec::from_slice(alloc, text.as_bytes())?))?;
+    Ok(SureShelf::make(files))
+}
+
+/// Calls the companion with the words of a line over a text: what this comes to.
+fn call(alloc: Global, line: &str, text: &str, out: &mut SureSink) -> Result<Reply, AllocError> {
+    let words = words_of(alloc, line)?;
+    let mut shelf = shelf_of(alloc, text)?;
+    Ok(pipelens(alloc, &words, &mut shelf, out))
+}
+
+/// Appends bytes as text.
+fn put_text(bytes: &[u8], told: &mut String) -> Result<(), AllocError> {
+    told.push_str(str::from_utf8(bytes).unwrap_or("no text"))
+}
+
+/// Appends the line that is told beside what is written, behind a mark, where there is one.
+fn put_note(alloc: Global, reply: &Reply, told: &mut String) -> Result<(), AllocError> {
+    let mut note = SureSink::make(alloc, ROOM)?;
+    reply.put_note(&mut note);
+    if !note.bytes().is_empty() {
+        told.push_str("! ")?;
+    }
+    put_text(note.bytes(), told)
+}
+
+/// What comes of a call: on a line its status, and behind it what it writes, and its note.
+fn answer_to(alloc: Global, line: &str, text: &str) -> Result<String, AllocError> {
     let mut out = SureSink::make(alloc, ROOM)?;
-    let reply = pipelens(alloc, &words, &mut shelf, &mut out);
-    Ok((reply, out))
+    let reply = call(alloc, line, text, &mut out)?;
+    let mut told = format!(in alloc; "{}\n", reply.outcome.status())?;
+    put_text(out.bytes(), &mut told)?;
+    put_note(alloc, &reply, &mut told)?;
+    Ok(told)
 }
 
-/// A program, the first line of its explanation, and words of what follows.
-pub(crate) type Case = (&'static str, &'static str, &'static str);
-
-/// The status of an explanation that begins so, by the word behind its place.
-fn status_of(first: &str) -> u8 {
-    let bytes = first.as_bytes();
-    if has(bytes, b"no width:") {
-        4
-    } else if has(bytes, b"no fit:") {
-        5
-    } else if has(bytes, b"limit:") {
-        6
-    } else {
-        3
+/// Whether an answer is as wanted: `whole`, or `start...`, or `start...part...` with anything in the place of `...`.
+fn fits(answer: &str, wanted: &str) -> bool {
+    let Some(wanted) = wanted.strip_suffix("...\n") else {
+        return answer == wanted;
+    };
+    let (start, part) = wanted.split_once("...").unwrap_or((wanted, ""));
+    match answer.strip_prefix(start) {
+        Some(rest) => rest.contains(part),
+        None => false,
     }
 }
 
-/// Whether the program is explained so.
-fn is_explained(alloc: Global, case: Case) -> Result<bool, AllocError> {
-    let (program, first, words) = case;
-    let (reply, told) = called(alloc, &["why", "p"], program)?;
-    let told = told.bytes();
-    Ok(
-        reply.outcome.status() == status_of(first)
-            && told.starts_with(first.as_bytes())
-            && has(told, words.as_bytes()),
-    )
-}
-
-/// The first case that is explained otherwise.
-pub(crate) fn otherwise(alloc: Global, cases: &[Case]) -> Result<Option<&'static str>, AllocError> {
-    for case in cases {
-        if !is_explained(alloc, *case)? {
-            return Ok(Some(case.0));
-        }
-    }
-    Ok(None)
-}
-
-/// Words of a call, its status, and words of what it writes.
-pub(crate) type Call = (&'static [&'static str], u8, &'static str);
-
-/// The first call that comes to something else, with this text in the file.
-pub(crate) fn other_call(
+/// Makes a call over a text, and checks what comes of it.
+fn check(
+    rt: &impl Abort,
     alloc: Global,
-    calls: &[Call],
+    line: &str,
     text: &str,
-) -> Result<Option<&'static str>, AllocError> {
-    for (given, wanted, words) in calls {
-        let (reply, told) = called(alloc, given, text)?;
-        if reply.outcome.status() != *wanted || !has(told.bytes(), words.as_bytes()) {
-            return Ok(Some(*words));
-        }
-    }
-    Ok(None)
+    wanted: &str,
+) -> Result<(), AllocError> {
+    let answer = answer_to(alloc, line, text)?;
+    let answer = answer.as_str();
+    assert!(rt;
+        fits(answer, wanted),
+        "{line}\n{text}\n= {answer}wanted:\n= {wanted}"
+    );
+    Ok(())
 }
 
-/// Words of a call, the text in its file, and the line that is told beside what is written.
-pub(crate) type Noted = (&'static [&'static str], &'static str, &'static str);
-
-/// The first call of which another line is told, or of which anything is written.
-pub(crate) fn other_note(
+/// Makes the calls of a table, and checks what comes of each. A case is `$` with the words of a call, the text in the file
+/// `p` where it is another than this one, and behind `=` the answer.
+pub(crate) fn check_calls<'a>(
+    rt: &impl Abort,
     alloc: Global,
-    calls: &[Noted],
-) -> Result<Option<&'static str>, AllocError> {
-    for (given, text, wanted) in calls {
-        let (reply, told) = called(alloc, given, text)?;
-        let mut note = SureSink::make(alloc, ROOM)?;
-        reply.put_note(&mut note);
-        if note.bytes() != wanted.as_bytes() || !told.bytes().is_empty() {
-            return Ok(Some(*text));
+    text: &'a str,
+    cases: &'a str,
+) -> Result<(), AllocError> {
+    for case in cases.split("$ pipelens ") {
+        let (call, wanted) = case.split_once("\n= ").unwrap_or((case, ""));
+        let (line, text) = call.split_once('\n').unwrap_or((call, text));
+        if !line.is_empty() {
+            check(rt, alloc, line, text, wanted)?;
         }
     }
-    Ok(None)
+    Ok(())
 }

@@ -1,28 +1,44 @@
 //! Costs and graphs of accepted programs, counted by hand.
 
-use crate::calls::{Call, other_call};
-use std::test::Fail;
+use crate::calls::check_calls;
+use std::alloc::AllocError;
+
+/// The program of these calls.
+const PROGRAM: &str = "input x:8;\nlet a:8 = x + x@1;\noutput y = a{3..0};";
+
+/// What is told of it, and of a file and words that are none.
+const CALLS: &str = "\
+$ pipelens why p
+= 0
+...accepted
+...
+$ pipelens cost p
+= 0
+...equations 4
+units 4
+stages 4
+...
+$ pipelens cost p
+= 0
+...         2   0.250     1 in     4              4001
+...
+$ pipelens cost p --samples 10
+= 0
+...         3   0.500     2 in     4                22
+...
+$ pipelens graph p
+= 0
+...  u1 -> u2;
+...
+$ pipelens graph nowhere
+= 3
+...
+$ pipelens why p --stripes 3
+= 2
+...
+";
 
 #[test]
-fn accepted_programs(rt: HostRuntime) -> Result<(), Fail> {
-    let program = "input x:8;\nlet a:8 = x + x@1;\noutput y = a{3..0};";
-    let calls: [Call; 7] = [
-        (&["why", "p"], 0, "accepted\n"),
-        (&["cost", "p"], 0, "equations 4\nunits 4\nstages 4\n"),
-        (
-            &["cost", "p"],
-            0,
-            "         2   0.250     1 in     4              4001\n",
-        ),
-        (
-            &["cost", "p", "--samples", "10"],
-            0,
-            "         3   0.500     2 in     4                22\n",
-        ),
-        (&["graph", "p"], 0, "  u1 -> u2;\n"),
-        (&["graph", "nowhere"], 3, ""),
-        (&["why", "p", "--stripes", "3"], 2, ""),
-    ];
-    assert_eq!(rt; other_call(rt.alloc(), &calls, program)?, None);
-    Ok(())
+fn accepted_programs(rt: HostRuntime) -> Result<(), AllocError> {
+    check_calls(&rt, rt.alloc(), PROGRAM, CALLS)
 }

@@ -1,55 +1,79 @@
 //! Programs that do not fit or pass a limit, with the place and the note of each and words of its explanation.
 
-use crate::calls::{Case, called, otherwise};
-use std::test::Fail;
+use crate::calls::check_calls;
+use std::alloc::AllocError;
+
+/// Programs that do not fit or pass a limit.
+const FITS: &str = "\
+$ pipelens why p
+input x:64;
+rec s:64 = 1 by (s@1 ^ x) & s@1;
+output y = s{31..0};
+= 5
+p:2:1: no fit: unit 3
+...With `--narrow` the program fits.
+On `--fabric wide` the program fits.
+...
+$ pipelens why p
+input x:8;
+for i in 0..120 { let term[i] = x ^ i; }
+let s[0]:8 = term[0];
+for i in 1..120 { let s[i]:8 = s[i-1] + term[i]; }
+output y = s[119];
+= 5
+p:2:1: no fit: unit 112
+...Registers ran out: 112 bytes that are made before are needed here or later, and a stage keeps 112, 7 in a column....
+$ pipelens why p
+input x:64;
+rec s:64 = 1 by (s@1 ^ x) & s@1;
+output y = s;
+= 5
+p:2:1: no fit: unit 3
+...takes 24 columns, where a stage has 16.
+Declare a smaller width, put together what does not read the recurrence, as in `s@1 + (a + b)`...
+$ pipelens why p
+input a:128;
+input b:128;
+output y:128 = a + b;
+= 6
+p:2:1: limit: input-bytes 16
+...more bytes than a stage has columns.
+Declare smaller widths, or split the program.
+On `--fabric wide` the program fits.
+...
+";
 
 #[test]
-fn fits_and_limits(rt: HostRuntime) -> Result<(), Fail> {
-    let cases: [Case; 4] = [
-        (
-            "input x:64;\nrec s:64 = 1 by (s@1 ^ x) & s@1;\noutput y = s{31..0};",
-            "p:2:1: no fit: unit 3\n",
-            "With `--narrow` the program fits.\nOn `--fabric wide` the program fits.\n",
-        ),
-        (
-            "input x:8;\nfor i in 0..120 { let term[i] = x ^ i; }\nlet s[0]:8 = term[0];\nfor i in 1..120 { let s[i]:8 = s[i-1] + term[i]; }\noutput y = s[119];",
-            "p:2:1: no fit: unit 112\n",
-            "Registers ran out: 112 bytes that are made before are needed here or later, and a stage keeps 112, 7 in a column.",
-        ),
-        (
-            "input x:64;\nrec s:64 = 1 by (s@1 ^ x) & s@1;\noutput y = s;",
-            "p:2:1: no fit: unit 3\n",
-            "takes 24 columns, where a stage has 16.\nDeclare a smaller width, put together what does not read the recurrence, as in `s@1 + (a + b)`",
-        ),
-        (
-            "input a:128;\ninput b:128;\noutput y:128 = a + b;",
-            "p:2:1: limit: input-bytes 16\n",
-            "more bytes than a stage has columns.\nDeclare smaller widths, or split the program.\nOn `--fabric wide` the program fits.\n",
-        ),
-    ];
-    assert_eq!(rt; otherwise(rt.alloc(), &cases)?, None);
-    Ok(())
+fn fits_and_limits(rt: HostRuntime) -> Result<(), AllocError> {
+    check_calls(&rt, rt.alloc(), "", FITS)
 }
 
+/// Programs for which no other setting helps, with the whole of what is written.
+const HELPLESS: &str = "\
+$ pipelens why p --fabric wide
+input a:128;
+input b:128;
+input c:8;
+output y = a;
+= 6
+p:3:1: limit: input-bytes 32
+  3 | input c:8;
+    | ^^^^^
+All inputs of a sample together have more bytes than a stage has columns.
+Declare smaller widths, or split the program.
+$ pipelens why p
+input x:128;
+rec s:128 = 1 by (s@1 ^ x) & s@1;
+output y = s;
+= 5
+p:2:1: no fit: unit 3
+  2 | rec s:128 = 1 by (s@1 ^ x) & s@1;
+    | ^^^
+Columns ran out: what the recurrence goes on from is made within one stage, and takes 48 columns, where a stage has 16.
+Declare a smaller width, put together what does not read the recurrence, as in `s@1 + (a + b)`, or, where no bit looks at another, make it two of half the width.
+";
+
 #[test]
-fn where_nothing_helps(rt: HostRuntime) -> Result<(), Fail> {
-    let (reply, told) = called(
-        rt.alloc(),
-        &["why", "p", "--fabric", "wide"],
-        "input a:128;\ninput b:128;\ninput c:8;\noutput y = a;",
-    )?;
-    assert_eq!(rt; reply.outcome.status(), 6);
-    let wanted =
-        b"p:3:1: limit: input-bytes 32\n  3 | input c:8;\n    | ^^^^^\nAll inputs of a sample together have more bytes than a stage has columns.\nDeclare smaller widths, or split the program.\n";
-    assert_eq!(rt; told.bytes(), wanted.as_slice());
-    let (reply, told) = called(
-        rt.alloc(),
-        &["why", "p"],
-        "input x:128;\nrec s:128 = 1 by (s@1 ^ x) & s@1;\noutput y = s;",
-    )?;
-    assert_eq!(rt; reply.outcome.status(), 5);
-    let wanted =
-        b"p:2:1: no fit: unit 3\n  2 | rec s:128 = 1 by (s@1 ^ x) & s@1;\n    | ^^^\nColumns ran out: what the recurrence goes on from is made within one stage, and takes 48 columns, where a stage has 16.\nDeclare a smaller width, put together what does not read the recurrence, as in `s@1 + (a + b)`, or, where no bit looks at another, make it two of half the width.\n";
-    assert_eq!(rt; told.bytes(), wanted.as_slice());
-    Ok(())
+fn where_nothing_helps(rt: HostRuntime) -> Result<(), AllocError> {
+    check_calls(&rt, rt.alloc(), "", HELPLESS)
 }

@@ -1,35 +1,76 @@
 //! Logs as waveforms and pictures.
 
-use crate::calls::{Call, other_call};
-use std::test::Fail;
+use crate::calls::check_calls;
+use std::alloc::AllocError;
+
+/// The log of these calls.
+const LOG: &str = "\
+cycle 0 conf 0@0 save - in 0 out -
+stall 1
+cycle 1 conf 1@1 save - in - out 0
+12
+end cycles 2 stalls 1 records 1
+";
+
+/// Calls over it, and one over a log with a cycle that no log has.
+const CALLS: &str = "\
+$ pipelens wave p
+= 0
+...$scope module stripe_1 $end
+$var wire 16 s8 stage $end
+...
+$ pipelens wave p
+= 0
+...$enddefinitions $end
+#0
+b0 s6
+1s7
+bz s8
+0s9
+b0 s0
+0s1
+b0 s2
+bz s3
+b1 s4
+b0 s5
+#10
+0s7
+b1 s0
+1s1
+bz s2
+#20
+...
+$ pipelens wave p
+= 0
+...#20
+b1 s8
+1s9
+0s1
+b0 s3
+b0 s4
+b1 s5
+#30
+...
+$ pipelens chart p
+= 0
+...fill=\"#bbb\"...
+$ pipelens chart p
+= 0
+...</svg>
+...
+$ pipelens chart nowhere
+= 0
+...</svg>
+...
+$ pipelens wave p
+cycle 0 conf 0@0 save - in 0 out -
+cycle 01 conf - save - in - out -
+
+= 15
+...
+";
 
 #[test]
-fn logs(rt: HostRuntime) -> Result<(), Fail> {
-    let log =
-        "cycle 0 conf 0@0 save - in 0 out -\nstall 1\ncycle 1 conf 1@1 save - in - out 0\n12\nend cycles 2 stalls 1 records 1\n";
-    let calls: [Call; 6] = [
-        (
-            &["wave", "p"],
-            0,
-            "$scope module stripe_1 $end\n$var wire 16 s8 stage $end\n",
-        ),
-        (
-            &["wave", "p"],
-            0,
-            "$enddefinitions $end\n#0\nb0 s6\n1s7\nbz s8\n0s9\nb0 s0\n0s1\nb0 s2\nbz s3\nb1 s4\nb0 s5\n#10\n0s7\nb1 s0\n1s1\nbz s2\n#20\n",
-        ),
-        (
-            &["wave", "p"],
-            0,
-            "#20\nb1 s8\n1s9\n0s1\nb0 s3\nb0 s4\nb1 s5\n#30\n",
-        ),
-        (&["chart", "p"], 0, "fill=\"#bbb\""),
-        (&["chart", "p"], 0, "</svg>\n"),
-        (&["chart", "nowhere"], 0, "</svg>\n"),
-    ];
-    assert_eq!(rt; other_call(rt.alloc(), &calls, log)?, None);
-    let bad: [Call; 1] = [(&["wave", "p"], 15, "")];
-    let text = "cycle 0 conf 0@0 save - in 0 out -\ncycle 01 conf - save - in - out -\n";
-    assert_eq!(rt; other_call(rt.alloc(), &bad, text)?, None);
-    Ok(())
+fn logs(rt: HostRuntime) -> Result<(), AllocError> {
+    check_calls(&rt, rt.alloc(), LOG, CALLS)
 }
