@@ -4,7 +4,6 @@ use crate::files::{MARK, PACKED, file, plain, with_word};
 use pr_code::{CodeFault, decode, read_mark};
 use std::alloc::{AllocError, Global};
 use std::process::Abort;
-use std::test::Fail;
 
 /// A rule and a place.
 type Refusal = (u8, u32);
@@ -78,65 +77,94 @@ fn mark_refusal(alloc: Global, bytes: &[u8]) -> Result<Option<Refusal>, AllocErr
     }
 }
 
-/// Checks how files are refused of which one word is another.
+/// Checks how a file is refused of which one word is another.
+fn check_damage(rt: &impl Abort, came: Option<Refusal>, damage: &Damage) {
+    let (place, word, answer) = damage;
+    assert_eq!(rt; came, *answer, "word {place} is {word}");
+}
+
+/// Checks how files are refused.
 fn check_damages(
     rt: &impl Abort,
     alloc: Global,
     words: &[u32],
     damages: &[Damage],
 ) -> Result<(), AllocError> {
-    for (place, word, answer) in damages {
-        let bytes = with_word(alloc, words, *place, *word)?;
-        assert_eq!(rt; refusal(alloc, &bytes)?, *answer, "word {place} is {word}");
+    for damage in damages {
+        let bytes = with_word(alloc, words, damage.0, damage.1)?;
+        check_damage(rt, refusal(alloc, &bytes)?, damage);
     }
     Ok(())
 }
 
+/// Checks how checkpoints are refused.
+fn check_mark_damages(rt: &impl Abort, alloc: Global) -> Result<(), AllocError> {
+    for damage in &MARK_DAMAGES {
+        let bytes = with_word(alloc, &MARK, damage.0, damage.1)?;
+        check_damage(rt, mark_refusal(alloc, &bytes)?, damage);
+    }
+    Ok(())
+}
+
+/// Checks how a file or a checkpoint of so many bytes is refused.
+fn check_length(rt: &impl Abort, came: Option<Refusal>, wanted: Refusal, length: usize) {
+    assert_eq!(rt; came, Some(wanted), "{length} bytes");
+}
+
+/// Checks how a file is refused.
+fn check_file(
+    rt: &impl Abort,
+    alloc: Global,
+    bytes: &[u8],
+    wanted: Refusal,
+) -> Result<(), AllocError> {
+    check_length(rt, refusal(alloc, bytes)?, wanted, bytes.len());
+    Ok(())
+}
+
 #[test]
-fn damaged_words_are_refused(rt: HostRuntime) -> Result<(), Fail> {
+fn damaged_words_are_refused(rt: HostRuntime) -> Result<(), AllocError> {
     let alloc = rt.alloc();
     check_damages(&rt, alloc, &plain(alloc)?, &PLAIN_DAMAGES)?;
     check_damages(&rt, alloc, &PACKED, &PACKED_DAMAGES)?;
-    let needless = file(alloc, &NEEDLESS)?;
-    assert_eq!(rt; refusal(alloc, &needless)?, Some((8, 13)));
-    Ok(())
+    check_file(&rt, alloc, &file(alloc, &NEEDLESS)?, (8, 13))
 }
 
-/// Checks how a file is refused that has a byte less, and one that has a byte more.
+/// Checks how the file of these words is refused with a byte more, and with a byte less.
 fn check_ends(
     rt: &impl Abort,
     alloc: Global,
-    mut bytes: Vec<u8>,
+    words: &[u32],
     long: Refusal,
     short: Refusal,
 ) -> Result<(), AllocError> {
+    let mut bytes = file(alloc, words)?;
     bytes.push(0)?;
-    assert_eq!(rt; refusal(alloc, &bytes)?, Some(long));
+    check_file(rt, alloc, &bytes, long)?;
     bytes.pop();
     bytes.pop();
-    assert_eq!(rt; refusal(alloc, &bytes)?, Some(short));
-    Ok(())
+    check_file(rt, alloc, &bytes, short)
 }
 
 #[test]
-fn a_file_ends_with_its_last_word(rt: HostRuntime) -> Result<(), Fail> {
+fn a_file_ends_with_its_last_word(rt: HostRuntime) -> Result<(), AllocError> {
     let alloc = rt.alloc();
-    assert_eq!(rt; refusal(alloc, &[])?, Some((1, 0)));
-    assert_eq!(rt; refusal(alloc, b"PIP")?, Some((1, 0)));
-    check_ends(&rt, alloc, file(alloc, &plain(alloc)?)?, (7, 137), (1, 136))?;
-    check_ends(&rt, alloc, file(alloc, &PACKED)?, (7, 23), (1, 22))?;
-    Ok(())
+    check_file(&rt, alloc, &[], (1, 0))?;
+    check_file(&rt, alloc, b"PIP", (1, 0))?;
+    check_ends(&rt, alloc, &plain(alloc)?, (7, 137), (1, 136))?;
+    check_ends(&rt, alloc, &PACKED, (7, 23), (1, 22))
 }
 
-#[test]
-fn damaged_checkpoints_are_refused(rt: HostRuntime) -> Result<(), Fail> {
-    let alloc = rt.alloc();
-    for (place, word, answer) in MARK_DAMAGES {
-        let bytes = with_word(alloc, &MARK, place, word)?;
-        assert_eq!(rt; mark_refusal(alloc, &bytes)?, answer);
-    }
+/// Checks how a checkpoint is refused with a byte less.
+fn check_short_mark(rt: &impl Abort, alloc: Global) -> Result<(), AllocError> {
     let mut bytes = file(alloc, &MARK)?;
     bytes.pop();
-    assert_eq!(rt; mark_refusal(alloc, &bytes)?, Some((1, 24)));
+    check_length(rt, mark_refusal(alloc, &bytes)?, (1, 24), bytes.len());
     Ok(())
+}
+
+#[test]
+fn damaged_checkpoints_are_refused(rt: HostRuntime) -> Result<(), AllocError> {
+    check_mark_damages(&rt, rt.alloc())?;
+    check_short_mark(&rt, rt.alloc())
 }

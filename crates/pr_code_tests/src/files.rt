@@ -59,18 +59,9 @@ pub(crate) fn with_word(
 
 /// The words without maps.
 pub(crate) fn plain(alloc: Global) -> Result<Vec<u32>, AllocError> {
-    let mut words = Vec::new(alloc);
-    for word in &FIRST {
-        words.push(*word)?;
-    }
-    for _ in 17..73 {
-        words.push(0)?;
-    }
-    for word in &SECOND {
-        words.push(*word)?;
-    }
-    for _ in 77..137 {
-        words.push(0)?;
-    }
+    let mut words = Vec::from_slice(alloc, &FIRST)?;
+    words.resize(73, 0)?;
+    words.extend_from_slice(&SECOND)?;
+    words.resize(137, 0)?;
     Ok(words)
 }
