@@ -6,7 +6,7 @@ use pr_conf::{Bit, Configuration, Pe, Source, Stage, Tap};
 use std::alloc::{AllocError, Global};
 use std::mem;
 
-/// What the elements of a stage read at one sample.
+/// What the elements of a stage read and show, from sample to sample.
 #[derive(Drop)]
 struct Seat {
     registers: usize,

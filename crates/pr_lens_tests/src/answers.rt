@@ -7,10 +7,14 @@ use std::alloc::AllocError;
 const WORDS: &str = "\
 $ pipelens --help
 = 0
-...usage: pipelens TASK FILE...
+pipelens looks at programs and runs of piperench
+
+usage: pipelens TASK FILE...
 $ pipelens why p --help
 = 0
-...usage: pipelens TASK FILE...
+pipelens looks at programs and runs of piperench
+
+usage: pipelens TASK FILE...
 $ pipelens why
 = 2
 ...

@@ -187,7 +187,7 @@ pub(crate) struct Setting<'a> {
     pub(crate) turns: usize,
 }
 
-/// Runs samples of 8 bits each through a new machine.
+/// Runs samples through a new machine whose inputs have 8 bits each.
 pub(crate) fn play_new<const B: usize>(
     rt: &impl Abort,
     alloc: Global,

@@ -159,7 +159,7 @@ input x:128; output y:8 = x + x;
 300
 88";
 
-/// Sixty functions, each of which names the one before twice in a loop without turns.
+/// Sixty functions, each of which names the one before twice in a loop without turns, a sample, and what is made of it.
 const SIXTY_FUNCTIONS: &str = "input x:8; fn f0(a) { return a; } \
     fn f1(a) { for i in 0..0 { let q = f0(a) + f0(a); } return a; } \
     fn f2(a) { for i in 0..0 { let q = f1(a) + f1(a); } return a; } \
@@ -414,12 +414,12 @@ fn text_makes(alloc: Global, text: &str, samples: &[Sample], wanted: &[Sample]) 
     }
 }
 
-/// The numbers of a text, up to a word that is none.
+/// The numbers of a text, and none where a word is no number.
 fn row_of(alloc: Global, text: &str) -> Result<Sample, AllocError> {
     let mut numbers = Vec::new(alloc);
     for word in text.split_ascii_whitespace() {
         let Ok(number) = word.parse::<Num>() else {
-            break;
+            return Ok(Sample::new(Vec::new(alloc)));
         };
         numbers.push(number)?;
     }

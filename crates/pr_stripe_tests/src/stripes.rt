@@ -48,7 +48,7 @@ const FILTER: &str = "9 112 125 190  3 164 25 202  63 136 245 22
 -
 9 9 9 9  9 9 9 9  128 9 9 9";
 
-/// The numbers of a text up to the first word that is none, twelve at most; the others are 0.
+/// The bytes of the first twelve words of a text; 0 where a word is no byte.
 fn registers_in(words: &str) -> Registers {
     let mut registers = [[0; 4]; 3];
     for (k, word) in words.split_whitespace().enumerate() {

@@ -128,7 +128,7 @@ fn damaged_files(rt: HostRuntime) -> Result<(), AllocError> {
     check_damaged(&rt, alloc, Kind::Empty, Change::Nothing, 1, 0)
 }
 
-/// Where the second read fails, then the first write, and then where there is no file.
+/// Where the second read fails, and then where the first write does.
 #[test]
 fn faults(rt: HostRuntime) -> Result<(), AllocError> {
     let alloc = rt.alloc();

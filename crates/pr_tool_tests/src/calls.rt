@@ -34,7 +34,7 @@ pub(crate) const PLAIN: Setting<'static> = Setting {
     blank: "",
     read: 0,
     write: 0,
-    note: 100,
+    note: 1_000,
 };
 
 /// The words of a line as the system gives them.

@@ -6,8 +6,9 @@ use std::alloc::{AllocError, Global};
 /// The names of files, and their bytes.
 pub(crate) type Files = Vec<(String, Vec<u8>)>;
 
-/// Programs `p`, `r`, `g`, of which the last has no width, and `filter`; samples `s`, `q`, `b`, `f` and `e`, where a line
-/// of `b` and that of `f` are no sample of two numbers; and a text `t` that is neither samples nor a stall text.
+/// Programs `p`, `r`, `g`, of which the last has no width, and `filter`; samples `s`, `q`, `b` and `f`, where a line of
+/// `b` and that of `f` are no sample of two bytes; a text `t` that is neither samples nor a stall text; and `e`, which has
+/// no byte.
 const TEXTS: &str = "\
     #p input a:8;\ninput b:8;\noutput y = a ^ b;\n\
     #r input x:8; rec s:8 = 250 by s@1 + x; output y = s;\
