@@ -1,10 +1,15 @@
 //! A queue of 16 pieces of one size, which takes no memory once it is made.
 #![tactic(auto)]
 
-ghost use Rattle.std.specs.Prelude.{◌≡◌, ◌≢◌, ◌+◌, ◌*◌, ◌<◌, ◌≤◌, ◌↔◌, ℕ, [], ◌∷◌, ◌++◌, length, IsErr, IfOk, OnOk, OnErr};
-ghost use Rattle.pr_queue.specs.Pieces.{Pieces, slot};
+mod long;
+mod short;
 
-use pr_lanes::copy_row;
+ghost use Rattle.std.specs.Prelude.{◌≡◌, ◌<◌, ◌≤◌, ◌↔◌, [], ◌∷◌, ◌++◌, length, IsErr, IfOk, OnOk, OnErr};
+ghost use Rattle.pr_queue.specs.Pieces.{Pieces};
+
+use crate::long::{get_bytes, put_bytes};
+use crate::short::{get_word, put_word, word_of};
+use circular_buffer::HeapCircularBuffer;
 use std::alloc::{AllocError, Global};
 use std::marker::Model;
 use thiserror::Error;
@@ -12,7 +17,7 @@ use thiserror::Error;
 /// How many pieces a queue holds.
 const ROOM: usize = 16;
 
-/// As many pieces wait as a queue holds.
+/// The queue already holds 16 pieces.
 #[derive(Debug, Drop, Error)]
 #[error("the queue is full")]
 pub struct Full;
@@ -22,45 +27,29 @@ pub struct Full;
 #[error("the queue is empty")]
 pub struct Empty;
 
-/// Pieces of one size, first in, first out: seen by contracts as the size and the list of the pieces that wait.
+/// Pieces of one size, first in, first out. Contracts see the size and the list of the pieces that wait.
 ///
-/// They lie in slots that go round, from the slot `head` on.
+/// A piece of at most 8 bytes waits as one word in the ring `words`. A longer piece waits byte by byte in the ring
+/// `bytes`, and `count` says how many of these wait. One of the two rings is always empty.
 #[derive(Drop)]
 pub struct Queue {
-    slots: Vec<u8>,
-    size: usize,
-    head: usize,
+    words: HeapCircularBuffer<u64>,
+    bytes: HeapCircularBuffer<u8>,
     count: usize,
+    size: usize,
 }
 
 impl Model for Queue {
-    ghost use Rattle.std.specs.Prelude.{◌≡◌, ◌*◌, ◌<◌, ◌≤◌, vec_len};
-    ghost use Rattle.pr_queue.specs.Pieces.{Pieces, pieces_from};
+    ghost use Rattle.std.specs.Prelude.{◌≡◌, ◌*◌, ◌<◌, ◌≤◌, length, []};
+    ghost use Rattle.pr_queue.specs.Pieces.{Pieces, waiting_in};
 
     ghost Value = { Pieces };
 
-    ghost view = { λ q. record { size = q.size; waiting = pieces_from q.head q.count q.size q.slots.items } };
+    ghost view = { λ q. record { size = q.size; waiting = waiting_in q.size q.words.items q.count q.bytes.items } };
 
-    ghost invariant = { λ q. (vec_len q.slots ≡ 16 * q.size) × (q.count ≤ 16) × (q.head < 16) × (0 < q.size) × (q.size ≤ 1024) };
-}
-
-/// Fills a slot of as many bytes as the piece has.
-fn fill_slot(slots: &mut [u8], at: usize, piece: &[u8])
-    requires { (at + 1) * length piece.now ≤ length slots.old }
-    ensures here { slot (length piece.now) slots.new at ≡ piece.now }
-    ensures others { (k : ℕ) → k ≢ at → slot (length piece.now) slots.new k ≡ slot (length piece.now) slots.old k }
-{
-    let start = at * piece.len();
-    copy_row(&mut slots[start..start + piece.len()], piece);
-}
-
-/// Fills a piece from a slot of as many bytes.
-fn read_slot(into: &mut [u8], slots: &[u8], at: usize)
-    requires { (at + 1) * length into.old ≤ length slots.now }
-    ensures { into.new ≡ slot (length into.old) slots.now at }
-{
-    let start = at * into.len();
-    copy_row(into, &slots[start..start + into.len()]);
+    ghost invariant = { λ q. (q.words.capacity ≡ 16) × (q.bytes.capacity ≡ 16 * q.size) × (length q.words.items ≤ 16)
+        × (length q.bytes.items ≡ q.count * q.size) × (q.count ≤ 16) × (0 < q.size) × (q.size ≤ 1024)
+        × (q.size ≤ 8 → q.count ≡ 0) × (8 < q.size → q.words.items ≡ []) };
 }
 
 impl Queue {
@@ -70,12 +59,13 @@ impl Queue {
         requires high { bytes ≤ 1024 }
         ensures { IfOk result (λ q. q ≡ record { size = bytes; waiting = [] }) }
     {
-        let slots = vec![in alloc; 0; ROOM * bytes]?;
+        let words = HeapCircularBuffer::with_capacity(alloc, ROOM)?;
+        let rest = HeapCircularBuffer::with_capacity(alloc, ROOM * bytes)?;
         Ok(Queue {
-            slots,
-            size: bytes,
-            head: 0,
+            words,
+            bytes: rest,
             count: 0,
+            size: bytes,
         })
     }
 
@@ -84,7 +74,7 @@ impl Queue {
         ensures count { result ≡ length self.now.waiting }
         ensures few { result ≤ 16 }
     {
-        self.count
+        self.words.len() + self.count
     }
 
     /// The bytes of a piece: 1,024 at most.
@@ -101,6 +91,7 @@ impl Queue {
     ///
     /// `Full` exactly where 16 pieces wait; the queue is then as it was.
     #[inline(always)]
+    #[tactic(auto, using(crate::proofs::PiecesLemmas::how_many))]
     pub fn put(&mut self, piece: &[u8]) -> Result<(), Full>
         requires { length piece.now ≡ self.old.size }
         ensures full { IsErr result ↔ (length self.old.waiting ≡ 16) }
@@ -109,13 +100,13 @@ impl Queue {
         ensures same { OnErr result (self.new ≡ self.old) }
         ensures size { self.new.size ≡ self.old.size }
     {
-        if self.count == ROOM {
-            return Err(Full);
+        match word_of(piece) {
+            Some(word) => put_word(&mut self.words, word),
+            None => match put_bytes(&mut self.bytes, &mut self.count, piece) {
+                Ok(()) => Ok(()),
+                Err(Full) => Err(Full),
+            },
         }
-        let at = (self.head + self.count) % ROOM;
-        fill_slot(&mut self.slots, at, piece);
-        self.count += 1;
-        Ok(())
     }
 
     /// Takes the front piece into a buffer of the queue's size.
@@ -132,12 +123,12 @@ impl Queue {
         ensures same { OnErr result ((self.new ≡ self.old) × (into.new ≡ into.old)) }
         ensures size { self.new.size ≡ self.old.size }
     {
-        if self.count == 0 {
-            return Err(Empty);
+        match get_word(&mut self.words, into) {
+            Ok(()) => Ok(()),
+            Err(Empty) => match get_bytes(&mut self.bytes, &mut self.count, into) {
+                Ok(()) => Ok(()),
+                Err(Empty) => Err(Empty),
+            },
         }
-        read_slot(into, &self.slots, self.head);
-        self.head = (self.head + 1) % ROOM;
-        self.count -= 1;
-        Ok(())
     }
 }
