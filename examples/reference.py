@@ -5,7 +5,7 @@ numbers of any size.
 usage: reference.py FOLDER [SAMPLES], as reference.py kernels/fir; without a folder it compares each stored file
 """
 import base64, itertools, pathlib, sys, zlib
-from math import cos, pi
+from math import cos, floor, pi, sin
 
 here = pathlib.Path(__file__).resolve().parent
 folders = {}
@@ -134,6 +134,48 @@ def one_after_the_other(rows):
 def split_recurrence(rows):
     seen = itertools.accumulate(column(rows), lambda a, b: a | b)
     return [[2**64 - 1 - s] for s in seen]
+
+@example("idioms/signed-coefficients")
+def signed_coefficients(rows):
+    x = [signed(v, 8) for v, in rows]
+    return [[(10 * at(x, n - 1) - 3 * (x[n] + at(x, n - 2))) % 2**18] for n in range(len(x))]
+
+
+@example("idioms/symmetric-filter")
+def symmetric_filter(rows):
+    x = column(rows)
+    return [[sum(c * at(x, n - k) for k, c in enumerate((3, 9, 20, 26, 20, 9, 3)))] for n in range(len(x))]
+
+
+@example("idioms/rounding")
+def rounding(rows):
+    return [[floor(signed(a, 8) * signed(b, 8) / 16 + 0.5) % 2**13] for a, b in rows]
+
+
+@example("idioms/signed-saturation")
+def signed_saturation(rows):
+    return [[max(-128, min(signed(a, 8) + signed(b, 8), 127)) % 2**8] for a, b in rows]
+
+
+@example("idioms/constant-product")
+def constant_product(rows):
+    return [[7 * x, 10 * x] for x, in rows]
+
+
+@example("idioms/short-feedback")
+def short_feedback(rows):
+    s, results = 0, []
+    for x, in rows:
+        s = x + s // 2 + s // 4
+        results.append([s])
+    return results
+
+
+@example("idioms/quarter-wave")
+def quarter_wave(rows):
+    phases = itertools.accumulate(step for step, in rows)
+    return [[round(127 * sin(2 * pi * (phase // 16) / 16)) % 2**8] for phase in phases]
+
 
 
 # Kernels
