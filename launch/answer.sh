@@ -16,7 +16,7 @@ is_plain() {
     case $1 in
     /dev/* | /proc/*) return 1 ;;
     esac
-    [ -f "$1" ] && [ -r "$1" ] && [ -z "$(find -L "$1" -size +65536k)" ]
+    [ -f "$1" ] && [ -r "$1" ] && [ "$(wc -c <"$1")" -le 67108864 ]
 }
 
 # The name can be given to a copy in the program's folder, where rt has files of its own.
@@ -31,6 +31,7 @@ is_below() {
 # the program can't get the file.
 find_way() {
     case $1 in
+    -) file=- ;;
     -*=*) file=${1#*=} ;;
     -*) file= ;;
     *) file=$1 ;;
@@ -58,27 +59,35 @@ listed_files() {
     done
 }
 
-# The unproved program can get each file that the words name. The first word is a mode, also where a folder has its name.
+# The unproved program can get each file that the words name. A first word is a mode, also where a folder has its name, and
+# behind `--` a file may have the name of an option.
 can_answer() {
-    for one in $(listed_files "$@"); do
+    while read -r one; do
         find_way "$one" || return 1
+        # (a list that names a file above its folder can't be given another name for it)
         case $way$one in
         path/* | copy* | "$one") ;;
         *) return 1 ;;
         esac
-    done
-    [ $# -eq 0 ] || shift
+    done <<END
+$(listed_files "$@")
+END
+    mode=1
     for word in "$@"; do
-        find_way "$word" || return 1
+        case $mode$word in
+        ?--) return 1 ;;
+        0* | 1-*) find_way "$word" || return 1 ;;
+        esac
+        mode=0
     done
 }
 
 # The word as the unproved program is to get it.
 given_word() {
-    find_way "$1"
+    find_way "$1" || way=
     case $way$file in
     path/* | copy* | "$file") printf '%s' "$1" ;;
-    *) printf '%s' "${1%"$file"}$PWD/$file" ;;
+    path*) printf '%s' "${1%"$file"}$PWD/$file" ;;
     esac
 }
 
@@ -86,13 +95,11 @@ given_word() {
 start_answer() {
     answer=$(mktemp -d "${TMPDIR:-/tmp}/$name-answer-XXXXXX") || exit 1
     listed_files "$@" >"$answer/listed"
-    mode=${1-}
-    [ $# -eq 0 ] || shift
     for word in "$@"; do
         shift
         set -- "$@" "$(given_word "$word")"
     done
-    set -- -- ${mode:+"$mode"} "$@"
+    set -- -- "$@"
     for word in "$@"; do
         find_way "$word" && [ "$way" = copy ] && set -- --data "$file=$PWD/$file" "$@"
     done
