@@ -100,11 +100,19 @@ END {
         if (crate in ended && ended[crate] > begun[crate]) { taken += ended[crate] - begun[crate]; asked += cost[crate] }
     }
     speed = taken / asked
+    # A crate at work that has taken more than that already counts too.
+    for (i = 1; i <= count; i++) {
+        crate = order[i]
+        if (crate in begun && !(crate in ended) && now - begun[crate] > cost[crate] * speed) {
+            taken += now - begun[crate]; asked += cost[crate]
+        }
+    }
+    speed = taken / asked
     at_work = ""
     for (i = 1; i <= count; i++) {
         crate = order[i]
         if (crate in begun) printf "%s %s%s\n", crate, begun[crate], crate in ended ? " " ended[crate] : "" > times
-        if (!(crate in begun) || crate in done) continue
+        if (!(crate in begun) || crate in ended) continue
         if (at_work == "" || begun[crate] < begun[at_work]) at_work = crate
         # A crate that takes longer than the table says is expected to take a tenth of its time more.
         left = cost[crate] * speed - (now - begun[crate])
