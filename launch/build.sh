@@ -91,7 +91,8 @@ in_words() {
     fi
 }
 
-# Tells how far the proofs are: one line that is written again on a terminal, elsewhere a line each minute.
+# Tells how far the proofs are: one line that is written again on a terminal, elsewhere a line each minute, or after as many
+# seconds as PIPERENCH_TELL says.
 tell_progress() {
     measure
     told="$proved of $count crates proved, $(in_words "$left") left${at_work:+, now $at_work}"
