@@ -1,0 +1,34 @@
+# Completes the words of pipelens in bash: a task first, then files, and options anywhere.
+_pipelens() {
+    local word=${COMP_WORDS[COMP_CWORD]} before=${COMP_WORDS[COMP_CWORD - 1]} at
+    local tasks='
+        chart
+        cost
+        graph
+        wave
+        why
+    '
+    local options='
+        --fabric
+        --help
+        --narrow
+        --samples
+    '
+    # (a word is cut at `=`)
+    [ "$before" != = ] || before=${COMP_WORDS[COMP_CWORD - 2]}
+    [ "$word" != = ] || word=
+    COMPREPLY=()
+    case $before in
+    --fabric) mapfile -t COMPREPLY < <(compgen -W 'base wide' -- "$word") && return ;;
+    --samples) return ;;
+    esac
+    case $word in
+    -*) mapfile -t COMPREPLY < <(compgen -W "$options" -- "$word") && return ;;
+    esac
+    for ((at = 1; at < COMP_CWORD; at++)); do
+        [[ $tasks != *[[:space:]]${COMP_WORDS[at]}[[:space:]]* ]] || return
+    done
+    mapfile -t COMPREPLY < <(compgen -W "$tasks" -- "$word")
+}
+# Where nothing is found, bash completes the names of files.
+complete -o default -F _pipelens pipelens

@@ -1,0 +1,18 @@
+# Completes the words of piperench in fish: a mode first, then files, and options anywhere.
+complete -c piperench -n __fish_use_subcommand -f
+complete -c piperench -n __fish_use_subcommand -a run -d 'Compile a program and write a line for each sample'
+complete -c piperench -n __fish_use_subcommand -a trace -d 'The lines of run, and a log line for each cycle'
+complete -c piperench -n __fish_use_subcommand -a eval -d 'The same lines by the meaning of the text'
+complete -c piperench -n __fish_use_subcommand -a compile -d 'Write the configuration file of a program'
+complete -c piperench -n __fish_use_subcommand -a exec -d 'Run a configuration file'
+complete -c piperench -n __fish_use_subcommand -a show -d 'Write a summary of a configuration file'
+complete -c piperench -n __fish_use_subcommand -a migrate -d 'Write a configuration file in the second format'
+complete -c piperench -n __fish_use_subcommand -a checkpoint -d 'Write what a program remembers after its samples'
+complete -c piperench -n __fish_use_subcommand -a move -d 'Go on from a checkpoint'
+complete -c piperench -n __fish_use_subcommand -a extend -d 'Go on from a checkpoint, and write the next one'
+complete -c piperench -n __fish_use_subcommand -a share -d 'Run the programs of a list in turns'
+complete -c piperench -n __fish_use_subcommand -a gen -d 'Run a generated program of 1 to 1000 turns'
+complete -c piperench -l stripes -x -a '2 4 8 16 32 64 128 256' -d 'Number of physical stripes'
+complete -c piperench -l fabric -x -a 'base wide' -d 'Fabric to compile for'
+complete -c piperench -l stall -r -F -d 'Turns in which a side is held'
+complete -c piperench -l narrow -d 'Leave out what no output shows'
