@@ -38,7 +38,7 @@ fn call<R: Files + Print + AllocGlobal>(rt: &R, words: &[String]) -> Result<Repl
         pipelens(alloc, words, &mut shelf, &mut out)
     };
     let is_written = reply.outcome != Outcome::Plain(Answer::WriteFault);
-    if is_written && results.into_inner().finish().is_err() {
+    if is_written && !results.into_inner().finish().went_through() {
         return Err(Outcome::Plain(Answer::WriteFault));
     }
     Ok(reply)

@@ -65,7 +65,7 @@ fn call<R: Files + Print + AllocGlobal>(
         let mut out = OutSink::new(Gathered { results: &results });
         on_bench(alloc, words, &mut shelf, &mut out, &mut note)
     };
-    if answer != Answer::WriteFault && results.into_inner().finish().is_err() {
+    if answer != Answer::WriteFault && !results.into_inner().finish().went_through() {
         return Err(Answer::WriteFault);
     }
     Ok((answer, note))

@@ -1,5 +1,5 @@
 //! A shelf in memory that tells all it holds, and whose calls fail as it was told.
-ghost use Rattle.std.specs.Prelude.{◌≡◌, ◌≢◌, ℕ, ◌^◌, ◌<◌, ◌≤◌, List, length, vec_len, Some, IfOk, OnErr, IsErr};
+ghost use Rattle.std.specs.Prelude.{◌≡◌, ◌≢◌, ℕ, ◌^◌, ◌<◌, ◌≤◌, List, length, vec_len, Some, IfOk, OnOk, OnErr, IsErr};
 ghost use Rattle.std.specs.Result.{result_ok};
 ghost use Rattle.pr_edge.specs.Count.{next_count};
 ghost use Rattle.pr_edge.specs.Files.{OfFile, IsMissing, IsPart, HasReadCause, reach_after};
@@ -68,6 +68,7 @@ impl Shelf for MemShelf {
         ensures cause { OnErr result
             (HasReadCause (told_of self.old) name.now (faults_of self.old) (faults_of self.new)) }
         ensures later { faults_of self.old ≤ faults_of self.new }
+        ensures steady { OnOk result (faults_of self.new ≡ faults_of self.old) }
         ensures same { told_of self.new ≡ told_of self.old }
         ensures reached { reach_of self.new name.now ≡ reach_after result (reach_of self.old name.now) place }
         ensures others { (q : List ℕ) → q ≢ name.now → reach_of self.new q ≡ reach_of self.old q }

@@ -1,5 +1,5 @@
 //! A sink in memory that tells all that was written, and whose calls fail as it was told.
-ghost use Rattle.std.specs.Prelude.{◌≡◌, ℕ, ◌^◌, ◌<◌, ◌≤◌, length, take, vec_len, vec_capacity, [], Some, None, IfOk, IsOk, OnErr, if◌then◌else◌};
+ghost use Rattle.std.specs.Prelude.{◌≡◌, ℕ, ◌^◌, ◌<◌, ◌≤◌, length, take, vec_len, vec_capacity, [], Some, None, IfOk, IsOk, OnOk, OnErr, if◌then◌else◌};
 ghost use Rattle.std.specs.Result.{result_ok};
 ghost use Rattle.pr_edge.specs.Count.{Rose, next_count};
 ghost use Rattle.pr_edge.specs.Tape.{Appends};
@@ -68,6 +68,7 @@ impl Sink for MemSink {
         ensures unchanged { OnErr result (told_of self.new ≡ told_of self.old) }
         ensures cause { OnErr result (Rose (faults_of self.old) (faults_of self.new)) }
         ensures later { faults_of self.old ≤ faults_of self.new }
+        ensures steady { OnOk result (faults_of self.new ≡ faults_of self.old) }
 
         // Each piece is taken whole or refused.
         ensures answer { result_ok result ≡

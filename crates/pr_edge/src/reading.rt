@@ -1,5 +1,5 @@
 //! Files that are read from any place.
-ghost use Rattle.std.specs.Prelude.{◌≡◌, ◌≢◌, ℕ, ◌^◌, ◌<◌, ◌≤◌, List, length, Option, IfOk, OnErr, IsErr, IsErrOf};
+ghost use Rattle.std.specs.Prelude.{◌≡◌, ◌≢◌, ℕ, ◌^◌, ◌<◌, ◌≤◌, ◌⊎◌, List, length, Option, IfOk, OnOk, OnErr, IsErr, IsErrOf};
 ghost use Rattle.pr_edge.specs.Files.{Told, OfFile, IsMissing, IsPart, HasReadCause, reach_after};
 
 use crate::Failed;
@@ -26,6 +26,7 @@ pub trait Shelf {
         ensures missing { IsMissing (told self.old) name.now → IsErr result × (faults self.new ≡ faults self.old) }
         ensures cause { OnErr result (HasReadCause (told self.old) name.now (faults self.old) (faults self.new)) }
         ensures later { faults self.old ≤ faults self.new }
+        ensures steady { OnOk result (faults self.new ≡ faults self.old) }
 
         ensures same { told self.new ≡ told self.old }
         ensures reached { reach self.new name.now ≡ reach_after result (reach self.old name.now) place }
@@ -63,6 +64,9 @@ pub fn read_all<S: Shelf>(
     ensures cause { IsErrOf result ReadAll.ReadFault →
         HasReadCause (S.told shelf.old) name.now (S.faults shelf.old) (S.faults shelf.new) }
     ensures later { S.faults shelf.old ≤ S.faults shelf.new }
+
+    // A read that fails is not tried again: it ends with ReadFault.
+    ensures steady { IsErrOf result ReadAll.ReadFault ⊎ S.faults shelf.new ≡ S.faults shelf.old }
 
     ensures same { S.told shelf.new ≡ S.told shelf.old }
     ensures others { (q : List ℕ) → q ≢ name.now → S.reach shelf.new q ≡ S.reach shelf.old q }

@@ -1,6 +1,6 @@
 //! A shelf in memory that never fails.
 ghost use Rattle.std.proofs.Common.{arith};
-ghost use Rattle.std.specs.Prelude.{◌≡◌, ◌≢◌, ℕ, ◌^◌, ◌<◌, ◌≤◌, List, length, drop, min, Some, None, IfOk, OnErr, IsErr};
+ghost use Rattle.std.specs.Prelude.{◌≡◌, ◌≢◌, ℕ, ◌^◌, ◌<◌, ◌≤◌, List, length, drop, min, Some, None, IfOk, OnOk, OnErr, IsErr};
 ghost use Rattle.pr_edge.specs.Files.{OfFile, IsMissing, IsPart, HasReadCause, reach_after};
 
 use crate::finding::bytes_of;
@@ -44,6 +44,7 @@ impl Shelf for SureShelf {
         ensures cause { OnErr result
             (HasReadCause (told_of self.old) name.now (faults_of self.old) (faults_of self.new)) }
         ensures later { faults_of self.old ≤ faults_of self.new }
+        ensures steady { OnOk result (faults_of self.new ≡ faults_of self.old) }
         ensures same { told_of self.new ≡ told_of self.old }
         ensures reached { reach_of self.new name.now ≡ reach_after result (reach_of self.old name.now) place }
         ensures others { (q : List ℕ) → q ≢ name.now → reach_of self.new q ≡ reach_of self.old q }

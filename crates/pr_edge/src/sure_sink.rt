@@ -1,6 +1,6 @@
 //! A sink in memory that never fails.
 ghost use Rattle.std.proofs.Common.{arith};
-ghost use Rattle.std.specs.Prelude.{◌≡◌, ℕ, ◌^◌, ◌<◌, ◌≤◌, ◌+◌, ◌++◌, ◌||◌, nat_lt, length, take, vec_len, vec_capacity, [], false, IfOk, IsOk, OnErr};
+ghost use Rattle.std.specs.Prelude.{◌≡◌, ℕ, ◌^◌, ◌<◌, ◌≤◌, ◌+◌, ◌++◌, ◌||◌, nat_lt, length, take, vec_len, vec_capacity, [], false, IfOk, IsOk, OnOk, OnErr};
 ghost use Rattle.pr_edge.specs.Count.{Rose};
 ghost use Rattle.pr_edge.specs.Tape.{Appends};
 
@@ -60,6 +60,7 @@ impl Sink for SureSink {
         ensures unchanged { OnErr result (told_of self.new ≡ told_of self.old) }
         ensures cause { OnErr result (Rose (faults_of self.old) (faults_of self.new)) }
         ensures later { faults_of self.old ≤ faults_of self.new }
+        ensures steady { OnOk result (faults_of self.new ≡ faults_of self.old) }
 
         // Each piece is taken whole, and what does not fit of it is dropped.
         ensures answer { result ≡ Ok (length bytes.now) }

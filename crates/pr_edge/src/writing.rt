@@ -23,7 +23,8 @@ pub trait Sink {
 
         ensures unchanged { OnErr result (told self.new ≡ told self.old) }
         ensures cause { OnErr result (Rose (faults self.old) (faults self.new)) }
-        ensures later { faults self.old ≤ faults self.new };
+        ensures later { faults self.old ≤ faults self.new }
+        ensures steady { OnOk result (faults self.new ≡ faults self.old) };
 
     ghost counted: { (s : Self) → faults s < 2 ^ 64 };
 }
@@ -40,6 +41,7 @@ fn write_pieces<K: Sink>(sink: &mut K, bytes: &[u8]) -> Result<(), WriteFault>
     ensures front { OnErr result (AppendsFront (K.told sink.old) (K.told sink.new) bytes.now) }
     ensures cause { OnErr result (Rose (K.faults sink.old) (K.faults sink.new)) }
     ensures later { K.faults sink.old ≤ K.faults sink.new }
+    ensures steady { OnOk result (K.faults sink.new ≡ K.faults sink.old) }
 {
     let mut done = 0;
     while done < bytes.len() {
@@ -60,6 +62,9 @@ pub fn write_all<K: Sink>(sink: &mut K, bytes: &[u8]) -> Result<(), WriteFault>
     ensures front { OnErr result (AppendsFront (K.told sink.old) (K.told sink.new) bytes.now) }
     ensures cause { OnErr result (Rose (K.faults sink.old) (K.faults sink.new)) }
     ensures later { K.faults sink.old ≤ K.faults sink.new }
+
+    // A write that fails is not tried again.
+    ensures steady { OnOk result (K.faults sink.new ≡ K.faults sink.old) }
 {
     if bytes.is_empty() {
         return Ok(());

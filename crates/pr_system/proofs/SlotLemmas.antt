@@ -1,9 +1,9 @@
 -- The slot of a name, before and after a read.
-use Rattle.std.proofs.Common.{◌≡◌, ℕ, zero, suc, ◌<◌, true, List, [], ◌∷◌, length, get_or, slice_set, Option, Some, None, string_bytes, refl, ap, ◌∙◌, inl, inr, arith}
+use Rattle.std.proofs.Common.{◌≡◌, ℕ, zero, suc, ◌<◌, true, List, [], ◌∷◌, length, get_or, slice_set, Option, Some, None, is_some, string_bytes, refl, ap, ◌∙◌, inl, inr, arith}
 use Rattle.std.proofs.lemmas.Slice.Eq.{slice_eq-Decides}
 use Rattle.std.proofs.lemmas.Bool.Decides.{Decides-eqb}
 use Rattle.pr_system.specs.declared.slots.Slot.{Slot}
-use Rattle.pr_system.specs.Slots.{has_name, slot_in, NoneBefore, IsSlotFor, IsTakenOut, IsRead, IsReadOn}
+use Rattle.pr_system.specs.Slots.{has_name, slot_in, IsFirst, NoneBefore, IsSlotFor, IsTakenOut, IsRead, IsReadOn}
 
 tail_of : {F : Type 0} (s : Slot F) (ss : List (Slot F)) (name : List ℕ) (i : ℕ) → NoneBefore (s ∷ ss) name (suc i) → NoneBefore ss name i
 tail_of s ss name i h = λ k d lt. h (suc k) d (omega (arith, lt))
@@ -14,9 +14,16 @@ slot_in-first [] name i d lt h here = absurd (omega (arith, lt))
 slot_in-first (s ∷ ss) name zero d lt h here = rw here refl
 slot_in-first (s ∷ ss) name (suc i) d lt h here = rw (h 0 d (omega arith)) (slot_in-first ss name i d (omega (arith, lt)) (tail_of s ss name i h) here)
 
-slot_in-none : {F : Type 0} (slots : List (Slot F)) (name : List ℕ) (d : Slot F) → NoneBefore slots name (length slots) → slot_in slots name ≡ None
-slot_in-none [] name d h = refl
-slot_in-none (s ∷ ss) name d h = rw (h 0 d (omega arith)) (slot_in-none ss name d (tail_of s ss name (length ss) h))
+pub slot_in-none : {F : Type 0} (slots : List (Slot F)) (name : List ℕ) → NoneBefore slots name (length slots) → slot_in slots name ≡ None
+slot_in-none [] name h = refl
+slot_in-none (s ∷ ss) name h = rw (h 0 s (omega arith)) (slot_in-none ss name (tail_of s ss name (length ss) h))
+
+-- a name that has a first slot has a slot
+pub slot_in-some : {F : Type 0} (slots : List (Slot F)) (name : List ℕ) (i : ℕ) → IsFirst slots name i → is_some (slot_in slots name) ≡ true
+slot_in-some [] name i h = absurd (omega (arith, h.within))
+slot_in-some (s ∷ ss) name zero h = rw (h.here s) refl
+slot_in-some (s ∷ ss) name (suc i) h = rw (h.before 0 s (omega arith))
+    (slot_in-some ss name i (record { within = omega (arith, h.within); here = λ d. h.here d; before = tail_of s ss name i h.before }))
 
 slot_in-set : {F : Type 0} (slots : List (Slot F)) (name : List ℕ) (i : ℕ) (d v : Slot F) → i < length slots → NoneBefore slots name i
     → has_name name v ≡ true → slot_in (slice_set slots i v) name ≡ Some v
@@ -41,6 +48,6 @@ read_on left slots rest name i place count before after bytes lt for out read =
       slot = rw set read.stands;
       gave = rw set (elim for [
         | inl first ↦ rw (slot_in-first slots name i before lt first.before (first.here before), ← out.slot) read
-        | inr none ↦ rw (slot_in-none slots name after none) tt
+        | inr none ↦ rw (slot_in-none slots name none) tt
       ]);
     }

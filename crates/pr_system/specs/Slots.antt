@@ -1,5 +1,5 @@
 -- The files that a shelf keeps open, by their names.
-use Rattle.std.specs.Prelude.{◌≡◌, ℕ, ◌+◌, ◌-◌, ◌^◌, ◌<◌, ◌⊎◌, Bool, true, false, List, [], ◌∷◌, length, min, ⊤, Option, Some, None, IfSome, nat_eq, if◌then◌else◌, string_bytes, slice_index_or, slice_set}
+use Rattle.std.specs.Prelude.{◌≡◌, ℕ, ◌+◌, ◌-◌, ◌%◌, ◌^◌, ◌<◌, ◌⊎◌, Bool, true, false, List, [], ◌∷◌, length, min, ⊤, Option, Some, None, IsSome, IfSome, nat_eq, if◌then◌else◌, string_bytes, slice_index_or, slice_set}
 use Rattle.std.specs.Option.{IsSomeAnd}
 use Rattle.std.specs.Cmp.Lexicographic.{pointwise}
 use Rattle.std.specs.Io.KnownBytes.{Consumes}
@@ -34,6 +34,23 @@ pub record IsTakenOut {F : Type 0} (before after : List (Slot F)) (i : ℕ) (s :
   pub slot : s ≡ slice_index_or before i s
   pub rest : (v : Slot F) → slice_set after i v ≡ slice_set before i v
   pub same : length after ≡ length before
+
+-- a name that has a slot keeps it, and the next turn stays; one that has none takes the slot whose turn it is, and then the
+-- slot after it has its turn
+pub record IsInTurn {F : Type 0} (slots : List (Slot F)) (next after : ℕ) (name : List ℕ) (i : ℕ) : Type 0 where
+  pub kept : IsSome (slot_in slots name) → IsFirst slots name i × (after ≡ next)
+  pub taken : slot_in slots name ≡ None → (i ≡ next) × (after ≡ (next + 1) % length slots)
+
+-- all slots but that of this name stay as they were, by turns
+pub record IsTurn {F : Type 0} (before now : List (Slot F)) (next after : ℕ) (name : List ℕ) : Type 0 where
+  pub place : ℕ
+  pub turn : IsInTurn before next after name place
+  pub slot : Slot F
+  pub rest : now ≡ slice_set before place slot
+
+-- its file is open, and a read of it may wait
+abbrev pub MayWait : {F : Type 0} → Slot F → Type 0
+MayWait s = IsSomeAnd s.opened (λ o. o.may_wait ≡ true)
 
 -- its file is open, and was read up to this place
 abbrev pub IsOpenAt : {F : Type 0} → Slot F → ℕ → Type 0

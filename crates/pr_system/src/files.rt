@@ -1,7 +1,7 @@
 //! Real files as a shelf.
 ghost use Rattle.std.specs.Prelude.{◌≡◌, ◌≢◌, ℕ, ◌^◌, ◌<◌, ◌≤◌, ◌+◌, ◌-◌, List, length, take, min, vec_len, None, IfOk, IsErr, OnErr};
 ghost use Rattle.pr_edge.specs.Count.{Rose};
-ghost use Rattle.pr_system.specs.Slots.{IsReadOn, IsSlotFor};
+ghost use Rattle.pr_system.specs.Slots.{IsReadOn, IsSlotFor, IsInTurn, IsTurn};
 
 use crate::gathering::{Gathering, hand_on};
 use crate::slots::{Slot, find, put_back, take_out};
@@ -64,6 +64,7 @@ impl<'a, R: Files, W: Write + Drop> FileShelf<'a, R, W> {
     /// The slot for the file of this name.
     fn slot_of(&mut self, name: &str) -> usize
         ensures slot { IsSlotFor self.new.slots.items name.now result }
+        ensures turn { IsInTurn self.old.slots.items self.old.next self.new.next name.now result }
         ensures within { result < vec_len self.new.slots }
         ensures slots { self.new.slots ≡ self.old.slots }
         ensures faults { self.new.faults ≡ self.old.faults }
@@ -84,6 +85,9 @@ impl<'a, R: Files, W: Write + Drop> FileShelf<'a, R, W> {
         ensures faults { self.new.faults ≡ self.old.faults }
         ensures read { IfOk result (λ k.
             IsReadOn R.File.remaining self.old.slots.items self.new.slots.items name.now place k (take k buf.new)) }
+
+        // All slots but that of the name stay. A name without a slot takes the next one in turn.
+        ensures turn { IsTurn self.old.slots.items self.new.slots.items self.old.next self.new.next name.now }
     {
         let at = self.slot_of(name);
         let slot = take_out(self.alloc, &mut self.slots, at);

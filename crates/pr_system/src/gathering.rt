@@ -1,10 +1,9 @@
 //! Results on their way to a stream, gathered to pieces.
-ghost use Rattle.std.specs.Prelude.{◌≡◌, ℕ, ◌≤◌, [], length, true, false, IfOk, IsErr, IsErrOf};
+ghost use Rattle.std.specs.Prelude.{◌≡◌, ◌≤◌, [], length, true, false, None, IfOk, IfSome, IsErr, is_some};
 ghost use Rattle.std.specs.Io.Buffered.{writer_contents, writer_inner, writer_buffer};
 ghost use Rattle.std.specs.Io.KnownBytes.{Keeps, WriteAppends};
 
 use crate::streams::flush_once;
-use pr_edge::Failed;
 use std::alloc::Global;
 use std::cell::RefCell;
 use std::io::{self, BufWriter, ErrorKind, Write};
@@ -49,36 +48,69 @@ impl<W: Write + Drop> Gathering<W> {
     }
 
     /// Hands on what is gathered. Where that fails, the next results are refused.
-    fn hand_on(&mut self)
+    fn hand_on(&mut self) -> HandedOn
         ensures bytes { Keeps (writer_contents W.contents self.old.stream)
             (writer_contents W.contents self.new.stream) }
         ensures broken { self.old.is_broken ≡ true → self.new.is_broken ≡ true }
+        ensures held { result.held ≡ length (writer_buffer self.new.stream) }
+        ensures told { result.is_broken ≡ self.new.is_broken }
     {
-        if !flush_once(&mut self.stream) {
+        if !flush_once(&mut self.stream) || !self.stream.buffer().is_empty() {
             self.is_broken = true;
+        }
+        HandedOn {
+            held: self.stream.buffer().len(),
+            is_broken: self.is_broken,
         }
     }
 
-    /// Hands on what is gathered for the last time, and gives the stream back.
-    pub fn finish(mut self) -> Result<W, Failed>
-        ensures bytes { IfOk result (λ stream. Keeps (writer_contents W.contents self.stream) (W.contents stream)) }
-        ensures broken { self.is_broken ≡ true → IsErr result }
+    /// Hands on what is gathered for the last time, and gives the stream back if all went through.
+    pub fn finish(mut self) -> Finished<W>
+        ensures bytes { IfSome result.stream
+            (λ stream. Keeps (writer_contents W.contents self.stream) (W.contents stream)) }
+        ensures broken { self.is_broken ≡ true → result.stream ≡ None }
     {
-        self.hand_on();
-        if self.is_broken {
-            return Err(Failed);
+        if self.hand_on().is_broken {
+            return Finished { stream: None };
         }
-        match self.stream.into_inner() {
-            Ok(stream) => Ok(stream),
-            Err(_) => Err(Failed),
+        Finished {
+            stream: self.stream.into_inner().ok(),
         }
     }
 }
 
+/// What a gathering holds after it was asked to hand on its results: none, or it is broken.
+#[derive(Clone, Copy, Drop)]
+pub struct HandedOn {
+    held: usize,
+    is_broken: bool,
+    ghost through: { is_broken ≡ false → held ≡ 0 },
+}
+
+/// What became of the last results of a gathering. Only `finish` makes one.
+#[derive(Drop)]
+pub struct Finished<W> {
+    /// The stream, if all results went through.
+    stream: Option<W>,
+}
+
+impl<W> Finished<W> {
+    /// Whether all results went through.
+    pub fn went_through(&self) -> bool
+        ensures { result ≡ is_some self.now.stream }
+    {
+        self.stream.is_some()
+    }
+}
+
 /// Hands on what is gathered, before the program waits.
-pub fn hand_on<W: Write + Drop>(results: &RefCell<Gathering<W>>) {
-    if let Ok(mut gathering) = results.try_borrow_mut() {
-        gathering.hand_on();
+///
+/// It fails only while the gathering is lent, which is never so while a file is read. No clause can say what a cell holds; so
+/// what the gathering holds then is told by a value that this file alone makes.
+pub fn hand_on<W: Write + Drop>(results: &RefCell<Gathering<W>>) -> io::Result<HandedOn> {
+    match results.try_borrow_mut() {
+        Ok(mut gathering) => Ok(gathering.hand_on()),
+        Err(_) => Err(io::Error::from(ErrorKind::ResourceBusy)),
     }
 }
 
@@ -98,7 +130,9 @@ impl<'a, W: Write + Drop> Write for Gathered<'a, W> {
     }
 
     fn flush(&mut self) -> io::Result<()> {
-        hand_on(self.results);
+        if hand_on(self.results)?.is_broken {
+            return Err(io::Error::from(ErrorKind::BrokenPipe));
+        }
         Ok(())
     }
 }

@@ -11,7 +11,7 @@ mod slots;
 mod streams;
 
 pub use files::FileShelf;
-pub use gathering::{Gathered, Gathering};
+pub use gathering::{Finished, Gathered, Gathering};
 pub use streams::OutSink;
 
 /// How often an interrupted call is tried.

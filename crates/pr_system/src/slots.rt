@@ -1,8 +1,8 @@
 //! The files that a shelf keeps open, each under its name.
-ghost use Rattle.std.specs.Prelude.{slice_set, vec_len, ◌<◌, ◌≡◌, ◌↔◌, ℕ, ◌+◌, ◌-◌, ◌^◌, ◌≤◌, [], length, take, None, IfOk, OnOk, IfSome, IfNone, IsTrue, string_bytes, min};
-ghost use Rattle.pr_system.specs.Slots.{IsFirst, NoneBefore, IsOpenAt, IsAt, GaveFrom, IsRead, IsTakenOut};
+ghost use Rattle.std.specs.Prelude.{slice_set, vec_len, ◌<◌, ◌≡◌, ◌↔◌, ℕ, ◌+◌, ◌-◌, ◌^◌, ◌≤◌, [], length, take, None, IfOk, OnOk, IsSome, IfSome, IfNone, IsTrue, string_bytes, min};
+ghost use Rattle.pr_system.specs.Slots.{IsFirst, NoneBefore, IsOpenAt, MayWait, IsAt, GaveFrom, IsRead, IsTakenOut};
 
-use crate::gathering::{Gathering, hand_on};
+use crate::gathering::{Gathering, HandedOn, hand_on};
 use crate::opened::{Opened, open_at};
 use std::alloc::{AllocError, Global};
 use std::cell::RefCell;
@@ -50,7 +50,9 @@ impl<F: Read + Drop> Slot<F> {
     }
 
     /// Whether a read may wait.
-    fn may_wait(&self) -> bool {
+    fn may_wait(&self) -> bool
+        ensures { IsTrue result ↔ MayWait self.now }
+    {
         match &self.opened {
             Some(opened) => opened.may_wait,
             None => false,
@@ -81,8 +83,9 @@ impl<F: Read + Drop> Slot<F> {
         Ok(())
     }
 
-    /// Reads on where its file stands.
-    fn read_on(&mut self, buf: &mut [u8]) -> io::Result<usize>
+    /// Reads on where its file stands. A read that may wait is told what the results came to that were handed on before.
+    fn read_on(&mut self, _before: Option<HandedOn>, buf: &mut [u8]) -> io::Result<usize>
+        requires { MayWait self.old → IsSome _before }
         ensures bound { IfOk result (λ k. k ≤ length buf.new) }
         ensures name { self.new.name ≡ self.old.name }
         ensures bytes { IfOk result (λ k. (place : ℕ) →
@@ -110,9 +113,10 @@ impl<F: Read + Drop> Slot<F> {
     {
         self.open(rt, name, place)?;
         if self.may_wait() {
-            hand_on(results);
+            let handed = hand_on(results)?;
+            return self.read_on(Some(handed), buf);
         }
-        self.read_on(buf)
+        self.read_on(None, buf)
     }
 
     /// Reads the file of this name from this place on, and gives the slot back.

@@ -1,5 +1,5 @@
 //! A stream of the system as a sink.
-ghost use Rattle.std.specs.Prelude.{◌≡◌, ℕ, ◌^◌, ◌<◌, ◌≤◌, length, take, None, IfOk, IsOk, IfSome, IfNone, OnErr};
+ghost use Rattle.std.specs.Prelude.{◌≡◌, ℕ, ◌^◌, ◌<◌, ◌≤◌, length, take, None, IfOk, IsOk, IfSome, IfNone, OnOk, OnErr};
 ghost use Rattle.std.specs.Io.KnownBytes as known;
 ghost use Rattle.pr_edge.specs.Count.{Rose};
 ghost use Rattle.pr_edge.specs.Tape.{Appends};
@@ -91,6 +91,7 @@ impl<W: Write> Sink for OutSink<W> {
             Appends (record { bytes = None; keeps = 0 }) (record { bytes = None; keeps = 0 }) (take k bytes.now)) }
         ensures cause { OnErr result (Rose self.old.faults self.new.faults) }
         ensures later { self.old.faults ≤ self.new.faults }
+        ensures steady { OnOk result (self.new.faults ≡ self.old.faults) }
 
         // What the stream holds, where that is known.
         ensures known { known.WriteAppends (W.contents self.old.inner) (W.contents self.new.inner) result bytes.now }

@@ -1,14 +1,13 @@
-use Rattle.std.proofs.Common.{◌≡◌, ◌≢◌, ℕ, ◌+◌, ◌-◌, ◌≤◌, List, vec_len}
+use Rattle.std.proofs.Common.{◌≡◌, ◌≢◌, ℕ, ◌+◌, ◌-◌, List, vec_len}
 use Rattle.pr_edge.specs.Files.{OfFile, IsPrefix, IsMissing}
 use Rattle.pr_edge.proofs.reading.read_all.Given as goal
 
 abbrev pub invariant-loop-chunk : goal.invariant-loop-chunk
 invariant-loop-chunk g l = record {
   front : OfFile (g.S.Shelf.told l.initial.shelf) l.name (IsPrefix l.bytes.items);
-  later : g.S.Shelf.faults l.initial.shelf ≤ g.S.Shelf.faults l.shelf;
   same : g.S.Shelf.told l.shelf ≡ g.S.Shelf.told l.initial.shelf;
   others : (q : List ℕ) → q ≢ l.name → g.S.Shelf.reach l.shelf q ≡ g.S.Shelf.reach l.initial.shelf q;
-  unmoved : IsMissing (g.S.Shelf.told l.initial.shelf) l.name → g.S.Shelf.faults l.shelf ≡ g.S.Shelf.faults l.initial.shelf;
+  steady : g.S.Shelf.faults l.shelf ≡ g.S.Shelf.faults l.initial.shelf;
   unread : IsMissing (g.S.Shelf.told l.initial.shelf) l.name → vec_len l.bytes ≡ 0;
 }
 

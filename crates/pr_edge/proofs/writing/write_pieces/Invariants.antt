@@ -1,4 +1,4 @@
-use Rattle.std.proofs.Common.{◌≤◌, ◌-◌, length, take}
+use Rattle.std.proofs.Common.{◌≡◌, ◌≤◌, ◌-◌, length, take}
 use Rattle.pr_edge.specs.Tape.{Appends}
 use Rattle.pr_edge.proofs.writing.write_pieces.Given as goal
 
@@ -6,7 +6,7 @@ abbrev pub invariant-loop-done : goal.invariant-loop-done
 invariant-loop-done g l = record {
   within : l.done ≤ length l.bytes;
   front : Appends (g.K.Sink.told l.initial.sink) (g.K.Sink.told l.sink) (take l.done l.bytes);
-  later : g.K.Sink.faults l.initial.sink ≤ g.K.Sink.faults l.sink;
+  steady : g.K.Sink.faults l.sink ≡ g.K.Sink.faults l.initial.sink;
 }
 
 abbrev pub decreases-loop-done : goal.decreases-loop-done
