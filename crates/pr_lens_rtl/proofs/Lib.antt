@@ -1,0 +1,9 @@
+pub mod Tables
+pub mod PeLaws
+pub mod StageLaws
+pub mod RegisterLaws
+pub mod ClockLaws
+pub mod TraceLaws
+pub mod KeptLaws
+pub mod OrderLaws
+pub mod MarksLaws

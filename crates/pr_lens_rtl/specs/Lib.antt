@@ -1,0 +1,5 @@
+pub mod Verilog
+pub mod Module
+pub mod Kept
+pub mod Traces
+pub mod Bytes
