@@ -1,5 +1,42 @@
-use Rattle.std.proofs.Common.{◌∙◌}
+use Rattle.std.proofs.Common.{◌∙◌, ◌-◌, ◌^◌, ℕ, sym, subst, ap, inr}
+use Rattle.std.proofs.lemmas.Result.{IfOk-weaker, IfErr-weaker}
+use Rattle.pr_conf.specs.Configuration.{shape_of}
+use Rattle.pr_machine.specs.Stands.{conf_of, stripes_of}
+use Rattle.pr_run_script.specs.Script.{Held}
+use Rattle.pr_run.specs.Setting.{view, stall_turns}
+use Rattle.pr_samples.specs.Feed.{name_of, most_of}
+use Rattle.pr_tool_modes.specs.Folds.{HasMarked, IsUnmarked}
+use Rattle.pr_tool_modes.specs.Jobs.{job_on, stall_in}
+use Rattle.pr_tool_modes.specs.Runs.{Course}
+use Rattle.pr_tool_modes.specs.Stalls.{HasStall}
+use Rattle.pr_tool_modes.proofs.FoldLemmas.{run_for}
 use Rattle.pr_tool_modes.proofs.folds.fold_on.Goals as goal
+
+pub returns-clause-marked : goal.returns-clause-marked
+returns-clause-marked g c = λ source count. (
+    let made = c.in_ok-ready in
+    let before = view (g.S.Shelf.told c.args.shelf.now) (g.S.Shelf.reach c.args.shelf.now) (g.S.Shelf.faults c.args.shelf.now) in
+    let start = view (g.S.Shelf.told c.read_stall.new.shelf) (g.S.Shelf.reach c.read_stall.new.shelf) (g.S.Shelf.faults c.read_stall.new.shelf) in
+    let now = view (g.S.Shelf.told c.fold_all.new.shelf) (g.S.Shelf.reach c.fold_all.new.shelf) (g.S.Shelf.faults c.fold_all.new.shelf) in
+    let stall = subst (λ (ts : List Held). HasStall before.told (stall_in c.args.run.now) ts) (sym made.ensures.turns) c.in_ok-stall.ensures.stall in
+    let bound = made.ensures.ready.opened.bound ∙ ap (λ (n : ℕ). 2 ^ 40 - n) (sym count) in
+    IfOk-weaker c.fold_all.result _ _ (λ v marked. run_for (λ (r : Course). HasMarked g.row.N g.row.P r c.args.before v.items) (shape_of c.args.conf) (conf_of made.ready.machine) (job_on source c.args.run.now)
+    (stripes_of made.ready.machine) (most_of made.ready.feed) (name_of made.ready.feed) (stall_turns made.ready.stall) before start now
+    made.ensures.conf made.ensures.stripes bound made.ensures.ready.opened.file stall
+    (record { told = c.read_stall.ensures.same; faults = c.read_stall.ensures.later; reach = c.read_stall.ensures.others }) marked) c.fold_all.ensures.marked)
+
+pub returns-clause-refused : goal.returns-clause-refused
+returns-clause-refused g c = λ source count. (
+    let made = c.in_ok-ready in
+    let before = view (g.S.Shelf.told c.args.shelf.now) (g.S.Shelf.reach c.args.shelf.now) (g.S.Shelf.faults c.args.shelf.now) in
+    let start = view (g.S.Shelf.told c.read_stall.new.shelf) (g.S.Shelf.reach c.read_stall.new.shelf) (g.S.Shelf.faults c.read_stall.new.shelf) in
+    let now = view (g.S.Shelf.told c.fold_all.new.shelf) (g.S.Shelf.reach c.fold_all.new.shelf) (g.S.Shelf.faults c.fold_all.new.shelf) in
+    let stall = subst (λ (ts : List Held). HasStall before.told (stall_in c.args.run.now) ts) (sym made.ensures.turns) c.in_ok-stall.ensures.stall in
+    let bound = made.ensures.ready.opened.bound ∙ ap (λ (n : ℕ). 2 ^ 40 - n) (sym count) in
+    IfErr-weaker c.fold_all.result _ _ (λ a unmarked. inr (run_for (λ (r : Course). IsUnmarked r a) (shape_of c.args.conf) (conf_of made.ready.machine) (job_on source c.args.run.now)
+    (stripes_of made.ready.machine) (most_of made.ready.feed) (name_of made.ready.feed) (stall_turns made.ready.stall) before start now
+    made.ensures.conf made.ensures.stripes bound made.ensures.ready.opened.file stall
+    (record { told = c.read_stall.ensures.same; faults = c.read_stall.ensures.later; reach = c.read_stall.ensures.others }) unmarked)) c.fold_all.ensures.unmarked)
 
 pub returns-clause-others : goal.returns-clause-others
 returns-clause-others g c = λ q second stall. c.fold_all.ensures.others q (λ e. second (e ∙ c.in_ok-ready.ensures.ready.opened.file)) ∙ c.read_stall.ensures.others q stall
