@@ -1,18 +1,18 @@
 -- No register is given away while a cell that has it is live.
-use Rattle.std.proofs.Common.{◌≡◌, ◌≢◌, ℕ, zero, suc, ◌+◌, ◌<◌, ◌≤◌, ◌⊎◌, ◌==◌, ◌&&◌, true, false, not, List, [], ◌++◌, length, refl, sym, ap, ◌∙◌, subst, arith, inl, inr}
+use Rattle.std.proofs.Common.{◌≡◌, ℕ, zero, suc, ◌+◌, ◌<◌, ◌≤◌, ◌⊎◌, ◌==◌, ◌&&◌, true, false, not, List, ◌++◌, length, sym, ◌∙◌, subst, arith, inl, inr}
 use Rattle.std.specs.List.{Contains, fold, list_any, range_with_len}
 use Rattle.std.proofs.lemmas.Bool.{and_cases, or_parts, eqb-true, not-false, false≢true}
 use Rattle.std.proofs.lemmas.List.Elements.{Contains-append_cases, Contains-append_left}
 use Rattle.pr_net.specs.Shape.{NetShape, units_of}
 use Rattle.pr_net.specs.Nets.{group_of, group_reads, unit_reads, is_output, IsNet}
 use Rattle.pr_net.proofs.Lists.{any_here, any_found, none_passes, in_range}
-use Rattle.pr_place.specs.Placements.{PlacementShape, stage_of, column_of, register_of}
+use Rattle.pr_place.specs.Placements.{PlacementShape, stage_of}
 use Rattle.pr_place.specs.Greedy.{Seat, spots_of, groups_in, is_placed, is_live, seats_from, turn, stripe, placed_after, IsGreedy}
-use Rattle.pr_place.specs.Sound.{IsCell, IsPlacedBefore, IsLiveAt, KeepsLive}
+use Rattle.pr_place.specs.Sound.{KeepsLive}
 use Rattle.pr_place.proofs.Rule.{Batch}
 use Rattle.pr_place.proofs.Placing.{placing}
 use Rattle.pr_place.proofs.Stripes.{turn_cases, placed_sound}
-use Rattle.pr_place.proofs.Soundness.{Setting, At, at, first_cell, stage_is, column_is, register_is}
+use Rattle.pr_place.proofs.Soundness.{Setting, at, first_cell, stage_is, column_is, register_is}
 
 -- one seat's group is placed before another's
 abbrev Precedes : Seat → Seat → Type 0
