@@ -52,3 +52,8 @@ same_bits [] [] h = refl
 same_bits [] (y ∷ ys) h = absurd (false≢true h)
 same_bits (x ∷ xs) [] h = absurd (false≢true h)
 same_bits (x ∷ xs) (y ∷ ys) h = let p = and_parts (beq x y) (pointwise beq xs ys) h in ap₂ (λ (a : Bool) (rest : List Bool). a ∷ rest) (bit_same x y p.0) (same_bits xs ys p.1)
+
+pub bits_self : (xs : List Bool) → pointwise beq xs xs ≡ true
+bits_self [] = refl
+bits_self (true ∷ xs) = bits_self xs
+bits_self (false ∷ xs) = bits_self xs

@@ -1,6 +1,6 @@
 //! The classes of groups.
 
-ghost use Rattle.std.specs.Prelude.{◌≡◌, ◌≢◌, ◌<◌, ◌≤◌, ℕ, [], ◌++◌, ◌^◌, IfOk, OnOk, IfSome, All, length, map, replicate, vec_len, slice_index, slice_index_or};
+ghost use Rattle.std.specs.Prelude.{◌≡◌, ◌≢◌, ◌<◌, ◌≤◌, ℕ, [], ◌++◌, ◌^◌, IfOk, OnOk, IfNone, IfSome, All, length, map, replicate, vec_len, slice_index, slice_index_or};
 ghost use Rattle.pr_place.specs.Plans.{groups_of, needs_at};
 ghost use Rattle.pr_place.specs.Tables.{kinds_of};
 
@@ -10,8 +10,10 @@ use std::alloc::{AllocError, Global};
 
 /// The class of groups with these needs, if there is one.
 fn known_class(classes: &[Vec<bool>], needs: &[bool]) -> Option<usize>
-    ensures { IfSome result (λ class. (class < length classes.now)
+    ensures some { IfSome result (λ class. (class < length classes.now)
         × (slice_index_or (kinds_of classes.now) class [] ≡ needs.now)) }
+    ensures none { IfNone result ((k : ℕ) → k < length classes.now →
+        slice_index_or (kinds_of classes.now) k [] ≢ needs.now) }
 {
     for class in 0..classes.len() {
         if classes[class].as_slice() == needs {
