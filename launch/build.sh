@@ -47,9 +47,10 @@ known_crates() {
     done | tr '\n' ' '
 }
 
-# The free memory in MB; much where it is not told.
+# The free memory in MB; much where it is not told. PIPERENCH_MEMINFO names a file that tells it in the system's place.
 free_memory() {
-    awk '/^MemAvailable:/ { free = int($2 / 1000) } END { print free ? free : 1000000 }' /proc/meminfo 2>/dev/null || echo 1000000
+    awk '/^MemAvailable:/ { free = int($2 / 1000) } END { print free ? free : 1000000 }' \
+        "${PIPERENCH_MEMINFO:-/proc/meminfo}" 2>/dev/null || echo 1000000
 }
 
 # As many proofs side by side as there are processors, and as the free memory holds with 2 GB for each. RT_JOBS is rt's own.
@@ -213,7 +214,7 @@ await_proofs() {
             [ -n "$proofs" ] || start_proofs 0
         fi
         [ -z "$(failed_crate)" ] || build_failed
-        [ -z "$proofs" ] || kill -0 "$proofs" 2>/dev/null || [ -e "$copy/.git/status" ] || build_failed
+        [ -z "$proofs" ] || kill -0 "$proofs" 2>/dev/null || [ -e "$copy/.git/status" ] || interrupted 1
         tell_progress
     done
     [ "$(cat "$copy/.git/status")" = 0 ] || build_failed
