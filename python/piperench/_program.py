@@ -291,8 +291,8 @@ class Program:
 
     def __repr__(self) -> str:
         where = f"{self.path}, " if self.path else ""
-        ports = ", ".join(port.name for port in self.inputs), ", ".join(port.name for port in self.outputs)
-        return f"Program({where}{ports[0]} -> {ports[1]})"
+        inputs, outputs = (", ".join(port.name for port in self._ports(kind)) for kind in ("input", "output"))
+        return f"Program({where}{inputs} -> {outputs})"
 
 
 class _Stored:

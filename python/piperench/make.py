@@ -74,7 +74,7 @@ def fir(coefficients: Iterable[int], bits: int, *, signed: bool = True) -> Made:
     width = _bits_for(least, most)
     lines = _Lines()
     lines.add(f"input x:{bits};")
-    total = _weighted_sum(lines, "x", factors, bits, width, signed)
+    total = _weighted_sum(lines, "x", factors, width, signed)
     lines.add(f"output y:{width} = {total};")
     names = (*(["x"] if signed else []), *(["y"] if with_sign else []))
     head = f"// y is the sum of {', '.join(map(str, factors[:8]))}{', ..' if len(factors) > 8 else ''} times x of 0, 1, .. samples ago."
@@ -130,10 +130,10 @@ def _write_biquad(
 ) -> None:
     """The recurrence holds y plus half of its range, an unsigned number: so a shift to the right needs no sign."""
     half = 1 << kept - 1
-    wide = _bits_for(*_reach(ahead, bits, True))
+    wide = max(_signed_bits_for(*_reach(ahead, bits, True)), bits)
     lines.add(f"input x:{bits};")
-    total = _weighted_sum(lines, "x", ahead, bits, max(wide, bits), True)
-    lines.add(f"let forward:{max(wide, bits)} = {total};")
+    total = _weighted_sum(lines, "x", ahead, wide, True)
+    lines.add(f"let forward:{wide} = {total};")
     shift = f"<< {guard - fraction}" if guard >= fraction else f">> {fraction - guard}"
     lines.add(f"let scaled:{kept} = signed(forward) {shift};")
     offset = half - sum(sign * _moved(half, place) for sign, place, _ in feedback)
@@ -249,18 +249,21 @@ def _write_crc_of_words(lines: "_Lines", polynomial: int, width: int, bits: int,
     inverse = _inverse(polynomial, width, bits)
     if reflect:
         lines.add(f"fn quotient(t):{bits} {{ return {' ^ '.join(_shifted('t', k) for k in inverse)}; }}")
-        parts = [_shifted("q", width - bits - power) for power in powers]
+        moves = [width - bits - power for power in powers]
         rest = f"(r >> {bits})" if bits < width else "0"
         out = f"crc@1{{{bits - 1}..0}}"
     else:
         lines.add(f"fn quotient(t):{bits} {{ return {' ^ '.join(_shifted('t', -k) for k in inverse)}; }}")
-        parts = [_shifted("q", power) for power in powers]
+        moves = powers
         rest = f"(r << {bits})" if bits < width else "0"
         out = f"crc@1{{{width - 1}..{width - bits}}}"
+    parts = [_shifted("q", move) for move in moves]
     lines.add(f"fn rest(r, q):{width} {{ return {' ^ '.join([rest, *parts])}; }}")
     lines.add(f"rec crc:{width} = {initial} by rest(crc@1, quotient({out} ^ x));")
     small, large = _bytes(bits), _bytes(width)
-    return 2 * small + 2 * small * (len(inverse) - 1) + 2 * large * len(powers) + large
+    sums = large + small * len(inverse) + large * len(powers)
+    shifts = small * sum(k % 8 > 0 for k in [bits, *inverse]) + large * sum(move % 8 > 0 for move in [bits, *moves])
+    return sums + shifts
 
 
 def lfsr(taps: Iterable[int], *, seed: int = 1) -> Made:
@@ -345,10 +348,10 @@ def fixed(value: float, bits: int, *, fraction: int = 8) -> Made:
     if fraction < 0:
         raise ValueError("fraction is not below 0")
     factor = round(value * 2**fraction)
-    width = _bits_for(*_reach([factor], bits, True))
+    width = _signed_bits_for(*_reach([factor], bits, True))
     lines = _Lines()
     lines.add(f"input x:{bits};")
-    total = _weighted_sum(lines, "x", [factor], bits, width, True)
+    total = _weighted_sum(lines, "x", [factor], width, True)
     lines.add(f"let whole:{width} = {total};")
     lines.add(f"output y = signed(whole) >> {fraction};" if fraction else "output y = whole;")
 
@@ -404,6 +407,13 @@ class _Lines:
     def text(self) -> str:
         return "".join(line + "\n" for line in self._lines)
 
+    def named(self, expression: str, width: int) -> str:
+        """A name of its own for an expression."""
+        name = f"s{self._sums}"
+        self._sums += 1
+        self.add(f"let {name}:{width} = {expression};")
+        return name
+
     def total(self, terms: Sequence[tuple[int, str]], width: int) -> tuple[int, str]:
         """A sum of terms with signs, as a term: one operator a line, in the order of the terms."""
         sign, name = terms[0]
@@ -421,13 +431,11 @@ class _Lines:
         return sign, name
 
     def shifted(self, term: str, by: int, width: int) -> str:
-        name = f"s{self._sums}"
-        self._sums += 1
-        self.add(f"let {name}:{width} = {term} << {by};")
-        return name
+        """A term times 2 to the power of ``by``."""
+        return self.named(f"{term} << {by}", width)
 
 
-def _weighted_sum(lines: _Lines, name: str, factors: Sequence[int], bits: int, width: int, signed: bool) -> str:
+def _weighted_sum(lines: _Lines, name: str, factors: Sequence[int], width: int, signed: bool) -> str:
     """The sum of factors times a stream of 0, 1, .. samples ago, modulo 2^width.
 
     The stream is widened to the width of the sum once; so sums need no sign, and each takes a unit. Powers of two with the same
@@ -443,7 +451,7 @@ def _weighted_sum(lines: _Lines, name: str, factors: Sequence[int], bits: int, w
         sign, term = lines.total([(s, f"v@{k}" if k else "v") for s, k in taps], width)
         digits = signed_digits(factor)
         if units_of_product(width, factor.bit_length()) < units_of_digits(width, digits):
-            digits, term = [(1, 0)], _product(lines, term, factor, width)
+            digits, term = [(1, 0)], lines.named(f"{term} * {factor}", width)
         for digit, place in digits:
             planes.setdefault(place, []).append((digit * sign, term))
     sign, term, below = 0, "", 0
@@ -456,13 +464,6 @@ def _weighted_sum(lines: _Lines, name: str, factors: Sequence[int], bits: int, w
     if below:
         term = lines.shifted(term, below, width)
     return term if sign > 0 else f"0 - {term}"
-
-
-def _product(lines: _Lines, term: str, factor: int, width: int) -> str:
-    name = f"s{lines._sums}"
-    lines._sums += 1
-    lines.add(f"let {name}:{width} = {term} * {factor};")
-    return name
 
 
 def _by_factor(factors: Sequence[int], size: int) -> list[tuple[int, list[tuple[int, int]]]]:
@@ -547,9 +548,12 @@ def _reach(factors: Sequence[int], bits: int, signed: bool) -> tuple[int, int]:
 
 def _bits_for(least: int, most: int) -> int:
     """The bits that hold all values between, two's complement where the least is below 0."""
-    if least < 0:
-        return max((~least).bit_length(), most.bit_length()) + 1
-    return max(most.bit_length(), 1)
+    return _signed_bits_for(least, most) if least < 0 else max(most.bit_length(), 1)
+
+
+def _signed_bits_for(least: int, most: int) -> int:
+    """The bits that hold all values between as two's complement."""
+    return max((~least).bit_length() if least < 0 else 0, most.bit_length()) + 1
 
 
 def _bytes(bits: int) -> int:
