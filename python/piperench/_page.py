@@ -2,6 +2,7 @@
 
 from __future__ import annotations
 
+import base64
 import html
 import os
 from dataclasses import dataclass, field
@@ -108,7 +109,12 @@ class Report:
     def _schedule(self) -> str:
         if self.schedule is None:
             return ""
-        return f"<h2>Schedule of the first samples</h2><div class=wide>{self.schedule}</div>"
+        # As an image, so that the style of the picture is no style of the page.
+        picture = base64.b64encode(self.schedule.encode()).decode()
+        return (
+            "<h2>Schedule of the first samples</h2>"
+            f'<div class=wide><img alt="the stages in the stripes by cycle" src="data:image/svg+xml;base64,{picture}"></div>'
+        )
 
     def _rows(self) -> str:
         if self.inputs is None or self.outputs is None or not len(self.outputs):

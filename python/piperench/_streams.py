@@ -3,6 +3,7 @@
 from __future__ import annotations
 
 import html
+import json
 import operator
 from array import array
 from collections.abc import Iterable, Iterator, Mapping, Sequence
@@ -22,6 +23,8 @@ CHUNK = 1 << 16
 _TABLE_BITS = 12
 
 _PLAIN = b"0123456789 \n"
+
+_WITH_COMMAS = bytes.maketrans(b" \n", b",,")
 
 
 @dataclass(frozen=True)
@@ -151,10 +154,9 @@ def _columns_of(samples: Any, inputs: Sequence[Port], chunk: int) -> Iterator[li
         if len(inputs) == 1 and not hasattr(part[0], "__len__"):
             yield [part]
             continue
-        columns = [list(column) for column in zip(*part)]
-        if len(columns) != len(inputs) or len(set(map(len, part))) > 1:
+        if set(map(len, part)) != {len(inputs)}:
             raise ValueError(f"a sample has {len(inputs)} numbers, one for each of {', '.join(p.name for p in inputs)}")
-        yield columns
+        yield [list(map(operator.itemgetter(place), part)) for place in range(len(inputs))]
 
 
 def _chunks_of_mapping(
@@ -252,7 +254,8 @@ def streams_of(lines: bytes, outputs: Sequence[Port]) -> Streams:
         table = numpy.fromstring(whole, dtype=numpy.int64, sep=" ").reshape(-1, count)
         columns = [table[:, k] for k in range(count)]
         return Streams({port.name: _signed_array(column, port) for port, column in zip(outputs, columns)})
-    values = list(map(int, whole.split()))
+    # The reader of JSON takes less time than a call of int for each number.
+    values = json.loads(b"[" + whole[:-1].translate(_WITH_COMMAS) + b"]")
     return Streams(
         {
             port.name: column_of(signed_values(values[k::count], port), port.width, port.signed)
