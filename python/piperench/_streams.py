@@ -151,10 +151,11 @@ def _columns_of(samples: Any, inputs: Sequence[Port], chunk: int) -> Iterator[li
         yield from _chunks_of_mapping(samples, inputs, chunk)
         return
     for part in _chunks(samples, chunk):
-        if len(inputs) == 1 and not hasattr(part[0], "__len__"):
+        flat = not hasattr(part[0], "__len__")
+        if flat and len(inputs) == 1:
             yield [part]
             continue
-        if set(map(len, part)) != {len(inputs)}:
+        if flat or set(map(len, part)) != {len(inputs)}:
             raise ValueError(f"a sample has {len(inputs)} numbers, one for each of {', '.join(p.name for p in inputs)}")
         yield [list(map(operator.itemgetter(place), part)) for place in range(len(inputs))]
 

@@ -9,7 +9,7 @@ import tempfile
 import unittest
 from pathlib import Path
 
-from piperench import Checkpoint, Configuration, Program, Streams, share
+from piperench import Checkpoint, Configuration, Program, Refused, Streams, share
 
 from .support import BOTH, SUM, needs_programs, sums
 
@@ -191,11 +191,14 @@ class Further(unittest.TestCase):
         expected = [(2 * x - 3 + 256) % 512 - 256 for x in VALUES]
         self.assertEqual((list(streams["less"]), list(streams["y"])), (expected, expected))
 
-    def test_a_deep_program_finds_its_stack(self) -> None:
+    def test_the_deepest_program_finds_its_stack(self) -> None:
+        # A tree of some 32,000 levels: brackets around chains around brackets, each as long as nesting allows.
         inner = "x"
-        for depth in range(0, 252, 2):
+        for depth in range(250, 0, -1):
             inner = "(" + " ^ ".join([inner] + ["x"] * (255 - depth)) + ")"
-        self.assertEqual(Program(f"input x:8; output y = {inner};").eval([5]).names, ("y",))
+        with self.assertRaises(Refused) as caught:
+            Program(f"input x:8; output y = {inner};").eval([5])
+        self.assertEqual(caught.exception.note, "limit: equations 16384")
 
 
 class Tables(unittest.TestCase):
