@@ -1,0 +1,157 @@
+"""Calls of the built programs, by pipes."""
+
+from __future__ import annotations
+
+import errno
+import os
+import select
+import subprocess
+import tempfile
+from collections.abc import Iterable, Iterator, Sequence
+
+from ._find import executable
+from ._refused import Refused
+
+#: The most bytes that are read from a program at once, and the size that its pipes are to have.
+PIECE = 1 << 20
+
+# The programs go down a syntax tree by calling themselves, so they want a deep stack: 1 GiB, or what the hard limit lets.
+# A shell sets the limit, so that the limits of the Python process stay as they are.
+_WITH_A_DEEP_STACK = """\
+most=$(ulimit -H -s)
+ulimit -S -s 1048576 2>/dev/null || ulimit -S -s "$most" 2>/dev/null
+exec "$0" "$@"
+"""
+
+# What F_SETPIPE_SZ of Linux is; the module fcntl names it from Python 3.10 on, but only on Linux.
+_SET_PIPE_SIZE = 1031
+
+#: The bytes that a source of samples yields for: nothing now, first read what the program writes.
+WAIT = b""
+
+
+class Call:
+    """A running call of a program. Its standard input takes samples, and what it writes is read as it comes."""
+
+    def __init__(self, name: str, words: Sequence[str], folder: str | None = None) -> None:
+        program = executable(name)
+        self._notes = tempfile.TemporaryFile()
+        self._process = subprocess.Popen(
+            ["/bin/sh", "-c", _WITH_A_DEEP_STACK, program, *words],
+            stdin=subprocess.PIPE,
+            stdout=subprocess.PIPE,
+            stderr=self._notes,
+            cwd=folder,
+            bufsize=0,
+        )
+        assert self._process.stdin is not None and self._process.stdout is not None
+        self._input = self._process.stdin
+        self._output = self._process.stdout
+        for pipe in (self._input, self._output):
+            _enlarge(pipe.fileno())
+        os.set_blocking(self._input.fileno(), False)
+
+    def exchange(self, pieces: Iterable[bytes] = ()) -> Iterator[bytes]:
+        """Gives the pieces to the program, and yields what it writes, piece by piece, until it has closed its output.
+
+        A piece is asked for where the one before it is in the pipe; after an empty piece the next one is asked for when the
+        program has written something. Where the program reads no more, no further piece is asked for.
+        """
+        source = iter(pieces)
+        rest = memoryview(b"")
+        ready = select.poll()
+        ready.register(self._output, select.POLLIN)
+        waits = False
+        while True:
+            if not self._input.closed and not rest and not waits:
+                piece = next(source, None)
+                if piece is None:
+                    self._input.close()
+                else:
+                    rest = memoryview(piece)
+                    waits = not piece
+            if rest:
+                ready.register(self._input, select.POLLOUT)
+            events = dict(ready.poll())
+            if rest:
+                ready.unregister(self._input)
+                if self._input.fileno() in events:
+                    rest = self._give(rest)
+            if self._output.fileno() in events:
+                data = os.read(self._output.fileno(), PIECE)
+                if not data:
+                    return
+                waits = False
+                yield data
+
+    def _give(self, rest: memoryview) -> memoryview:
+        """Writes as much as the pipe takes, and returns what is left; nothing is left where the program reads no more."""
+        try:
+            return rest[os.write(self._input.fileno(), rest) :]
+        except BlockingIOError:
+            return rest
+        except BrokenPipeError:
+            self._input.close()
+            return memoryview(b"")
+
+    def end(self) -> tuple[int, str]:
+        """Waits for the end of the program. Returns its status, and the last line that it wrote to standard error."""
+        self._input.close()
+        self._output.close()
+        status = self._process.wait()
+        self._notes.seek(0)
+        lines = self._notes.read().decode(errors="replace").splitlines()
+        self._notes.close()
+        return status, lines[-1] if lines else ""
+
+    def stop(self) -> None:
+        """Ends the program if it still runs, and gives back what the call holds."""
+        self._input.close()
+        self._output.close()
+        if self._process.poll() is None:
+            self._process.kill()
+            self._process.wait()
+        self._notes.close()
+
+    def __enter__(self) -> "Call":
+        return self
+
+    def __exit__(self, *about: object) -> None:
+        self.stop()
+
+
+def call(
+    name: str, words: Sequence[str], folder: str | None = None, pieces: Iterable[bytes] = ()
+) -> tuple[int, str, bytes]:
+    """Calls a program to its end: its status, the last line of its standard error, and what it wrote."""
+    with Call(name, words, folder) as running:
+        written = b"".join(running.exchange(pieces))
+        status, note = running.end()
+    return status, note, written
+
+
+def failure(name: str, status: int, note: str) -> Exception:
+    """The exception for a status that is not 0, as the table of answers in docs/texts.md has it."""
+    if status < 0:
+        return ChildProcessError(f"{name} was ended by signal {-status}")
+    if status == 2:
+        return ValueError(note)
+    if status == 10:
+        return OSError(errno.EIO, f"{name}: {note}")
+    if status == 11:
+        return BrokenPipeError(errno.EPIPE, f"{name}: {note}")
+    if status == 12:
+        return MemoryError(f"{name}: {note}")
+    if 3 <= status <= 15:
+        return Refused(status, note)
+    return ChildProcessError(f"{name} ended with status {status}: {note}")
+
+
+def _enlarge(pipe: int) -> None:
+    """Lets a pipe hold a whole piece where the system allows it, so that the two sides wait for each other less often."""
+    try:
+        import fcntl
+
+        fcntl.fcntl(pipe, _SET_PIPE_SIZE, PIECE)
+    except (ImportError, OSError):
+        pass
