@@ -1,6 +1,6 @@
 //! A sink that keeps nothing.
 ghost use Rattle.std.proofs.Common.{arith};
-ghost use Rattle.std.specs.Prelude.{◌≡◌, ◌^◌, ◌<◌, ◌≤◌, length, take, IfOk, IsOk, OnOk, OnErr};
+ghost use Rattle.std.specs.Prelude.{◌≡◌, ℕ, ◌^◌, ◌<◌, ◌≤◌, length, take, IfOk, IsOk, OnOk, OnErr};
 ghost use Rattle.pr_edge.specs.Count.{Rose};
 ghost use Rattle.pr_edge.specs.Tape.{Appends};
 
@@ -27,7 +27,7 @@ impl Sink for Nowhere {
         ensures unchanged { OnErr result (untold ≡ untold) }
         ensures cause { OnErr result (Rose 0 0) }
         ensures later { 0 ≤ 0 }
-        ensures steady { OnOk result (0 ≡ 0) }
+        ensures steady { OnOk result (◌≡◌ {A = ℕ} 0 0) }
         ensures whole { result ≡ Ok (length bytes.now) }
     {
         Ok(bytes.len())
