@@ -1,6 +1,6 @@
 //! What the module of a configuration makes of samples. Nothing here runs.
 
-ghost use Rattle.std.specs.Prelude.{ℕ, ◌≡◌, ◌<◌, ◌*◌, Bool, true, List, ◌++◌, length};
+ghost use Rattle.std.specs.Prelude.{ℕ, ◌≡◌, ◌<◌, ◌≤◌, ◌*◌, Bool, true, List, ◌++◌, length};
 ghost use Rattle.pr_base.specs.Pe.{looked_up};
 ghost use Rattle.pr_lens_rtl.specs.Bytes.{has_bytes};
 ghost use Rattle.pr_conf.specs.Shape.{Shape};
@@ -11,7 +11,7 @@ ghost use Rattle.pr_lens_rtl.specs.declared.vectors.Net.{Net};
 ghost use Rattle.pr_lens_rtl.specs.Verilog.{Values, Expr, value, Fit, IsSettled, IsClock};
 ghost use Rattle.pr_lens_rtl.specs.Module.{four_of, module_of};
 ghost use Rattle.pr_lens_rtl.specs.Kept.{kept, is_kept, marks_of, IsClosed};
-ghost use Rattle.pr_lens_rtl.specs.Traces.{all_held, pins, samples_in, results_in, IsRunFromReset, AgreeAtInputs, AgreeAtRegisters};
+ghost use Rattle.pr_lens_rtl.specs.Traces.{all_held, pins, samples_in, results_in, IsRunFromReset, end_of, offers_none, ready_clocks, AgreeAtInputs, AgreeAtRegisters};
 
 /// The expression of half a table is the look-up, for every table, every two bytes and each C.
 pub fn table_law()
@@ -31,7 +31,8 @@ pub fn module_law()
 {}
 
 /// The same of any part of the module that has its ports and, with a vector, all that is read for it: what is left out
-/// changes no result. Whatever such a part's registers and inputs hold, there are settled wires, and a next clock.
+/// changes no result; and once no sample is offered, all results have left after as many clocks in which the module is ready
+/// as there are stages. Whatever such a part's registers and inputs hold, there are settled wires, and a next clock.
 ///
 /// The marks of a configuration are such a part.
 pub fn kept_law()
@@ -39,6 +40,10 @@ pub fn kept_law()
     ensures trace { (N P : ℕ) (c : Shape) → IsLawful N P c → has_bytes c ≡ true → (K : Net → Bool) → IsClosed K (module_of N P c)
         → (first now : Values) (rest : List Values) → IsRunFromReset (kept K (module_of N P c)) first now rest
         → (more : List (List ℕ)) × (results_of N P c (samples_in c now rest) ≡ results_in c now rest ++ more) }
+    ensures all { (N P : ℕ) (c : Shape) → IsLawful N P c → has_bytes c ≡ true → (K : Net → Bool) → IsClosed K (module_of N P c)
+        → (first now : Values) (rest more : List Values) → IsRunFromReset (kept K (module_of N P c)) first now (rest ++ more)
+        → offers_none (end_of now rest) more ≡ true → length c.stages ≤ ready_clocks (end_of now rest) more
+        → results_in c now (rest ++ more) ≡ results_of N P c (samples_in c now rest) }
     ensures settles { (N P : ℕ) (c : Shape) → IsLawful N P c → has_bytes c ≡ true → (K : Net → Bool) → (first : Values) → Fit first
         → (now : Values) × IsSettled (kept K (module_of N P c)) now × AgreeAtInputs first now × AgreeAtRegisters first now }
     ensures next { (N P : ℕ) (c : Shape) → IsLawful N P c → has_bytes c ≡ true → (K : Net → Bool) → (now ports : Values)
