@@ -19,34 +19,41 @@ pub fn table_law()
         → value now (four_of table (4 * c) a b) 8 ≡ looked_up table (value now a 8) (value now b 8) c }
 {}
 
-/// A clock of the module of a configuration is a clock of its stages; and in every run from a reset the results that leave
+/// A clock of the module of a configuration is a clock of its stages. In every run from a reset, the results that leave
 /// are the first ones of what the configuration makes of the samples that entered.
 pub fn module_law()
     ensures clock { (N P : ℕ) (c : Shape) → IsLawful N P c → has_bytes c ≡ true → (now after : Values)
         → IsClock (module_of N P c) now after → now Net.Reset ≡ 0
         → all_held N P after 0 (length c.stages) ≡ clock (steps_of N P c) (all_held N P now 0 (length c.stages)) (pins c now) }
-    ensures trace { (N P : ℕ) (c : Shape) → IsLawful N P c → has_bytes c ≡ true → (first now : Values) (rest : List Values)
+    ensures trace { (N P : ℕ) (c : Shape) → IsLawful N P c → has_bytes c ≡ true
+        → (first now : Values) (rest : List Values)
         → IsRunFromReset (module_of N P c) first now rest
         → (more : List (List ℕ)) × (results_of N P c (samples_in c now rest) ≡ results_in c now rest ++ more) }
 {}
 
 /// The same of any part of the module that has its ports and, with a vector, all that is read for it: what is left out
-/// changes no result; and once no sample is offered, all results have left after as many clocks in which the module is ready
-/// as there are stages. Whatever such a part's registers and inputs hold, there are settled wires, and a next clock.
+/// changes no result. Once no sample is offered, all results have left after as many clocks in which the module is ready
+/// as there are stages. Whatever such a part's registers and inputs hold, there are settled wires and a next clock.
 ///
 /// The marks of a configuration are such a part.
 pub fn kept_law()
-    ensures closed { (N P : ℕ) (c : Shape) → IsLawful N P c → has_bytes c ≡ true → IsClosed (is_kept (marks_of N P c)) (module_of N P c) }
-    ensures trace { (N P : ℕ) (c : Shape) → IsLawful N P c → has_bytes c ≡ true → (K : Net → Bool) → IsClosed K (module_of N P c)
+    ensures closed { (N P : ℕ) (c : Shape) → IsLawful N P c → has_bytes c ≡ true
+        → IsClosed (is_kept (marks_of N P c)) (module_of N P c) }
+    ensures trace { (N P : ℕ) (c : Shape) → IsLawful N P c → has_bytes c ≡ true → (K : Net → Bool)
+        → IsClosed K (module_of N P c)
         → (first now : Values) (rest : List Values) → IsRunFromReset (kept K (module_of N P c)) first now rest
         → (more : List (List ℕ)) × (results_of N P c (samples_in c now rest) ≡ results_in c now rest ++ more) }
-    ensures all { (N P : ℕ) (c : Shape) → IsLawful N P c → has_bytes c ≡ true → (K : Net → Bool) → IsClosed K (module_of N P c)
-        → (first now : Values) (rest more : List Values) → IsRunFromReset (kept K (module_of N P c)) first now (rest ++ more)
+    ensures all { (N P : ℕ) (c : Shape) → IsLawful N P c → has_bytes c ≡ true → (K : Net → Bool)
+        → IsClosed K (module_of N P c)
+        → (first now : Values) (rest more : List Values)
+        → IsRunFromReset (kept K (module_of N P c)) first now (rest ++ more)
         → offers_none (end_of now rest) more ≡ true → length c.stages ≤ ready_clocks (end_of now rest) more
         → results_in c now (rest ++ more) ≡ results_of N P c (samples_in c now rest) }
-    ensures settles { (N P : ℕ) (c : Shape) → IsLawful N P c → has_bytes c ≡ true → (K : Net → Bool) → (first : Values) → Fit first
+    ensures settles { (N P : ℕ) (c : Shape) → IsLawful N P c → has_bytes c ≡ true → (K : Net → Bool)
+        → (first : Values) → Fit first
         → (now : Values) × IsSettled (kept K (module_of N P c)) now × AgreeAtInputs first now × AgreeAtRegisters first now }
-    ensures next { (N P : ℕ) (c : Shape) → IsLawful N P c → has_bytes c ≡ true → (K : Net → Bool) → (now ports : Values)
+    ensures next { (N P : ℕ) (c : Shape) → IsLawful N P c → has_bytes c ≡ true → (K : Net → Bool)
+        → (now ports : Values)
         → IsSettled (kept K (module_of N P c)) now → Fit ports
         → (after : Values) × IsClock (kept K (module_of N P c)) now after × AgreeAtInputs ports after }
 {}
