@@ -1,5 +1,5 @@
 -- What is left out of a module changes nothing that is kept.
-use Rattle.std.proofs.Common.{◌≡◌, ◌<◌, ◌≤◌, ℕ, zero, suc, ◌+◌, ◌-◌, ◌*◌, ◌/◌, ◌%◌, ◌^◌, ◌==◌, ◌&&◌, max, Bool, true, false, List, [], ◌∷◌, ◌++◌, bit_and, bit_or, bit_xor, refl, sym, ap, subst, ◌∙◌, arith, if◌then◌else◌}
+use Rattle.std.proofs.Common.{◌≡◌, ◌<◌, ◌≤◌, ℕ, suc, ◌+◌, ◌-◌, ◌*◌, ◌/◌, ◌%◌, ◌^◌, ◌==◌, ◌&&◌, max, Bool, true, false, List, [], ◌∷◌, ◌++◌, bit_and, bit_or, bit_xor, refl, sym, ap, subst, ◌∙◌, arith, if◌then◌else◌, not}
 use Rattle.std.specs.Int.{bit_at}
 use Rattle.std.proofs.Math.Nat.{mod-lt}
 use Rattle.std.proofs.lemmas.Nat.{pow_pos}
@@ -10,9 +10,8 @@ use Rattle.pr_conf.specs.Rules.{bytes_in}
 use Rattle.pr_lens_rtl.specs.declared.vectors.Part.{Part}
 use Rattle.pr_lens_rtl.specs.declared.vectors.Net.{Net}
 use Rattle.pr_lens_rtl.specs.Verilog.{Expr, Assign, Module, Values, width, width_of, value, assigned, Takes, Fit, IsSettled, IsClock}
-use Rattle.pr_lens_rtl.specs.Module.{taps_of}
 use Rattle.pr_lens_rtl.specs.Kept.{reads, kept_of, kept, place, is_root, AreIn, AreClosed, IsClosed}
-use Rattle.pr_lens_rtl.specs.Traces.{at_places, is_one, sample_at, result_at, samples_in, results_in, IsRun, IsRunFromReset, AgreeAtInputs, AgreeAtRegisters}
+use Rattle.pr_lens_rtl.specs.Traces.{is_one, sample_at, result_at, samples_in, results_in, IsRun, IsRunFromReset, AgreeAtInputs, AgreeAtRegisters, end_of, offers_none, ready_clocks}
 use Rattle.pr_lens_rtl.proofs.RegisterLaws.{places_alike}
 
 -- ---- whether two vectors are one
@@ -498,4 +497,66 @@ module _ (K : Net → Bool) (m : Module) (d : IsDriven m) (closed : IsClosed K m
           },
           samples_same now' now rest b1 h.run,
           results_same now' now rest b1 h.run,
+        )
+
+    -- ---- a run that goes on
+    rest_both : (now : Values) (rest more : List Values) → rest_of now (rest ++ more) ≡ rest_of now rest ++ rest_of (end_of now (rest_of now rest)) more
+    unfolding rest_of
+    rest_both now [] more = refl
+    rest_both now (after ∷ rest) more = ap (λ q. next_values m now after ∷ q) (rest_both (next_values m now after) rest more)
+
+    run_first : (part : Values) (rest more : List Values) → IsRun (kept K m) part (rest ++ more) → IsRun (kept K m) part rest
+    run_first part [] more h = tt
+    run_first part (after ∷ rest) more h = (h.0, h.1, run_first after rest more h.2)
+
+    run_then : (part : Values) (rest more : List Values) → IsRun (kept K m) part (rest ++ more) → IsRun (kept K m) (end_of part rest) more
+    run_then part [] more h = h
+    run_then part (after ∷ rest) more h = run_then after rest more h.2
+
+    end_beside : (now part : Values) (rest : List Values) → Beside now part → IsRun (kept K m) part rest → Beside (end_of now (rest_of now rest)) (end_of part rest)
+    unfolding rest_of
+    end_beside now part [] b r = b
+    end_beside now part (after ∷ rest) b r = end_beside (next_values m now after) after rest (step_beside now part after b r.0) r.2
+
+    none_same : (now part : Values) (rest : List Values) → Beside now part → IsRun (kept K m) part rest → offers_none now (rest_of now rest) ≡ offers_none part rest
+    unfolding rest_of
+    none_same now part [] b r = refl
+    none_same now part (after ∷ rest) b r =
+        ap (λ q. not q && offers_none (next_values m now after) (rest_of (next_values m now after) rest)) (port now part b Net.InValid refl)
+        ∙ ap (λ q. not (is_one (part Net.InValid)) && q) (none_same (next_values m now after) after rest (step_beside now part after b r.0) r.2)
+
+    ready_same : (now part : Values) (rest : List Values) → Beside now part → IsRun (kept K m) part rest → ready_clocks now (rest_of now rest) ≡ ready_clocks part rest
+    unfolding rest_of
+    ready_same now part [] b r = refl
+    ready_same now part (after ∷ rest) b r =
+        ap (λ q. if q then suc (ready_clocks (next_values m now after) (rest_of (next_values m now after) rest)) else ready_clocks (next_values m now after) (rest_of (next_values m now after) rest)) (port now part b Net.InReady refl)
+        ∙ ap (λ q. if is_one (part Net.InReady) then suc q else q) (ready_same (next_values m now after) after rest (step_beside now part after b r.0) r.2)
+
+    -- where a run goes on with no sample, so does the whole
+    pub whole_more : (first now : Values) (rest more : List Values) → IsRunFromReset (kept K m) first now (rest ++ more)
+        → (first' : Values) × (now' : Values) × (rest' : List Values) × (more' : List Values) × IsRunFromReset m first' now' (rest' ++ more')
+        × (samples_in c now' rest' ≡ samples_in c now rest) × (results_in c now' (rest' ++ more') ≡ results_in c now (rest ++ more))
+        × (offers_none (end_of now' rest') more' ≡ offers_none (end_of now rest) more) × (ready_clocks (end_of now' rest') more' ≡ ready_clocks (end_of now rest) more)
+    whole_more first now rest more h =
+        let b0 = begin_beside first h.clock.before in
+        let first' = settled_by m.wires first in
+        let now' = next_values m first' now in
+        let b1 = step_beside first' first now b0 h.clock in
+        let r1 = run_first now rest more h.run in
+        let r2 = run_then now rest more h.run in
+        let b2 = end_beside now' now rest b1 r1 in
+        let end' = end_of now' (rest_of now' rest) in (
+          first',
+          now',
+          rest_of now' rest,
+          rest_of end' more,
+          subst (λ q. IsRunFromReset m first' now' q) (rest_both now' rest more) (record {
+            reset = b0.agree Net.Reset (closed.roots Net.Reset refl) ∙ h.reset;
+            clock = step_clock first' first now b0 h.clock;
+            run = run_beside now' now (rest ++ more) b1 h.run;
+          }),
+          samples_same now' now rest b1 r1,
+          ap (results_in c now') (sym (rest_both now' rest more)) ∙ results_same now' now (rest ++ more) b1 h.run,
+          none_same end' (end_of now rest) more b2 r2,
+          ready_same end' (end_of now rest) more b2 r2,
         )

@@ -1,5 +1,5 @@
 -- The vectors of a configuration's module are driven once, and its wires stand in an order in which each reads what comes before it.
-use Rattle.std.proofs.Common.{◌≡◌, ◌<◌, ◌≤◌, ℕ, zero, suc, ◌+◌, ◌-◌, ◌*◌, ◌==◌, Bool, true, false, List, [], ◌∷◌, ◌++◌, length, refl, sym, ap, subst, ◌∙◌, arith, if◌then◌else◌}
+use Rattle.std.proofs.Common.{◌≡◌, ◌<◌, ◌≤◌, ℕ, zero, suc, ◌+◌, ◌-◌, ◌*◌, ◌==◌, Bool, true, false, List, [], ◌∷◌, ◌++◌, length, refl, subst, arith, if◌then◌else◌}
 use Rattle.std.specs.List.{list_all}
 use Rattle.std.proofs.Math.Nat.{mul-le-mul_right}
 use Rattle.std.proofs.lemmas.Bool.{and_parts}
@@ -19,7 +19,6 @@ use Rattle.pr_lens_rtl.specs.Module.{read, source_expr, picked_expr, shifted_exp
 use Rattle.pr_lens_rtl.specs.Kept.{reads, place}
 use Rattle.pr_lens_rtl.specs.Bytes.{has_bytes, have_tap_bytes, has_pe_bytes}
 use Rattle.pr_lens_rtl.proofs.PeLaws.{site_at, place_below, Lawful, lawful_parts}
-use Rattle.pr_lens_rtl.proofs.RegisterLaws.{IsStage}
 use Rattle.pr_lens_rtl.proofs.ClockLaws.{AreStages}
 use Rattle.pr_lens_rtl.proofs.TraceLaws.{are_stages, outputs_taps}
 use Rattle.pr_lens_rtl.proofs.KeptLaws.{Below, Rise, IsWire, IsRegister, IsDriven, rise_from, rise_both, rise_to}

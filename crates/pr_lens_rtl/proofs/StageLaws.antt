@@ -1,12 +1,11 @@
 -- A stage: its columns, and what its registers take.
-use Rattle.std.proofs.Common.{◌≡◌, ◌<◌, ◌≤◌, ℕ, zero, suc, ◌+◌, ◌-◌, ◌*◌, ◌&&◌, Bool, true, List, [], ◌∷◌, ◌++◌, length, get_or, take, refl, sym, ap, subst, ◌∙◌, arith, nat_lt, inl, inr}
+use Rattle.std.proofs.Common.{◌≡◌, ◌<◌, ◌≤◌, ℕ, zero, suc, ◌+◌, ◌-◌, ◌*◌, Bool, true, List, [], ◌∷◌, ◌++◌, length, get_or, take, refl, sym, ap, subst, ◌∙◌, arith, inl, inr}
 use Rattle.std.specs.List.{list_all}
 use Rattle.std.proofs.lemmas.Bool.{and_parts, ltb-true, cases_lt}
 use Rattle.pr_base.specs.Pe.{Made}
 use Rattle.pr_conf.specs.declared.pes.Source.{Source}
 use Rattle.pr_conf.specs.declared.pes.Pe.{Pe}
-use Rattle.pr_conf.specs.Rules.{is_lawful_source, is_lawful_bit, is_lawful_carry, is_lawful_pe, are_lawful_pes}
-use Rattle.pr_conf.specs.declared.stages.Site.{Site}
+use Rattle.pr_conf.specs.Rules.{is_lawful_source, is_lawful_pe, are_lawful_pes}
 use Rattle.pr_conf.specs.StageMap.{Sight, source_byte, made_from, whole_sight, output_at, last_carry}
 use Rattle.pr_conf.proofs.ColumnLaws.{length-made_from, made_at, output_is, output_below, last_carry_is}
 use Rattle.pr_lens_rtl.specs.declared.vectors.Part.{Part}

@@ -10,13 +10,13 @@ use Rattle.pr_conf.specs.StageMap.{step_of}
 use Rattle.pr_conf.specs.Through.{tapped, steps_of, results_of}
 use Rattle.pr_base.specs.Numbers.{slices_of}
 use Rattle.pr_conf_pipeline.specs.Rows.{Step}
-use Rattle.pr_lens_clocked.specs.Clocked.{Pins, all_advanced, clock, is_enabled, is_last_valid, last_rows, accepted_now, taken_now, accepted, taken, delivered, after_clocks, AreReset}
-use Rattle.pr_lens_clocked.proofs.FlowLaws.{flow, order_law}
+use Rattle.pr_lens_clocked.specs.Clocked.{Pins, all_advanced, clock, is_enabled, is_last_valid, last_rows, accepted_now, taken_now, accepted, taken, delivered, after_clocks, AreReset, enabled_clocks, is_quiet}
+use Rattle.pr_lens_clocked.proofs.FlowLaws.{flow, order_law, all_law}
 use Rattle.pr_lens_rtl.specs.declared.vectors.Part.{Part}
 use Rattle.pr_lens_rtl.specs.declared.vectors.Net.{Net}
-use Rattle.pr_lens_rtl.specs.Verilog.{Values, Takes, Fit, IsSettled, IsClock}
+use Rattle.pr_lens_rtl.specs.Verilog.{Values, Takes, IsSettled, IsClock}
 use Rattle.pr_lens_rtl.specs.Module.{hand_wires, stages_wires, tap_wires, stages_registers, taps_of, last_of, module_of}
-use Rattle.pr_lens_rtl.specs.Traces.{at_places, is_one, all_held, sample_at, pins, result_at, samples_in, results_in, IsRun, IsRunFromReset}
+use Rattle.pr_lens_rtl.specs.Traces.{at_places, is_one, all_held, sample_at, pins, result_at, samples_in, results_in, IsRun, IsRunFromReset, end_of, offers_none, ready_clocks}
 use Rattle.pr_lens_rtl.specs.Bytes.{has_pe_bytes, has_tap_byte, have_tap_bytes, has_bytes}
 use Rattle.pr_lens_rtl.proofs.StageLaws.{takes_left, takes_right}
 use Rattle.pr_lens_rtl.proofs.ClockLaws.{AreStages, AreSteps, all_on, all_off, all_reset, last_flag, last_row, ready_law, shown_law, taps_law, map_taps}
@@ -178,3 +178,45 @@ module _ (N P : ℕ) (c : Shape) (lawful : IsLawful N P c) (bytes : has_bytes c 
             ∙ order_law M v (tapped N c) hs (run_pins now rest) lawful.some (reset_law first now h.clock h.reset)
             ∙ ap (λ q. q ++ more) (results_are now rest h.run),
       )
+
+  -- ---- a run that goes on
+  run_left : (now : Values) (rest more : List Values) → IsRun (module_of N P c) now (rest ++ more) → IsRun (module_of N P c) now rest
+  run_left now [] more h = tt
+  run_left now (after ∷ rest) more h = (h.0, h.1, run_left after rest more h.2)
+
+  run_right : (now : Values) (rest more : List Values) → IsRun (module_of N P c) now (rest ++ more) → IsRun (module_of N P c) (end_of now rest) more
+  run_right now [] more h = h
+  run_right now (after ∷ rest) more h = run_right after rest more h.2
+
+  pins_both : (now : Values) (rest more : List Values) → run_pins now (rest ++ more) ≡ run_pins now rest ++ run_pins (end_of now rest) more
+  pins_both now [] more = refl
+  pins_both now (after ∷ rest) more = ap (λ q. pins c now ∷ q) (pins_both after rest more)
+
+  held_end : (now : Values) (rest : List Values) → IsRun (module_of N P c) now rest → after_clocks M (all_held N P now 0 v) (run_pins now rest) ≡ all_held N P (end_of now rest) 0 v
+  held_end now [] h = refl
+  held_end now (after ∷ rest) h = ap (λ hs. after_clocks M hs (run_pins after rest)) (sym (clock_law now after h.0 h.1)) ∙ held_end after rest h.2
+
+  quiet_pins : (now : Values) (more : List Values) → list_all is_quiet (run_pins now more) ≡ offers_none now more
+  quiet_pins now [] = refl
+  quiet_pins now (after ∷ more) = ap (λ q. not (is_one (now Net.InValid)) && q) (quiet_pins after more)
+
+  ready_pins : (now : Values) (more : List Values) → IsRun (module_of N P c) now more → enabled_clocks M (all_held N P now 0 v) (run_pins now more) ≡ ready_clocks now more
+  ready_pins now [] h = refl
+  ready_pins now (after ∷ more) h =
+      ap (λ q. if q then suc (enabled_clocks M (clock M (all_held N P now 0 v) (pins c now)) (run_pins after more)) else enabled_clocks M (clock M (all_held N P now 0 v) (pins c now)) (run_pins after more)) (sym (ready_is now h.0.before))
+      ∙ ap (λ q. if is_one (now Net.InReady) then suc q else q) (ap (λ hs. enabled_clocks M hs (run_pins after more)) (sym (clock_law now after h.0 h.1)) ∙ ready_pins after more h.2)
+
+  pub whole_law : (first now : Values) (rest more : List Values) → IsRunFromReset (module_of N P c) first now (rest ++ more) → offers_none (end_of now rest) more ≡ true → v ≤ ready_clocks (end_of now rest) more
+      → results_in c now (rest ++ more) ≡ results_of N P c (samples_in c now rest)
+  whole_law first now rest more h none long =
+      let hs = all_held N P now 0 v in
+      let left = run_left now rest more h.run in
+      let right = run_right now rest more h.run in
+      let end = held_end now rest left in
+      let quiet : list_all is_quiet (run_pins (end_of now rest) more) ≡ true = quiet_pins (end_of now rest) more ∙ none in
+      let enabled : enabled_clocks M (after_clocks M hs (run_pins now rest)) (run_pins (end_of now rest) more) ≡ ready_clocks (end_of now rest) more =
+      ap (λ q. enabled_clocks M q (run_pins (end_of now rest) more)) end ∙ ready_pins (end_of now rest) more right in
+      sym (results_are now (rest ++ more) h.run)
+      ∙ ap (delivered M (tapped N c) hs) (pins_both now rest more)
+      ∙ all_law M v (tapped N c) hs (run_pins now rest) (run_pins (end_of now rest) more) lawful.some (reset_law first now h.clock h.reset) quiet (omega (arith, enabled, long))
+      ∙ ap (results_of N P c) (samples_are now rest left)

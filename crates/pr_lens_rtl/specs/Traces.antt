@@ -1,5 +1,5 @@
 -- What stands in the vectors of a module, as the clocked pipeline.
-use Rattle.std.specs.Prelude.{◌≡◌, ℕ, zero, suc, ◌-◌, ◌*◌, ◌==◌, ◌&&◌, Bool, List, [], ◌∷◌, ◌++◌, length, if◌then◌else◌}
+use Rattle.std.specs.Prelude.{◌≡◌, ℕ, zero, suc, ◌-◌, ◌*◌, ◌==◌, ◌&&◌, not, Bool, true, List, [], ◌∷◌, ◌++◌, length, if◌then◌else◌}
 use Rattle.pr_conf.specs.Rules.{bytes_in}
 use Rattle.pr_conf.specs.Shape.{Shape}
 use Rattle.pr_lens_clocked.specs.Clocked.{Held, Pins}
@@ -61,6 +61,21 @@ pub record IsRunFromReset (m : Module) (first now : Values) (rest : List Values)
   pub reset : first Net.Reset ≡ 1
   pub clock : IsClock m first now
   pub run : IsRun m now rest
+
+-- what the vectors hold when a run ends
+abbrev pub end_of : Values → List Values → Values
+end_of now [] = now
+end_of now (after ∷ rest) = end_of after rest
+
+-- no sample is offered in the clocks of a run
+abbrev pub offers_none : Values → List Values → Bool
+offers_none now [] = true
+offers_none now (after ∷ rest) = not (is_one (now Net.InValid)) && offers_none after rest
+
+-- in how many of its clocks the module is ready for a sample
+abbrev pub ready_clocks : Values → List Values → ℕ
+ready_clocks now [] = 0
+ready_clocks now (after ∷ rest) = if is_one (now Net.InReady) then suc (ready_clocks after rest) else ready_clocks after rest
 
 -- the ports that are inputs hold the same
 pub record AgreeAtInputs (first now : Values) : Type 0 where

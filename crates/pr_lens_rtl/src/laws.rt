@@ -1,6 +1,6 @@
 //! What the module of a configuration makes of samples. Nothing here runs.
 
-ghost use Rattle.std.specs.Prelude.{ℕ, ◌≡◌, ◌<◌, ◌*◌, Bool, true, List, ◌++◌, length};
+ghost use Rattle.std.specs.Prelude.{ℕ, ◌≡◌, ◌<◌, ◌≤◌, ◌*◌, Bool, true, List, ◌++◌, length};
 ghost use Rattle.pr_base.specs.Pe.{looked_up};
 ghost use Rattle.pr_lens_rtl.specs.Bytes.{has_bytes};
 ghost use Rattle.pr_conf.specs.Shape.{Shape};
@@ -11,7 +11,7 @@ ghost use Rattle.pr_lens_rtl.specs.declared.vectors.Net.{Net};
 ghost use Rattle.pr_lens_rtl.specs.Verilog.{Values, Expr, value, Fit, IsSettled, IsClock};
 ghost use Rattle.pr_lens_rtl.specs.Module.{four_of, module_of};
 ghost use Rattle.pr_lens_rtl.specs.Kept.{kept, is_kept, marks_of, IsClosed};
-ghost use Rattle.pr_lens_rtl.specs.Traces.{all_held, pins, samples_in, results_in, IsRunFromReset, AgreeAtInputs, AgreeAtRegisters};
+ghost use Rattle.pr_lens_rtl.specs.Traces.{all_held, pins, samples_in, results_in, IsRunFromReset, end_of, offers_none, ready_clocks, AgreeAtInputs, AgreeAtRegisters};
 
 /// The expression of half a table is the look-up, for every table, every two bytes and each C.
 pub fn table_law()
@@ -19,29 +19,41 @@ pub fn table_law()
         → value now (four_of table (4 * c) a b) 8 ≡ looked_up table (value now a 8) (value now b 8) c }
 {}
 
-/// A clock of the module of a configuration is a clock of its stages; and in every run from a reset the results that leave
+/// A clock of the module of a configuration is a clock of its stages. In every run from a reset, the results that leave
 /// are the first ones of what the configuration makes of the samples that entered.
 pub fn module_law()
     ensures clock { (N P : ℕ) (c : Shape) → IsLawful N P c → has_bytes c ≡ true → (now after : Values)
         → IsClock (module_of N P c) now after → now Net.Reset ≡ 0
         → all_held N P after 0 (length c.stages) ≡ clock (steps_of N P c) (all_held N P now 0 (length c.stages)) (pins c now) }
-    ensures trace { (N P : ℕ) (c : Shape) → IsLawful N P c → has_bytes c ≡ true → (first now : Values) (rest : List Values)
+    ensures trace { (N P : ℕ) (c : Shape) → IsLawful N P c → has_bytes c ≡ true
+        → (first now : Values) (rest : List Values)
         → IsRunFromReset (module_of N P c) first now rest
         → (more : List (List ℕ)) × (results_of N P c (samples_in c now rest) ≡ results_in c now rest ++ more) }
 {}
 
 /// The same of any part of the module that has its ports and, with a vector, all that is read for it: what is left out
-/// changes no result. Whatever such a part's registers and inputs hold, there are settled wires, and a next clock.
+/// changes no result. Once no sample is offered, all results have left after as many clocks in which the module is ready
+/// as there are stages. Whatever such a part's registers and inputs hold, there are settled wires and a next clock.
 ///
 /// The marks of a configuration are such a part.
 pub fn kept_law()
-    ensures closed { (N P : ℕ) (c : Shape) → IsLawful N P c → has_bytes c ≡ true → IsClosed (is_kept (marks_of N P c)) (module_of N P c) }
-    ensures trace { (N P : ℕ) (c : Shape) → IsLawful N P c → has_bytes c ≡ true → (K : Net → Bool) → IsClosed K (module_of N P c)
+    ensures closed { (N P : ℕ) (c : Shape) → IsLawful N P c → has_bytes c ≡ true
+        → IsClosed (is_kept (marks_of N P c)) (module_of N P c) }
+    ensures trace { (N P : ℕ) (c : Shape) → IsLawful N P c → has_bytes c ≡ true → (K : Net → Bool)
+        → IsClosed K (module_of N P c)
         → (first now : Values) (rest : List Values) → IsRunFromReset (kept K (module_of N P c)) first now rest
         → (more : List (List ℕ)) × (results_of N P c (samples_in c now rest) ≡ results_in c now rest ++ more) }
-    ensures settles { (N P : ℕ) (c : Shape) → IsLawful N P c → has_bytes c ≡ true → (K : Net → Bool) → (first : Values) → Fit first
+    ensures all { (N P : ℕ) (c : Shape) → IsLawful N P c → has_bytes c ≡ true → (K : Net → Bool)
+        → IsClosed K (module_of N P c)
+        → (first now : Values) (rest more : List Values)
+        → IsRunFromReset (kept K (module_of N P c)) first now (rest ++ more)
+        → offers_none (end_of now rest) more ≡ true → length c.stages ≤ ready_clocks (end_of now rest) more
+        → results_in c now (rest ++ more) ≡ results_of N P c (samples_in c now rest) }
+    ensures settles { (N P : ℕ) (c : Shape) → IsLawful N P c → has_bytes c ≡ true → (K : Net → Bool)
+        → (first : Values) → Fit first
         → (now : Values) × IsSettled (kept K (module_of N P c)) now × AgreeAtInputs first now × AgreeAtRegisters first now }
-    ensures next { (N P : ℕ) (c : Shape) → IsLawful N P c → has_bytes c ≡ true → (K : Net → Bool) → (now ports : Values)
+    ensures next { (N P : ℕ) (c : Shape) → IsLawful N P c → has_bytes c ≡ true → (K : Net → Bool)
+        → (now ports : Values)
         → IsSettled (kept K (module_of N P c)) now → Fit ports
         → (after : Values) × IsClock (kept K (module_of N P c)) now after × AgreeAtInputs ports after }
 {}
