@@ -1,0 +1,36 @@
+use Rattle.std.proofs.Common.{◌≡◌, ◌∙◌, ◌≤◌, ℕ, List, length, sym, ap, subst, arith}
+use Rattle.pr_lang.specs.declared.trees.Program.{Program}
+use Rattle.pr_flat.specs.Shape.{EquationShape}
+use Rattle.pr_lang_meaning.specs.Programs.{out}
+use Rattle.pr_expand_spec.specs.Programs.{equations_of}
+use Rattle.pr_lens_probe.specs.Shown.{HasColumns}
+use Rattle.pr_lens_probe.proofs.Shown.{showing}
+use Rattle.pr_lens_probe.proofs.probing.probe.Goals as goal
+
+pub checked-requires : goal.checked-requires
+checked-requires c =
+    let s = showing c.args.scoped.program c.longest-most.result c.in_ok-probed.probed c.deref.result.now c.in_ok-instances.instances.items c.deref-2.result.now c.deref-3.result.now c.args.scoped.lawful c.requires.widths (omega (arith, c.if-turns-len-gt-MOST_TURNS.false, c.len.ensures, c.args.scoped.walked)) c.in_ok-instances.ensures
+    c.deref.ensures.value c.deref-2.ensures.value c.deref-3.ensures.value c.longest-most.ensures.statics c.longest-most.ensures.instances c.in_ok-probed.ensures in
+    s.lawful
+
+pub expanded-requires : goal.expanded-requires
+expanded-requires c =
+    let s = showing c.args.scoped.program c.longest-most.result c.in_ok-probed.probed c.deref.result.now c.in_ok-instances.instances.items c.deref-2.result.now c.deref-3.result.now c.args.scoped.lawful c.requires.widths (omega (arith, c.if-turns-len-gt-MOST_TURNS.false, c.len.ensures, c.args.scoped.walked)) c.in_ok-instances.ensures
+    c.deref.ensures.value c.deref-2.ensures.value c.deref-3.ensures.value c.longest-most.ensures.statics c.longest-most.ensures.instances c.in_ok-probed.ensures in
+    subst (λ (es : List EquationShape). length es ≤ 16384) (sym (ap (λ (p : Program). (equations_of p).equations) c.in_ok-scoped.ensures ∙ s.same)) c.requires.few
+
+pub returns-clause-shows : goal.returns-clause-shows
+returns-clause-shows c =
+    let s = showing c.args.scoped.program c.longest-most.result c.in_ok-probed.probed c.deref.result.now c.in_ok-instances.instances.items c.deref-2.result.now c.deref-3.result.now c.args.scoped.lawful c.requires.widths (omega (arith, c.if-turns-len-gt-MOST_TURNS.false, c.len.ensures, c.args.scoped.walked)) c.in_ok-instances.ensures
+    c.deref.ensures.value c.deref-2.ensures.value c.deref-3.ensures.value c.longest-most.ensures.statics c.longest-most.ensures.instances c.in_ok-probed.ensures in
+    let program = c.args.scoped.program in
+    let flat = c.in_ok-flat.flat in
+    let probed = c.in_ok-probed.probed in
+    let count : length flat.outputs.items ≡ length (equations_of probed).outputs = ap length c.in_ok-flat.ensures.outputs ∙ ap (λ (p : Program). length (equations_of p).outputs) c.in_ok-scoped.ensures in
+    record {
+      instances = c.in_ok-instances.ensures;
+      same = ap (λ (p : Program). (equations_of p).equations) c.in_ok-scoped.ensures ∙ s.same;
+      equations = c.in_ok-flat.ensures.equations;
+      outputs = c.in_ok-flat.ensures.outputs;
+      columns = λ xs. subst (λ (p : Program). HasColumns program (length flat.outputs.items) xs (out p xs)) (sym c.in_ok-scoped.ensures) (subst (λ (n : ℕ). HasColumns program n xs (out probed xs)) (sym count) (s.columns xs));
+    }

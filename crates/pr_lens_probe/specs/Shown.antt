@@ -1,0 +1,54 @@
+-- What the outputs show that are added to a program.
+use Rattle.std.specs.Prelude.{◌≡◌, ◌+◌, ◌<◌, ℕ, List, ◌++◌, map, length, Option, Some, option_map, ⊤}
+use Rattle.std.specs.List.{range_with_len}
+use Rattle.pr_lang.specs.declared.trees.Program.{Program}
+use Rattle.pr_scope_names.specs.declared.streams.Instance.{Instance}
+use Rattle.pr_scope.specs.Walk.{program_walk, turns_after}
+use Rattle.pr_flat.specs.Forms.{Stream}
+use Rattle.pr_flat.specs.Shape.{shapes_of}
+use Rattle.pr_lang_meaning.specs.Streams.{Bound, Streams}
+use Rattle.pr_lang_meaning.specs.Programs as meant
+use Rattle.pr_lang_meaning.specs.Programs.{out}
+use Rattle.pr_expand_spec.specs.Programs.{equations_of}
+use Rattle.pr_probe.specs.Instances.{instances_of}
+use Rattle.pr_probe.specs.Probes.{numbers_at}
+use Rattle.pr_lens_probe.specs.declared.probing.Probed.{Probed}
+use Rattle.pr_lens_probe.specs.declared.probing.ProbeFault.{ProbeFault}
+use Rattle.pr_lens_probe.specs.declared.probing.ProbeFault.TheVariants.{Turns, Memory}
+
+-- the stream that an instance stands for
+abbrev pub stream_of : Streams → Instance → Option Stream
+stream_of env i = option_map (λ (b : Bound). b.stream) (env i.name i.index)
+
+-- over these samples the program comes to an end, its outputs have these streams, and its instances stand for these
+pub record HasStreams (program : Program) (xs : List (List ℕ)) (outputs streams : List Stream) : Type 0 where
+  pub world : meant.World
+  pub is : meant.items_change xs 0 program.items.items meant.start ≡ Some world
+  pub outputs_are : outputs ≡ world.outputs
+  pub each : map (stream_of world.streams) (instances_of program) ≡ map Some streams
+
+-- at each sample the numbers of the outputs, and then those of the instances
+abbrev pub columns_of : ℕ → List Stream → List Stream → List (List ℕ)
+columns_of count outputs streams = map (λ n. numbers_at n outputs ++ numbers_at n streams) (range_with_len 0 count)
+
+-- these rows are those, with so many columns
+pub record HasColumns (program : Program) (count : ℕ) (xs rows : List (List ℕ)) : Type 0 where
+  pub outputs : List Stream
+  pub streams : List Stream
+  pub has : HasStreams program xs outputs streams
+  pub all : length outputs + length streams ≡ count
+  pub are : rows ≡ columns_of (length xs) outputs streams
+
+-- a program that keeps the rules of scope, with its equations: they are those of a given program, and its outputs are the
+-- given program's, and then its instances
+pub record Shows (program : Program) (p : Probed) : Type 0 where
+  pub instances : p.instances.items ≡ instances_of program
+  pub same : (equations_of p.scoped.program).equations ≡ (equations_of program).equations
+  pub equations : shapes_of p.flat.equations.items ≡ (equations_of p.scoped.program).equations
+  pub outputs : p.flat.outputs.items ≡ (equations_of p.scoped.program).outputs
+  pub columns : (xs : List (List ℕ)) → HasColumns program (length p.flat.outputs.items) xs (out p.scoped.program xs)
+
+-- the program has more instances than turns are left
+abbrev pub IsTooLong : Program → ProbeFault → Type 0
+IsTooLong program Turns = 65536 < turns_after (program_walk program) + length (instances_of program)
+IsTooLong program (Memory e) = ⊤

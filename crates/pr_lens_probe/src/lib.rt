@@ -1,0 +1,12 @@
+//! A program with an output more for each stream instance, taken through the passes once more.
+//!
+//! A program with an input `x` and `let s = x + 1;` gets two outputs, which show `x` and `s`. Their names are none of the
+//! program's, the equations stay the same, and so do their widths. So what the outputs give are the streams that the
+//! names stand for.
+#![tactic(auto)]
+
+mod fresh;
+mod lengths;
+mod probing;
+
+pub use probing::{ProbeFault, Probed, probe};
