@@ -122,6 +122,20 @@ none_passed columns equations widths outputs flat wide l m u =
     let c = units_counted equations widths outputs flat wide in
     rw (not_below columns (sum_by slices_of (input_widths equations)) l, not_below 64 (length (map (output_of (plan_of equations widths outputs) (cut_whole (plan_of equations widths outputs)).values) outputs)) (omega (arith, n, m)), not_below 32768 (length (cut_whole (plan_of equations widths outputs)).units) (omega (arith, c, u))) refl
 
+-- a limit that is passed after those of bytes and outputs is that of units
+pub only_units : (columns : ℕ) (equations : List EquationShape) (widths : List ℕ) (outputs : List Operand) (cap : Cap) → sum_by slices_of (input_widths equations) ≤ columns → length outputs ≤ 64 → limit_passed columns (net_of equations widths outputs) ≡ Some cap → cap ≡ Cap.Units
+unfolding net_of
+only_units columns equations widths outputs cap l m passed =
+    let shown = map (output_of (plan_of equations widths outputs) (cut_whole (plan_of equations widths outputs)).values) outputs in
+    let units = (cut_whole (plan_of equations widths outputs)).units in
+    let n : length shown ≡ length outputs = length-map outputs (output_of (plan_of equations widths outputs) (cut_whole (plan_of equations widths outputs)).values) in
+    let e : limit_passed columns (net_of equations widths outputs) ≡ (if nat_lt 32768 (length units) then Some Cap.Units else None) = rw (not_below columns (sum_by slices_of (input_widths equations)) l, not_below 64 (length shown) (omega (arith, n, m))) refl in
+    last (nat_lt 32768 (length units)) (sym e ∙ passed)
+  where
+    last : (b : Bool) → (if b then Some Cap.Units else None) ≡ Some cap → cap ≡ Cap.Units
+    last true q = cc
+    last false q = cc
+
 -- ---- numbers one after the other
 pub push_each : (xs : List ℕ) (x i : ℕ) (f : ℕ → ℕ) → length xs ≡ i → ((k : ℕ) → k < i → get_or xs k 0 ≡ f k) → x ≡ f i → (k : ℕ) → k < i + 1 → get_or (xs ++ x ∷ []) k 0 ≡ f k
 push_each [] x i f long h e zero l = let z : i ≡ 0 = omega (arith, long) in e ∙ ap f z

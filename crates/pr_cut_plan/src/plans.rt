@@ -1,6 +1,6 @@
 //! The plan of a net.
 
-ghost use Rattle.std.specs.Prelude.{◌≡◌, ◌<◌, ◌≤◌, ◌^◌, ◌++◌, [], ◌∷◌, ℕ, true, false, Some, None, Err, length, vec_len, slice_index, slice_index_or, OnOk, IfOk};
+ghost use Rattle.std.specs.Prelude.{◌≡◌, ◌≢◌, ◌<◌, ◌≤◌, ◌^◌, ◌++◌, [], ◌∷◌, ℕ, true, false, Some, None, Err, length, vec_len, slice_index, slice_index_or, OnOk, IfOk};
 ghost use Rattle.std.specs.List.{slice_get};
 ghost use Rattle.pr_base.specs.declared.caps.Cap.{Cap};
 ghost use Rattle.pr_flat.specs.Flats.{equations_of};
@@ -90,7 +90,8 @@ fn hold_units(
 ///
 /// # Errors
 ///
-/// `Limit` with the first limit that their net passes: bytes of inputs, outputs, units. `Memory` where memory is wanting.
+/// `Limit` with the first limit that their net passes: bytes of inputs, outputs, units. The limits of bytes and outputs
+/// are told before any memory is asked for. `Memory` where memory is wanting.
 pub fn plan_of(
     alloc: Global,
     flat: &Flat,
@@ -103,6 +104,8 @@ pub fn plan_of(
     ensures units { OnOk result (length (cut_whole (flat_plan flat.now widths.now)).units ≤ 32768) }
     ensures limit { (cap : Cap) → result ≡ Err (CutFault.Limit cap) →
         limit_passed columns (flat_net flat.now widths.now) ≡ Some cap }
+    ensures passed { (cap : Cap) → limit_passed columns (flat_net flat.now widths.now) ≡ Some cap → cap ≢ Cap.Units →
+        result ≡ Err (CutFault.Limit cap) }
 {
     if input_bytes(flat) > columns {
         return Err(CutFault::Limit(Cap::InputBytes));

@@ -106,6 +106,15 @@ all_more p (y ∷ ys) (suc i) x within is before here =
     let place : suc i + 1 ≡ suc (i + 1) = omega arith in
     rw place (and_from (p y) (list_all p (take (i + 1) ys)) parts.0 (all_more p ys i x (omega arith) is parts.1 here))
 
+pub all_parts : {X : Type 0} → (p : X → Bool) (xs : List X) (i : ℕ) (x : X) → i < length xs → x ≡ get_or xs i x → list_all p (take (i + 1) xs) ≡ true → (list_all p (take i xs) ≡ true) × (p x ≡ true)
+all_parts p [] i x within is all = absurd (omega arith)
+all_parts p (y ∷ ys) zero x within is all = (refl, ap p is ∙ (and_parts (p y) (list_all p (take 0 ys)) all).0)
+all_parts p (y ∷ ys) (suc i) x within is all =
+    let place : suc i + 1 ≡ suc (i + 1) = omega arith in
+    let parts = and_parts (p y) (list_all p (take (i + 1) ys)) (ap (λ (n : ℕ). list_all p (take n (y ∷ ys))) (sym place) ∙ all) in
+    let rest = all_parts p ys i x (omega arith) is parts.1 in
+    (and_from (p y) (list_all p (take i ys)) parts.0 rest.0, rest.1)
+
 pub byte_is : (b : Bool) → bool_byte b ≡ cond b 1 0
 byte_is true = refl
 byte_is false = refl
@@ -117,3 +126,7 @@ pub record IsMost (a b m : ℕ) : Type 0 where
 
 pub max_of : (a b m : ℕ) → m ≡ ord_max nat_cmp a b → IsMost a b m
 max_of a b m is = let greater : ord_max nat_cmp a b ≡ max a b = search rules in record { first = omega arith; second = omega arith }
+
+-- a bound of both is one of the greater
+pub most_within : (a b m n : ℕ) → m ≡ ord_max nat_cmp a b → a ≤ n → b ≤ n → m ≤ n
+most_within a b m n is la lb = let greater : ord_max nat_cmp a b ≡ max a b = search rules in omega arith

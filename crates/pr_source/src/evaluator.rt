@@ -23,6 +23,7 @@ use std::alloc::{AllocError, Global};
 fn slots_of_operand(operand: Operand) -> usize
     ensures some { 1 ≤ result }
     ensures near { (slots : ℕ) → result ≤ slots → is_near slots operand ≡ true }
+    ensures least { (slots : ℕ) → 1 ≤ slots → is_near slots operand ≡ true → result ≤ slots }
 {
     match operand {
         Operand::Past { k, .. } => k as usize + 1,
@@ -34,6 +35,7 @@ fn slots_of_operand(operand: Operand) -> usize
 fn slots_of_operands(operands: &[Operand]) -> usize
     ensures some { 1 ≤ result }
     ensures near { (slots : ℕ) → result ≤ slots → list_all (is_near slots) operands.now ≡ true }
+    ensures least { (slots : ℕ) → 1 ≤ slots → list_all (is_near slots) operands.now ≡ true → result ≤ slots }
 {
     let mut slots = 1;
     for operand in operands {
@@ -46,6 +48,7 @@ fn slots_of_operands(operands: &[Operand]) -> usize
 fn slots_of(flat: &Flat) -> usize
     ensures some { 1 ≤ result }
     ensures near { AreNear result (equations_of flat.now) }
+    ensures least { (slots : ℕ) → 1 ≤ slots → AreNear slots (equations_of flat.now) → result ≤ slots }
 {
     let mut slots = 1;
     for equation in &flat.equations {

@@ -6,7 +6,7 @@ use Rattle.pr_cut_units.specs.Equations.{plan_of, hold_unit}
 use Rattle.pr_cut_units.proofs.CountNets.{length-reached}
 use Rattle.pr_cut_units.specs.Equations.{all_units}
 use Rattle.pr_cut_plan.proofs.ReachedLemmas.{shapes_few}
-use Rattle.pr_cut_plan.proofs.PlanLemmas.{units_counted, bytes_passed, outputs_passed, units_passed, none_passed}
+use Rattle.pr_cut_plan.proofs.PlanLemmas.{units_counted, bytes_passed, outputs_passed, units_passed, none_passed, only_units}
 use Rattle.pr_cut_plan.proofs.plans.plan_of.Goals as goal
 
 pub returns-then-input_bytes-columns-clause-limit : goal.returns-then-input_bytes-columns-clause-limit
@@ -14,6 +14,12 @@ returns-then-input_bytes-columns-clause-limit c = λ cap e. (let same : Cap.Inpu
 
 pub returns-then-len-gt-MOST_OUTPUTS-clause-limit : goal.returns-then-len-gt-MOST_OUTPUTS-clause-limit
 returns-then-len-gt-MOST_OUTPUTS-clause-limit c = λ cap e. (let same : Cap.Outputs ≡ cap = cc in outputs_passed c.args.columns (shapes_of c.args.flat.now.equations.items) c.args.widths.now c.args.flat.now.outputs.items (omega arith) (omega (arith, c.args.flat.now.outputs.ok.0)) ∙ ap (λ (k : Cap). Some k) same)
+
+pub returns-then-input_bytes-columns-clause-passed : goal.returns-then-input_bytes-columns-clause-passed
+returns-then-input_bytes-columns-clause-passed c = λ cap passed other. (let e = bytes_passed c.args.columns (shapes_of c.args.flat.now.equations.items) c.args.widths.now c.args.flat.now.outputs.items (omega arith) in cc (e, passed))
+
+pub returns-then-len-gt-MOST_OUTPUTS-clause-passed : goal.returns-then-len-gt-MOST_OUTPUTS-clause-passed
+returns-then-len-gt-MOST_OUTPUTS-clause-passed c = λ cap passed other. (let e = outputs_passed c.args.columns (shapes_of c.args.flat.now.equations.items) c.args.widths.now c.args.flat.now.outputs.items (omega arith) (omega (arith, c.args.flat.now.outputs.ok.0)) in cc (e, passed))
 
 pub hold_units-requires-clause-flags : goal.hold_units-requires-clause-flags
 hold_units-requires-clause-flags c =
@@ -98,3 +104,15 @@ returns-in_err-hold_units-clause-within c = IfOk-from_err _ _ c.from_residual-in
 
 pub returns-in_err-hold_units-clause-units : goal.returns-in_err-hold_units-clause-units
 returns-in_err-hold_units-clause-units c = IfOk-from_err _ _ c.from_residual-in_err-hold_units.ensures.0
+
+pub returns-in_err-reached-clause-passed : goal.returns-in_err-reached-clause-passed
+returns-in_err-reached-clause-passed c = λ cap passed other. absurd (other (only_units c.args.columns (shapes_of c.args.flat.now.equations.items) c.args.widths.now c.args.flat.now.outputs.items cap (omega arith) (omega (arith, c.args.flat.now.outputs.ok.0)) passed))
+
+pub returns-in_err-hold_counts-clause-passed : goal.returns-in_err-hold_counts-clause-passed
+returns-in_err-hold_counts-clause-passed c = λ cap passed other. absurd (other (only_units c.args.columns (shapes_of c.args.flat.now.equations.items) c.args.widths.now c.args.flat.now.outputs.items cap (omega arith) (omega (arith, c.args.flat.now.outputs.ok.0)) passed))
+
+pub returns-in_err-hold_units-clause-passed : goal.returns-in_err-hold_units-clause-passed
+returns-in_err-hold_units-clause-passed c = λ cap passed other. absurd (other (only_units c.args.columns (shapes_of c.args.flat.now.equations.items) c.args.widths.now c.args.flat.now.outputs.items cap (omega arith) (omega (arith, c.args.flat.now.outputs.ok.0)) passed))
+
+pub returns-clause-passed : goal.returns-clause-passed
+returns-clause-passed c = λ cap passed other. absurd (other (only_units c.args.columns (shapes_of c.args.flat.now.equations.items) c.args.widths.now c.args.flat.now.outputs.items cap (omega arith) (omega (arith, c.args.flat.now.outputs.ok.0)) passed))

@@ -7,7 +7,7 @@ use Rattle.pr_flat.specs.Shape.{EquationShape, equation_shape, shapes_of}
 use Rattle.pr_flat.proofs.WidthLemmas.{one_equation}
 use Rattle.pr_source.specs.Keeping.{is_near}
 use Rattle.pr_source.proofs.Points.{shape_at}
-use Rattle.pr_source.proofs.Whole.{max_of}
+use Rattle.pr_source.proofs.Whole.{max_of, most_within}
 use Rattle.pr_source.proofs.evaluator.slots_of.Goals as goal
 
 pub loop-equation-preserved : goal.loop-equation-preserved
@@ -21,6 +21,9 @@ loop-equation-preserved c =
     let here : slice_get equations k ≡ Some (equation_shape x) = shape_at items k x (omega (arith, ap length value)) (c.equation-item.is ∙ ap (λ (xs : List _). get_or xs k x) value) in
     record {
       some = omega (arith, c.slots_of_operands.ensures.some, m);
+      least = λ n one all. most_within c.loop-equation.slots c.slots_of_operands.result c.max-slots.result n c.max-slots.ensures
+          (c.loop-equation.invariant.least n one (λ i e l there. all i e (omega (arith, l)) there))
+          (c.slots_of_operands.ensures.least n one (ap (list_all (is_near n)) c.deref.ensures.value ∙ all k (equation_shape x) (omega arith) here));
       near = λ n i e more low there. ⊎_elim
           (λ less. c.loop-equation.invariant.near n i e (omega (arith, m, more)) less there)
           (λ same. let is : i ≡ k = omega (arith, low, same) in
@@ -34,3 +37,6 @@ returns-clause-near c i e there =
     let items = c.args.flat.now.equations.items in
     let within = slice_get_within (shapes_of items) i e there in
     c.loop-equation.invariant.near c.loop-equation.slots i e (omega arith) (omega (arith, within, length-map items equation_shape, ap length c.deref-equation-items.ensures.value)) there
+
+pub returns-clause-least : goal.returns-clause-least
+returns-clause-least c n one all = c.loop-equation.invariant.least n one (λ i e l there. all i e there)

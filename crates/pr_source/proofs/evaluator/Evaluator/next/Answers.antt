@@ -48,6 +48,7 @@ returns-clause-stands c samples stands =
       whole = All-same (IsWhole equations widths) _ _ c.keep.ensures.kept (All-take (IsWhole equations widths) size (row ∷ before) (All-cons (IsWhole equations widths) row before whole stands.whole));
       some = subst (λ (n : ℕ). 1 ≤ n) (sym c.keep.ensures.slots) stands.some;
       near = subst (λ (n : ℕ). AreNear n equations) (sym c.keep.ensures.slots) stands.near;
+      least = λ n one all. subst (λ (k : ℕ). k ≤ n) (sym c.keep.ensures.slots) (stands.least n one all);
       size = c.keep.ensures.size (length equations) stands.size whole.count;
       room = c.keep.ensures.room (length equations) stands.size;
     }
