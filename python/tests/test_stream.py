@@ -10,6 +10,7 @@ from collections.abc import Iterator
 from itertools import count, islice
 
 from piperench import Program, Refused
+from piperench._find import executable
 
 from .support import BOTH, SUM, needs_programs, stand_in, sums
 
@@ -105,9 +106,15 @@ class Rows(unittest.TestCase):
         self.assertLess(grown, 64 * 1024, "KiB of memory more")
 
 
+@needs_programs
 class Closing(unittest.TestCase):
+    """Stand-ins for a run; the real program compiles."""
+
+    def setUp(self) -> None:
+        self.compiles = f'[ "$1" = compile ] && exec {executable("piperench")} "$@"\n'
+
     def test_a_program_that_closes_its_pipes_early(self) -> None:
-        with stand_in("piperench", "head -c 100 >/dev/null; echo 5; exec <&-; echo 'bad sample: line 9' >&2; exit 7"):
+        with stand_in("piperench", self.compiles + "head -c 100 >/dev/null; echo 5; exec <&-; echo 'bad sample: line 9' >&2; exit 7"):
             rows = []
             with self.assertRaises(Refused) as caught:
                 for row in Program(SUM).stream(VALUES * 100):
@@ -115,14 +122,14 @@ class Closing(unittest.TestCase):
         self.assertEqual((rows, caught.exception.note), ([(5,)], "bad sample: line 9"))
 
     def test_a_program_that_cannot_write(self) -> None:
-        with stand_in("piperench", "echo 'write fault' >&2; exit 11"):
+        with stand_in("piperench", self.compiles + "echo 'write fault' >&2; exit 11"):
             with self.assertRaises(BrokenPipeError):
                 list(Program(SUM).stream(VALUES))
             with self.assertRaises(BrokenPipeError):
                 Program(SUM).run(VALUES)
 
     def test_a_line_that_is_cut_is_no_row(self) -> None:
-        with stand_in("piperench", "printf '1\\n22'; echo 'write fault' >&2; exit 11"):
+        with stand_in("piperench", self.compiles + "printf '1\\n22'; echo 'write fault' >&2; exit 11"):
             rows = []
             with self.assertRaises(BrokenPipeError):
                 for row in Program(SUM).stream(VALUES[:10]):
@@ -131,7 +138,7 @@ class Closing(unittest.TestCase):
 
     def test_pipes_and_files_are_given_back(self) -> None:
         open_before = len(os.listdir("/proc/self/fd"))
-        with stand_in("piperench", "exit 10"):
+        with stand_in("piperench", self.compiles + "exit 10"):
             for _ in range(20):
                 with self.assertRaises(OSError):
                     Program(SUM).run(VALUES)
