@@ -181,6 +181,8 @@ def _read(program: Program, samples: Any, count: int) -> Streams:
     if isinstance(samples, (str, os.PathLike)):
         with open(samples, "rb") as file:
             lines = [line for line in file if line.strip()][:count]
-        return streams_of(b"".join(line.strip() + b"\n" for line in lines), program.inputs)
+        # Blanks and leading zeros as a file of samples may have them, and lines of results have not.
+        plain = [b" ".join(b"%d" % int(word) for word in line.split()) for line in lines]
+        return streams_of(b"".join(line + b"\n" for line in plain), program.inputs)
     rows = [row if hasattr(row, "__len__") else (row,) for row in samples[:count]]
     return Streams({port.name: numbers([row[k] for row in rows]) for k, port in enumerate(program.inputs)})

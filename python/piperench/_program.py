@@ -128,22 +128,27 @@ class Program:
     def stream(self, samples: Iterable[Any], *, stripes: int | None = None, ahead: int = 4096) -> Iterator[tuple[int, ...]]:
         """Yields the row of each sample as it comes.
 
-        At most ``ahead`` samples are taken whose rows are not yet yielded. With ``ahead=1`` a sample is taken when the row of
-        the one before was yielded, so that samples may depend on rows, or come from a live source.
+        The machine works on several samples at once, so a row comes when some more samples were taken, or at their end. At most
+        ``ahead`` samples are taken whose rows are not yet yielded, or one for each stage of the program and 34 more where that
+        is more. ``ahead=1`` serves a source that gives its samples slowly.
         """
         if ahead < 1:
             raise ValueError("ahead is at least 1")
         return self._stream(samples, self._machine(stripes), ahead)
 
     def _stream(self, samples: Iterable[Any], options: list[str], ahead: int) -> Iterator[tuple[int, ...]]:
-        chunk = (ahead + 1) // 2
+        # With so many samples under way the program has rows to write before it reads on: 16 wait on either side of the machine,
+        # and each stage works on one.
+        held = self.compile().stages + 33
+        most = max(ahead, held + 1)
+        chunk = (most - held + 1) // 2
         waiting = 0
 
         def pieces() -> Iterator[bytes]:
             nonlocal waiting
             source = counted_pieces(samples, self.inputs, chunk)
             while True:
-                while waiting + chunk > ahead:
+                while waiting + chunk > most:
                     yield WAIT
                 count, piece = next(source, (0, b""))
                 if not count:
@@ -330,7 +335,9 @@ class _Stored:
                 options += ["--stall", "stall.txt"]
             if isinstance(samples, (str, os.PathLike)):
                 return call("piperench", [mode, "content", _existing(samples), *options], folder)
-            return call("piperench", [mode, "content", "/dev/stdin", *options], folder, pieces_of(samples, self.inputs))
+            # A damaged file may name no inputs; the program says what is wrong with it before it reads a sample.
+            pieces = pieces_of(samples, self.inputs) if self.inputs else []
+            return call("piperench", [mode, "content", "/dev/stdin", *options], folder, pieces)
 
     def _streams(self, mode: str, samples: Any, stripes: int | None, stall: str | None) -> Streams:
         status, note, written = self._call(mode, samples, stripes, stall)
@@ -354,6 +361,11 @@ class Configuration(_Stored):
     def exec(self, samples: Any, *, stripes: int | None = None, stall: str | None = None) -> Streams:
         """The results of the samples, from a machine with this configuration."""
         return self._streams("exec", samples, stripes, stall)
+
+    @property
+    def stages(self) -> int:
+        """How many stages it has."""
+        return int.from_bytes(self.content[8:12], "big")
 
     def show(self) -> str:
         """A summary, stage by stage."""

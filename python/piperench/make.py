@@ -74,7 +74,7 @@ def fir(coefficients: Iterable[int], bits: int, *, signed: bool = True) -> Made:
     width = _bits_for(least, most)
     lines = _Lines()
     lines.add(f"input x:{bits};")
-    total = _weighted_sum(lines, "x", factors, width, signed)
+    total = _weighted_sum(lines, "x", factors, bits, width, signed)
     lines.add(f"output y:{width} = {total};")
     names = (*(["x"] if signed else []), *(["y"] if with_sign else []))
     head = f"// y is the sum of {', '.join(map(str, factors[:8]))}{', ..' if len(factors) > 8 else ''} times x of 0, 1, .. samples ago."
@@ -132,7 +132,7 @@ def _write_biquad(
     half = 1 << kept - 1
     wide = max(_signed_bits_for(*_reach(ahead, bits, True)), bits)
     lines.add(f"input x:{bits};")
-    total = _weighted_sum(lines, "x", ahead, wide, True)
+    total = _weighted_sum(lines, "x", ahead, bits, wide, True)
     lines.add(f"let forward:{wide} = {total};")
     shift = f"<< {guard - fraction}" if guard >= fraction else f">> {fraction - guard}"
     lines.add(f"let scaled:{kept} = signed(forward) {shift};")
@@ -351,7 +351,7 @@ def fixed(value: float, bits: int, *, fraction: int = 8) -> Made:
     width = _signed_bits_for(*_reach([factor], bits, True))
     lines = _Lines()
     lines.add(f"input x:{bits};")
-    total = _weighted_sum(lines, "x", [factor], width, True)
+    total = _weighted_sum(lines, "x", [factor], bits, width, True)
     lines.add(f"let whole:{width} = {total};")
     lines.add(f"output y = signed(whole) >> {fraction};" if fraction else "output y = whole;")
 
@@ -382,9 +382,9 @@ def signed_digits(value: int) -> list[tuple[int, int]]:
     return digits
 
 
-def units_of_product(width: int, factor_bits: int) -> int:
-    """The units of a product of a stream of so many bits, cut to as many, and a factor of so many bits: a row for each bit."""
-    return sum(_chains(_bytes(width) - row // 8) for row in range(min(width, factor_bits)))
+def units_of_product(bits: int, factor_bits: int, width: int) -> int:
+    """The units of a product of an unsigned stream of so many bits and a factor, cut to the width: a row for each bit of it."""
+    return sum(_chains(_bytes(min(width, bits + row + 1)) - row // 8) for row in range(min(width, factor_bits)))
 
 
 def units_of_digits(width: int, digits: Sequence[tuple[int, int]]) -> int:
@@ -435,7 +435,7 @@ class _Lines:
         return self.named(f"{term} << {by}", width)
 
 
-def _weighted_sum(lines: _Lines, name: str, factors: Sequence[int], width: int, signed: bool) -> str:
+def _weighted_sum(lines: _Lines, name: str, factors: Sequence[int], bits: int, width: int, signed: bool) -> str:
     """The sum of factors times a stream of 0, 1, .. samples ago, modulo 2^width.
 
     The stream is widened to the width of the sum once; so sums need no sign, and each takes a unit. Powers of two with the same
@@ -450,8 +450,11 @@ def _weighted_sum(lines: _Lines, name: str, factors: Sequence[int], width: int, 
     for factor, taps in _by_factor(factors, _bytes(width)):
         sign, term = lines.total([(s, f"v@{k}" if k else "v") for s, k in taps], width)
         digits = signed_digits(factor)
-        if units_of_product(width, factor.bit_length()) < units_of_digits(width, digits):
-            digits, term = [(1, 0)], lines.named(f"{term} * {factor}", width)
+        # A sample that is not widened makes a product of fewer units.
+        alone = not signed and len(taps) == 1
+        operand = f"{name}@{taps[0][1]}" if alone and taps[0][1] else name if alone else term
+        if units_of_product(bits if alone else width, factor.bit_length(), width) < units_of_digits(width, digits):
+            digits, term = [(1, 0)], lines.named(f"{operand} * {factor}", width)
         for digit, place in digits:
             planes.setdefault(place, []).append((digit * sign, term))
     sign, term, below = 0, "", 0

@@ -116,7 +116,7 @@ class Programs(unittest.TestCase):
             head = f"input x:{width}; "
             alone = make_cost(head + "output y = x;")
             product = make_cost(head + f"output y:{width} = x * {factor};")
-            self.assertEqual(product - alone, units_of_product(width, factor.bit_length()), (width, factor))
+            self.assertEqual(product - alone, units_of_product(width, factor.bit_length(), width), (width, factor))
             lines = make._Lines()
             term, below = "", 0
             digits = signed_digits(factor)[::-1]

@@ -18,7 +18,7 @@ try:
 except ImportError:
     numpy = None
 
-VALUES = [random.Random(7).randrange(256) for _ in range(300)]
+VALUES = [chance.randrange(256) for chance in [random.Random(7)] for _ in range(300)]
 PAIRS = list(zip(VALUES, VALUES[::-1]))
 
 

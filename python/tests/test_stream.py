@@ -6,9 +6,11 @@ import gc
 import os
 import resource
 import unittest
+from collections.abc import Iterator
 from itertools import count, islice
 
 from piperench import Program, Refused
+from piperench._find import executable
 
 from .support import BOTH, SUM, needs_programs, stand_in, sums
 
@@ -36,24 +38,22 @@ class Rows(unittest.TestCase):
                     taken += 1
                     yield value
 
-            for number, _ in enumerate(Program(SUM).stream(samples(), ahead=ahead)):
-                self.assertLessEqual(taken - number, ahead)
+            most = max(ahead, Program(SUM).compile().stages + 34)
+            for stripes in (2, 3, 16):
+                taken = 0
+                for number, _ in enumerate(Program(SUM).stream(samples(), ahead=ahead, stripes=stripes)):
+                    self.assertLessEqual(taken - number, most)
+                self.assertEqual(taken, 1000)
 
-    def test_a_sample_may_depend_on_the_row_before(self) -> None:
-        rows: list[tuple[int, ...]] = []
-
-        def samples():
-            yield 1
-            for _ in range(50):
-                yield (rows[-1][0] * 2 + 1) % 256
-
-        for row in Program("input x:8; output y:8 = x + 3;").stream(samples(), ahead=1):
-            rows.append(row)
-        value, expected = 1, []
-        for _ in range(51):
-            expected.append(((value + 3) % 256,))
-            value = (expected[-1][0] * 2 + 1) % 256
-        self.assertEqual(rows, expected)
+    def test_rows_come_before_the_source_ends(self) -> None:
+        deep = "input x:8; let t[0] = x; for i in 1..60 { let t[i]:8 = t[i-1] + 1; } output y = t[59];"
+        for text, add in ((SUM, None), (deep, 59)):
+            for stripes in (2, 7, 100):
+                stream = Program(text).stream(count_bytes(), ahead=1, stripes=stripes)
+                rows = list(islice(stream, 300))
+                stream.close()
+                values = [n % 256 for n in range(300)]
+                self.assertEqual(rows, sums(values) if add is None else [((value + add) % 256,) for value in values])
 
     def test_an_endless_source_ends_with_its_reader(self) -> None:
         stream = Program("input x:64; output y = x;").stream(count())
@@ -91,19 +91,6 @@ class Rows(unittest.TestCase):
         self.assertEqual(rows, sums([1, 2, 3]))
         self.assertEqual((caught.exception.status, caught.exception.place.line), (7, 4))
 
-    def test_a_live_source_does_not_wait_for_more(self) -> None:
-        events: list[object] = []
-
-        def samples():
-            for value in (5, 6, 7):
-                events.append(value)
-                yield value
-            events.append("end")
-
-        for row in Program(SUM).stream(samples(), ahead=1):
-            events.append(row)
-        self.assertEqual(events, [5, (5,), 6, (11,), 7, (18,), "end"])
-
     def test_ten_million_lines_in_constant_memory(self) -> None:
         number = 10_000_000
         before = resource.getrusage(resource.RUSAGE_SELF).ru_maxrss
@@ -119,9 +106,15 @@ class Rows(unittest.TestCase):
         self.assertLess(grown, 64 * 1024, "KiB of memory more")
 
 
+@needs_programs
 class Closing(unittest.TestCase):
+    """Stand-ins for a run; the real program compiles."""
+
+    def setUp(self) -> None:
+        self.compiles = f'[ "$1" = compile ] && exec {executable("piperench")} "$@"\n'
+
     def test_a_program_that_closes_its_pipes_early(self) -> None:
-        with stand_in("piperench", "head -c 100 >/dev/null; echo 5; exec <&-; echo 'bad sample: line 9' >&2; exit 7"):
+        with stand_in("piperench", self.compiles + "head -c 100 >/dev/null; echo 5; exec <&-; echo 'bad sample: line 9' >&2; exit 7"):
             rows = []
             with self.assertRaises(Refused) as caught:
                 for row in Program(SUM).stream(VALUES * 100):
@@ -129,14 +122,14 @@ class Closing(unittest.TestCase):
         self.assertEqual((rows, caught.exception.note), ([(5,)], "bad sample: line 9"))
 
     def test_a_program_that_cannot_write(self) -> None:
-        with stand_in("piperench", "echo 'write fault' >&2; exit 11"):
+        with stand_in("piperench", self.compiles + "echo 'write fault' >&2; exit 11"):
             with self.assertRaises(BrokenPipeError):
                 list(Program(SUM).stream(VALUES))
             with self.assertRaises(BrokenPipeError):
                 Program(SUM).run(VALUES)
 
     def test_a_line_that_is_cut_is_no_row(self) -> None:
-        with stand_in("piperench", "printf '1\\n22'; echo 'write fault' >&2; exit 11"):
+        with stand_in("piperench", self.compiles + "printf '1\\n22'; echo 'write fault' >&2; exit 11"):
             rows = []
             with self.assertRaises(BrokenPipeError):
                 for row in Program(SUM).stream(VALUES[:10]):
@@ -145,7 +138,7 @@ class Closing(unittest.TestCase):
 
     def test_pipes_and_files_are_given_back(self) -> None:
         open_before = len(os.listdir("/proc/self/fd"))
-        with stand_in("piperench", "exit 10"):
+        with stand_in("piperench", self.compiles + "exit 10"):
             for _ in range(20):
                 with self.assertRaises(OSError):
                     Program(SUM).run(VALUES)
@@ -153,6 +146,11 @@ class Closing(unittest.TestCase):
                 with self.assertRaises(OSError):
                     next(stream)
         self.assertEqual(len(os.listdir("/proc/self/fd")), open_before)
+
+
+def count_bytes() -> Iterator[int]:
+    """0, 1, .. 255, 0, 1 .. without an end."""
+    return (n % 256 for n in count())
 
 
 def children() -> list[str]:
