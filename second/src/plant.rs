@@ -54,3 +54,8 @@ pub fn put_in(number: u8) {
 pub fn is(plant: Plant) -> bool {
     PLANTED.load(Ordering::Relaxed) == plant as u8 + 1
 }
+
+/// Whether any wrong body was put in.
+pub fn is_any() -> bool {
+    PLANTED.load(Ordering::Relaxed) != 0
+}
