@@ -190,6 +190,8 @@ impl Case {
     fn changed(&mut self, random: &mut Random) {
         let put = self.put(random, "p0");
         self.file("s", "1\n2\n");
+        let stall = texts::stall(random);
+        self.file("st", stall);
         for number in 1..4 {
             let name = format!("p{number}");
             let text = texts::changed(random, &put.text);
@@ -197,8 +199,27 @@ impl Case {
             self.programs += 1;
             self.call(&["compile", &name], &target_options(&put));
             let mode = *random.pick(&["run", "eval", "checkpoint", "trace"]);
-            self.call(&[mode, &name, "s"], &[]);
+            let samples = if random.percent(5) { "nothere" } else { "s" };
+            let stall = if random.percent(5) { "nothere" } else { "st" };
+            let options = if random.percent(30) { ["--stall", stall].map(str::to_string).to_vec() } else { Vec::new() };
+            self.call(&[mode, &name, samples], &options);
         }
+        if random.percent(2) {
+            self.padded(random, &put.text);
+        }
+    }
+
+    /// Files that are as long as they may be, or a byte longer.
+    fn padded(&mut self, random: &mut Random, program: &str) {
+        let program = texts::padded(random, program.as_bytes(), 1 << 20, b' ');
+        self.file("p4", program);
+        self.call(&["compile", "p4"], &[]);
+        let stall = texts::padded(random, b"..o", 1 << 20, b'\n');
+        self.file("st4", stall);
+        self.call(&["run", "p0", "s"], &["--stall", "st4"].map(str::to_string));
+        let list = texts::padded(random, b"p0 s 1\n", 1 << 16, b'\n');
+        self.file("list4", list);
+        self.call(&["share", "list4"], &[]);
     }
 
     fn damaged(&mut self, random: &mut Random) {
@@ -282,7 +303,10 @@ impl Case {
             self.calls.push(texts::words(random));
         }
         let turns = random.from_to(1, 30).to_string();
-        let options = [stripes(random, 9), target_words(Target { fabric: *random.pick(&[BASE, WIDE]), narrowed: random.percent(50) })];
+        let options = [
+            stripes(random, 9),
+            target_words(Target { fabric: *random.pick(&[BASE, WIDE]), narrowed: random.percent(50) }),
+        ];
         self.call(&["gen", &turns], &options.concat());
     }
 }

@@ -25,7 +25,7 @@ impl Shelf for Memory<'_> {
 }
 
 /// The mode of a call that compares the second program with itself.
-const SELF: &str = "self";
+pub const SELF: &str = "self";
 
 /// The first call of the case that is answered in two ways; the number of calls is counted.
 pub fn differing(case: &Case, product: &Product, calls: &mut u64) -> Option<Difference> {
@@ -64,8 +64,10 @@ pub fn expected(files: &Files, words: &Words) -> Answer {
 
 /// The answer, or what tells that there was none.
 fn sheltered(answer: impl FnOnce() -> Answer) -> Answer {
-    catch_unwind(AssertUnwindSafe(answer)).unwrap_or_else(|_| {
-        Answer { out: Vec::new(), note: b"the second one failed\n".to_vec(), status: -2 }
+    catch_unwind(AssertUnwindSafe(answer)).unwrap_or_else(|_| Answer {
+        out: Vec::new(),
+        note: b"the second one failed\n".to_vec(),
+        status: -2,
     })
 }
 

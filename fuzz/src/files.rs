@@ -24,7 +24,11 @@ pub fn configuration(random: &mut Random) -> Configuration {
     for stage in 0..count {
         let rules = Allowed { fabric, is_first: stage == 0, sample_bytes: made.sample_bytes() };
         let words = |(column, random): (usize, &mut Random)| {
-            if random.percent(fill) { rules.element(random, column) } else { [0; 4] }
+            if random.percent(fill) {
+                rules.element(random, column)
+            } else {
+                [0; 4]
+            }
         };
         let stage = (0..fabric.columns).map(|column| words((column, random))).collect();
         made.stages.push(stage);
@@ -134,8 +138,38 @@ fn damage(random: &mut Random, file: &mut Vec<u8>) {
 fn edge(random: &mut Random) -> u32 {
     let any = random.next() as u32;
     *random.pick(&[
-        0, 1, 2, 3, 8, 16, 17, 32, 33, 64, 65, 128, 129, 0x5049_5031, 0x5049_5032, 0x5049_434B, 0x0010_0008, 0x0020_0010, 0x1001,
-        0x1008, 0x1010, 0x1100, 0x10FF, 0x2000_0000, 0x3000_2000, 0x4000_4001, 32_768, 32_769, 0x100, 0x101, 0xFFFF_FFFF, any,
+        0,
+        1,
+        2,
+        3,
+        8,
+        16,
+        17,
+        32,
+        33,
+        64,
+        65,
+        128,
+        129,
+        0x5049_5031,
+        0x5049_5032,
+        0x5049_434B,
+        0x0010_0008,
+        0x0020_0010,
+        0x1001,
+        0x1008,
+        0x1010,
+        0x1100,
+        0x10FF,
+        0x2000_0000,
+        0x3000_2000,
+        0x4000_4001,
+        32_768,
+        32_769,
+        0x100,
+        0x101,
+        0xFFFF_FFFF,
+        any,
         any & 0xFFFF,
     ])
 }

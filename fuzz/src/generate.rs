@@ -135,8 +135,15 @@ impl Maker<'_> {
     }
 
     fn item(&mut self) {
-        let kinds =
-            [(9, Item::Let), (4, Item::Rec), (1, Item::Const), (1, Item::Table), (2, Item::Function), (3, Item::Loop), (2, Item::Alias)];
+        let kinds = [
+            (9, Item::Let),
+            (4, Item::Rec),
+            (1, Item::Const),
+            (1, Item::Table),
+            (2, Item::Function),
+            (3, Item::Loop),
+            (2, Item::Alias),
+        ];
         match self.random.weighted(&kinds) {
             Item::Let => self.assignment(),
             Item::Rec => self.recurrence(),
@@ -406,7 +413,11 @@ impl Maker<'_> {
         }
         // The newest streams more often, so that programs get deep.
         let count = self.scope.streams.len();
-        let place = if self.random.percent(50) { self.random.below(count) } else { count - 1 - self.random.below(count.min(3)) };
+        let place = if self.random.percent(50) {
+            self.random.below(count)
+        } else {
+            count - 1 - self.random.below(count.min(3))
+        };
         self.scope.streams[place].clone()
     }
 
@@ -574,7 +585,10 @@ fn at_a_limit(random: &mut Random) -> String {
         0 => format!("input x:8;\noutput y = {}x{};\n", "(".repeat(near(256) as usize), ")".repeat(near(256) as usize)),
         1 => format!("input x:8;\noutput y = x{};\n", "{7..0}".repeat(near(255) as usize)),
         2 => format!("input x:8;\noutput y = x{};\n", " + x".repeat(random.from_to(3, 258))),
-        3 => format!("input x:8;\n{}", lines(near(64), &|i| format!("output y{i} = x{};\n", if i % 3 == 0 { " + 1" } else { "" }))),
+        3 => format!(
+            "input x:8;\n{}",
+            lines(near(64), &|i| format!("output y{i} = x{};\n", if i % 3 == 0 { " + 1" } else { "" }))
+        ),
         4 => format!("{}output y = x0;\n", lines(near(16), &|i| format!("input x{i}:8;\n"))),
         5 => format!("{}output y = x0;\n", lines(near(32), &|i| format!("input x{i}:8;\n"))),
         6 => format!("input x:8;\nfor i in 0..{} {{ }}\noutput y = x;\n", near(65_533)),
@@ -583,7 +597,11 @@ fn at_a_limit(random: &mut Random) -> String {
             let inner = lines(last, &|i| format!("fn f{}(a) {{ return f{i}(a); }}\n", i + 1));
             format!("input x:8;\nfn f0(a) {{ return ~a; }}\n{inner}output y = f{last}(x);\n")
         }
-        8 => format!("input x:8;\nlet t[0] = x;\nfor i in 1..{} {{ let t[i] = ~t[i-1]; }}\noutput y = t[{}];\n", near(16_384), random.from_to(0, 60)),
+        8 => format!(
+            "input x:8;\nlet t[0] = x;\nfor i in 1..{} {{ let t[i] = ~t[i-1]; }}\noutput y = t[{}];\n",
+            near(16_384),
+            random.from_to(0, 60)
+        ),
         _ => {
             let declared = random.from_to(1, 130);
             format!("input x:{};\nrec s:{declared} = 0 by s@{} + x;\noutput y = s;\n", near(128).min(129), near(256))

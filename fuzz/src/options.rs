@@ -3,7 +3,7 @@
 use std::path::PathBuf;
 use std::time::{SystemTime, UNIX_EPOCH};
 
-pub const USAGE: &str = "usage: fuzz/run [--seed S] [--from N] [--count N] [--seconds T] [--jobs J] [--program PATH] [--found FOLDER] [--print N] [--plants]
+pub const USAGE: &str = "usage: fuzz/run [--seed S] [--from N] [--count N] [--seconds T] [--jobs J] [--program PATH] [--found FOLDER] [--print N] [--plant N | --plants]
   --seed S          the seed of the cases; the clock's seconds where none is said
   --from N          begin with the case of this number (0)
   --count N         end after so many programs
@@ -12,6 +12,7 @@ pub const USAGE: &str = "usage: fuzz/run [--seed S] [--from N] [--count N] [--se
   --program PATH    the program that is tried
   --found FOLDER    where differences are written (fuzz/found)
   --print N         print the files and calls of the case of this number, and make none
+  --plant N         put the wrong body of this number, from 1, into the second program, and go on as ever
   --plants          put each of ten wrong bodies into the second program, and see that a difference is found";
 
 pub struct Options {
@@ -23,6 +24,7 @@ pub struct Options {
     pub program: PathBuf,
     pub found: PathBuf,
     pub printed: Option<u64>,
+    pub plant: u8,
     pub tries_plants: bool,
 }
 
@@ -37,6 +39,7 @@ impl Options {
             program: PathBuf::new(),
             found: PathBuf::from("found"),
             printed: None,
+            plant: 0,
             tries_plants: false,
         };
         while let Some(word) = words.next() {
@@ -65,6 +68,7 @@ impl Options {
             "--jobs" => self.jobs = number()?.clamp(1, 256) as usize,
             "--program" => self.program = PathBuf::from(value),
             "--print" => self.printed = Some(number()?),
+            "--plant" => self.plant = number()?.min(255) as u8,
             "--found" => self.found = PathBuf::from(value),
             _ => return Err(format!("{word} is none of the options")),
         }

@@ -136,5 +136,12 @@ fn write(folder: &Path, difference: &Difference) -> std::io::Result<()> {
 
 fn text_of(answer: &Answer) -> Vec<u8> {
     let head = format!("status {}\nnote {}\n", answer.status, String::from_utf8_lossy(&answer.note).trim_end());
-    [head.as_bytes(), &answer.out].concat()
+    let out = if answer.out.starts_with(b"PI") { words_of(&answer.out).into_bytes() } else { answer.out.clone() };
+    [head.as_bytes(), &out].concat()
+}
+
+/// The words of a configuration or a checkpoint, a line for each.
+fn words_of(bytes: &[u8]) -> String {
+    let digits = |word: &[u8]| word.iter().map(|byte| format!("{byte:02x}")).collect::<String>();
+    bytes.chunks(4).enumerate().map(|(number, word)| format!("word {number}: {}\n", digits(word))).collect()
 }

@@ -1,21 +1,27 @@
-//! Making a difference smaller: lines go, then words, then numbers, while the call still has two answers.
+//! Making a difference smaller: files and options go, then lines, then parts of expressions, then numbers, while the call still
+//! has two answers.
 
 use crate::cases::{Files, Words};
-use crate::checks::{compared, Difference};
+use crate::checks::{compared, expected, Difference, SELF};
 use crate::product::Product;
 use crate::texts::split;
+use std::time::{Duration, Instant};
 
-/// How many calls are made for one difference.
-const MOST_TRIALS: usize = 3000;
+/// How long one difference is worked on.
+const LONGEST: Duration = Duration::from_secs(60);
+/// How many words of a text go at once.
+const LONGEST_RUN: usize = 24;
 
 pub fn shrunk(mut difference: Difference, product: &Product) -> Difference {
-    let mut shrinker = Shrinker { product, trials: 0, best: &mut difference };
+    let mut shrinker = Shrinker { product, until: Instant::now() + LONGEST, best: &mut difference };
     shrinker.files();
-    shrinker.words();
+    shrinker.options();
     let names: Vec<String> = shrinker.best.files.keys().cloned().collect();
-    for _ in 0..2 {
-        for name in &names {
-            shrinker.file(name);
+    for _ in 0..4 {
+        let before = shrinker.best.files.clone();
+        names.iter().for_each(|name| shrinker.file(name));
+        if shrinker.best.files == before {
+            break;
         }
     }
     difference
@@ -23,34 +29,41 @@ pub fn shrunk(mut difference: Difference, product: &Product) -> Difference {
 
 struct Shrinker<'s> {
     product: &'s Product<'s>,
-    trials: usize,
+    until: Instant,
     best: &'s mut Difference,
 }
 
 impl Shrinker<'_> {
-    /// Takes the change where the call still has two answers.
-    fn try_it(&mut self, files: Files, words: Words) -> bool {
-        if self.trials >= MOST_TRIALS {
+    /// Takes the change where the call still has two answers. The program is asked only where the second one still ends as it did:
+    /// most changes make a text that both refuse.
+    fn takes(&mut self, files: Files, words: Words) -> bool {
+        let is_self = words.first().is_some_and(|mode| mode == SELF);
+        if Instant::now() >= self.until || (!is_self && expected(&files, &words).status != self.best.expected.status) {
             return false;
         }
-        self.trials += 1;
         let Some((expected, got)) = compared(&files, &words, self.product) else { return false };
         *self.best = Difference { files, words, expected, got };
         true
     }
 
-    /// Leaves out files that the call does not need.
+    fn takes_text(&mut self, name: &str, parts: &[String]) -> bool {
+        let mut files = self.best.files.clone();
+        files.insert(name.to_string(), parts.concat().into_bytes());
+        self.takes(files, self.best.words.clone())
+    }
+
+    /// Leaves out files that the call does not name. The files of a list are named by it.
     fn files(&mut self) {
         for name in self.best.files.keys().cloned().collect::<Vec<_>>() {
-            let is_named = self.best.words.iter().any(|word| word.contains(&name)) || self.best.words[0] == "share";
+            let is_named = self.best.words.iter().any(|word| word.ends_with(&name)) || self.best.words[0] == "share";
             if !is_named {
                 self.best.files.remove(&name);
             }
         }
     }
 
-    /// Leaves out options, and their values with them.
-    fn words(&mut self) {
+    /// Leaves out options, with their values.
+    fn options(&mut self) {
         let mut place = 0;
         while place < self.best.words.len() {
             let is_shorter = [2, 1].into_iter().any(|count| {
@@ -59,7 +72,7 @@ impl Shrinker<'_> {
                     return false;
                 }
                 words.drain(place..place + count);
-                self.try_it(self.best.files.clone(), words)
+                self.takes(self.best.files.clone(), words)
             });
             place += usize::from(!is_shorter);
         }
@@ -71,10 +84,11 @@ impl Shrinker<'_> {
             return self.zeros(name);
         }
         let Ok(text) = String::from_utf8(bytes) else { return };
-        self.parts(name, text.split_inclusive('\n').map(str::to_string).collect());
-        let text = self.text(name);
-        self.parts(name, text.split_inclusive([';', '\n']).map(str::to_string).collect());
-        self.parts(name, split(&self.text(name)));
+        self.runs(name, text.split_inclusive('\n').map(str::to_string).collect());
+        self.runs(name, self.text(name).split_inclusive([';', '{', '}']).map(str::to_string).collect());
+        self.names(name);
+        self.groups(name);
+        self.windows(name);
         self.numbers(name);
     }
 
@@ -82,21 +96,15 @@ impl Shrinker<'_> {
         self.best.files.get(name).map_or(String::new(), |bytes| String::from_utf8_lossy(bytes).into_owned())
     }
 
-    fn with(&self, name: &str, bytes: Vec<u8>) -> Files {
-        let mut files = self.best.files.clone();
-        files.insert(name.to_string(), bytes);
-        files
-    }
-
     /// Leaves out runs of parts, long ones first.
-    fn parts(&mut self, name: &str, mut parts: Vec<String>) {
+    fn runs(&mut self, name: &str, mut parts: Vec<String>) {
         let mut length = parts.len().next_power_of_two();
         while length > 0 {
             let mut place = 0;
             while place < parts.len() {
                 let mut fewer = parts.clone();
                 fewer.drain(place..(place + length).min(parts.len()));
-                if self.try_it(self.with(name, fewer.concat().into_bytes()), self.best.words.clone()) {
+                if self.takes_text(name, &fewer) {
                     parts = fewer;
                 } else {
                     place += length;
@@ -106,19 +114,76 @@ impl Shrinker<'_> {
         }
     }
 
-    /// Makes each number 0, 1 or half.
+    /// Puts the name of the first input in the place of each other name.
+    fn names(&mut self, name: &str) {
+        let mut parts = split(&self.text(name));
+        let Some(input) = parts.iter().position(|part| part == "input").and_then(|place| parts.get(place + 2).cloned())
+        else {
+            return;
+        };
+        for place in 0..parts.len() {
+            let is_name = parts[place].starts_with(|letter: char| letter.is_ascii_lowercase()) && parts[place] != input;
+            let mut changed = parts.clone();
+            changed[place] = input.clone();
+            if is_name && self.takes_text(name, &changed) {
+                parts = changed;
+            }
+        }
+    }
+
+    /// Puts what stands in parentheses, or 1, in the place of the whole.
+    fn groups(&mut self, name: &str) {
+        let mut parts = split(&self.text(name));
+        let mut place = 0;
+        while place < parts.len() {
+            if let Some(end) = closing(&parts, place) {
+                let mut inner = parts.clone();
+                inner.remove(end);
+                inner.remove(place);
+                let mut number = parts.clone();
+                number.splice(place..=end, ["1".to_string()]);
+                if self.takes_text(name, &number) {
+                    parts = number;
+                } else if self.takes_text(name, &inner) {
+                    parts = inner;
+                }
+            }
+            place += 1;
+        }
+    }
+
+    /// Leaves out some words that stand one after the other.
+    fn windows(&mut self, name: &str) {
+        let mut parts = split(&self.text(name));
+        let mut place = 0;
+        while place < parts.len() {
+            let shorter = (1..=LONGEST_RUN.min(parts.len() - place)).rev().find_map(|length| {
+                let is_blank = parts[place..place + length].iter().all(|part| part.trim().is_empty());
+                let mut fewer = parts.clone();
+                fewer.drain(place..place + length);
+                (!is_blank && self.takes_text(name, &fewer)).then_some(fewer)
+            });
+            match shorter {
+                Some(fewer) => parts = fewer,
+                None => place += 1,
+            }
+        }
+    }
+
+    /// Makes each number 0, 1, half or one less.
     fn numbers(&mut self, name: &str) {
         let mut parts = split(&self.text(name));
         for place in 0..parts.len() {
             while let Ok(number) = parts[place].parse::<u128>() {
-                let smaller = [0, 1, number / 2, number.saturating_sub(1)].into_iter().filter(|other| *other < number).find(|other| {
+                let others = [0, 1, number / 2, number.saturating_sub(1)].map(|other| other.to_string());
+                let smaller = others.into_iter().filter(|other| *other != parts[place]).find(|other| {
                     let mut changed = parts.clone();
-                    changed[place] = other.to_string();
-                    self.try_it(self.with(name, changed.concat().into_bytes()), self.best.words.clone())
+                    changed[place] = other.clone();
+                    self.takes_text(name, &changed)
                 });
                 match smaller {
-                    Some(other) => parts[place] = other.to_string(),
-                    None => break,
+                    Some(other) if number > 0 => parts[place] = other,
+                    _ => break,
                 }
             }
         }
@@ -128,11 +193,28 @@ impl Shrinker<'_> {
     fn zeros(&mut self, name: &str) {
         let length = self.best.files[name].len() / 4 * 4;
         for place in (0..length).step_by(4) {
-            let mut bytes = self.best.files[name].clone();
+            let mut files = self.best.files.clone();
+            let Some(bytes) = files.get_mut(name) else { return };
             if bytes[place..place + 4] != [0; 4] {
                 bytes[place..place + 4].fill(0);
-                self.try_it(self.with(name, bytes), self.best.words.clone());
+                self.takes(files, self.best.words.clone());
             }
         }
     }
+}
+
+/// Where the parenthesis that opens here is closed.
+fn closing(parts: &[String], place: usize) -> Option<usize> {
+    let mut depth = 0;
+    for (number, part) in parts.iter().enumerate().skip(place) {
+        match part.as_str() {
+            "(" => depth += 1,
+            ")" => depth -= 1,
+            _ => {}
+        }
+        if depth == 0 {
+            return (number > place).then_some(number);
+        }
+    }
+    None
 }

@@ -125,19 +125,26 @@ pub fn spoil_list(random: &mut Random, list: &mut Vec<u8>) {
         }
         3 => list.extend(list.clone()),
         4 => list.clear(),
-        5 => list.extend_from_slice(random.pick(&["p0 s0 0\n", "p0 s0 01\n", "p0 s0\n", " p0 s0 1\n", "p0 s0 1000001\n", "  ", "p0 nothere 1\n"]).as_bytes()),
+        5 => list.extend_from_slice(
+            random
+                .pick(&["p0 s0 0\n", "p0 s0 01\n", "p0 s0\n", " p0 s0 1\n", "p0 s0 1000001\n", "  ", "p0 nothere 1\n"])
+                .as_bytes(),
+        ),
         _ => {
             list.splice(0..0, random.pick(&["\n", " \r\n", "\r\n\n", "\t"]).bytes());
         }
     }
 }
 
-const TOKENS: [&str; 58] = [
-    "input", "output", "const", "fn", "return", "let", "rec", "by", "for", "in", "cat", "signed", ":", ";", "=", "(", ")",
-    "[", "]", "{", "}", ",", "..", "@", "?", "+", "-", "*", "/", "%", "&", "|", "^", "~", "<<", ">>", "==", "!=", "<",
-    "<=", ">", ">=", "0", "1", "x", "8", "128", "129", "257", "18446744073709551615", "18446744073709551616", "0x", "0xFf",
-    "08x", "$", ".", "//", "\n",
-];
+const TOKENS: &str =
+    "input output const fn return let rec by for in cat signed : ; = ( ) [ ] { } , .. @ ? + - * / % & | ^ ~ << >> == \
+     != < <= > >= 0 1 x 8 128 129 257 18446744073709551615 18446744073709551616 0x 0xFf 08x $ . //";
+
+/// One of the words of a text.
+fn word_of<'t>(random: &mut Random, text: &'t str) -> &'t str {
+    let words: Vec<&str> = text.split_ascii_whitespace().collect();
+    random.pick::<&str>(&words)
+}
 
 /// A program with some changes, mostly wrong.
 pub fn changed(random: &mut Random, text: &str) -> Vec<u8> {
@@ -167,8 +174,8 @@ fn change(random: &mut Random, tokens: &mut Vec<String>) {
         0 => {
             tokens.remove(place);
         }
-        1 => tokens.insert(place, random.pick(&TOKENS).to_string()),
-        2 => tokens[place] = random.pick(&TOKENS).to_string(),
+        1 => tokens.insert(place, word_of(random, TOKENS).to_string()),
+        2 => tokens[place] = word_of(random, TOKENS).to_string(),
         3 => tokens.swap(place, other),
         4 => tokens[place] = tokens[other].clone(),
         5 => tokens.truncate(place),
@@ -183,7 +190,7 @@ fn change(random: &mut Random, tokens: &mut Vec<String>) {
 /// Puts another token of the same kind in the place of one, or moves a line: the grammar mostly holds.
 fn exchange(random: &mut Random, tokens: &mut Vec<String>) {
     const OPERATORS: [&str; 10] = ["+", "-", "*", "&", "|", "^", "<<", ">>", "<", "=="];
-    const NUMBERS: [&str; 12] = ["0", "1", "2", "7", "8", "9", "64", "128", "129", "256", "257", "18446744073709551615"];
+    const NUMBERS: &str = "0 1 2 7 8 9 64 128 129 256 257 18446744073709551615";
     if tokens.is_empty() {
         return;
     }
@@ -194,10 +201,14 @@ fn exchange(random: &mut Random, tokens: &mut Vec<String>) {
     let names: Vec<String> = tokens.iter().filter(|token| is_name(token) && token.len() < 6).cloned().collect();
     // A token that something can stand for, if one is near.
     let from = random.below(tokens.len());
-    let Some(place) = (from..tokens.len()).find(|place| !tokens[*place].trim().is_empty() && !";:=(){}[],@.".contains(&tokens[*place])) else { return };
+    let Some(place) = (from..tokens.len())
+        .find(|place| !tokens[*place].trim().is_empty() && !";:=(){}[],@.".contains(&tokens[*place]))
+    else {
+        return;
+    };
     let token = tokens[place].clone();
     tokens[place] = match () {
-        _ if token.parse::<u64>().is_ok() => random.pick(&NUMBERS).to_string(),
+        _ if token.parse::<u64>().is_ok() => word_of(random, NUMBERS).to_string(),
         _ if OPERATORS.contains(&token.as_str()) => random.pick(&OPERATORS).to_string(),
         _ if names.contains(&token) => random.pick(&names).clone(),
         _ => token,
@@ -229,7 +240,10 @@ pub fn split(text: &str) -> Vec<String> {
     let mut parts: Vec<String> = Vec::new();
     let mut before = 3;
     for letter in text.chars() {
-        let is_pair = matches!((parts.last().map(String::as_str), letter), (Some("<"), '<') | (Some(">"), '>') | (Some("."), '.') | (Some("<" | ">" | "=" | "!"), '='));
+        let is_pair = matches!(
+            (parts.last().map(String::as_str), letter),
+            (Some("<"), '<') | (Some(">"), '>') | (Some("."), '.') | (Some("<" | ">" | "=" | "!"), '=')
+        );
         match parts.last_mut() {
             Some(last) if (kind(letter) == before && before < 2) || is_pair => last.push(letter),
             _ => parts.push(letter.to_string()),
@@ -241,23 +255,31 @@ pub fn split(text: &str) -> Vec<String> {
 
 /// The words of a command line that is mostly wrong.
 pub fn words(random: &mut Random) -> Vec<String> {
-    const WORDS: [&str; 52] = [
-        "run", "trace", "compile", "exec", "eval", "show", "gen", "migrate", "share", "checkpoint", "move", "extend", "p", "s",
-        "c", "m", "st", "list", "nothere", ".", "1", "3", "016", "256", "257", "+3", "1001", "-", "--", "--stripes", "--stripes=4",
-        "--stripes=", "--stall", "--stall=st", "--fabric", "--fabric=wide", "--fabric=base", "--fabric=Wide", "base", "wide",
-        "--narrow", "--narrow=1", "--narro", "-n", "-h", "--help", "-V", "--version", "", "help", "--stripes 3", "-1",
-    ];
+    const WORDS: &str =
+        "run trace compile exec eval show gen migrate share checkpoint move extend p s c m st list nothere . 1 3 016 \
+         256 257 +3 1001 - -- --stripes --stripes=4 --stripes= --stall --stall=st --fabric --fabric=wide --fabric=base \
+         --fabric=Wide base wide --narrow --narrow=1 --narro -n -h --help -V --version help -1";
+    const CALLS: [&str; 8] =
+        ["run p s", "compile p", "exec c s", "show c", "gen 2", "move m s", "eval p s", "share list"];
     let mut words: Vec<String> = Vec::new();
     if random.percent(70) {
-        let modes = [&["run", "p", "s"][..], &["compile", "p"], &["exec", "c", "s"], &["show", "c"], &["gen", "2"], &["move", "m", "s"], &["eval", "p", "s"], &["share", "list"]];
-        words.extend(random.pick(&modes).iter().map(|word| word.to_string()));
+        words.extend(random.pick(&CALLS).split(' ').map(str::to_string));
     }
     for _ in 0..random.weighted(&[(3, 1), (3, 2), (2, 4), (1, 8)]) {
         let place = random.below(words.len() + 1);
-        words.insert(place, random.pick(&WORDS).to_string());
+        let word = if random.percent(3) { "" } else { word_of(random, WORDS) };
+        words.insert(place, word.to_string());
     }
     if random.percent(20) && !words.is_empty() {
         words.remove(random.below(words.len()));
     }
     words
+}
+
+/// Makes a text as long as a limit, or a byte longer or shorter, by a byte that changes nothing.
+pub fn padded(random: &mut Random, text: &[u8], limit: usize, with: u8) -> Vec<u8> {
+    let length = random.from_to(limit - 1, limit + 1);
+    let mut text = text.to_vec();
+    text.resize(length.max(text.len()), with);
+    text
 }

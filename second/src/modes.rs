@@ -148,9 +148,7 @@ pub fn generated(turns: u64, stripes: usize, target: Target) -> Result<String, R
     let stages = configuration.stages.len();
     let cycles = cycles(1000, stages as u64, stripes as u64);
     let (first, last) = (lines.lines().next().unwrap_or(""), lines.lines().last().unwrap_or(""));
-    Ok(format!(
-        "k {turns} units {units} stages {stages} samples 1000 cycles {cycles} first {first} last {last}\n"
-    ))
+    Ok(format!("k {turns} units {units} stages {stages} samples 1000 cycles {cycles} first {first} last {last}\n"))
 }
 
 /// Lines of programs in turns, each with its program's number before it.
