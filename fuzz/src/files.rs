@@ -173,3 +173,19 @@ fn edge(random: &mut Random) -> u32 {
         any & 0xFFFF,
     ])
 }
+
+#[cfg(test)]
+mod tests {
+    use super::*;
+    use second::configuration::{read, read_mark};
+
+    #[test]
+    fn random_configurations_keep_the_rules_of_both_formats() {
+        for case in 0..200 {
+            let made = configuration(&mut Random::of_case(3, case));
+            assert_eq!(read(&made.write()).as_ref(), Ok(&made));
+            assert_eq!(read(&made.write_first()).as_ref(), Ok(&made));
+            assert_eq!(read_mark(&made.write_mark(case)), Ok((case, made)));
+        }
+    }
+}

@@ -29,7 +29,8 @@ pub fn program(random: &mut Random) -> Program {
     for _ in 0..maker.random.weighted(&[(6, 1), (3, 2), (1, 5)]) {
         maker.output();
     }
-    Program { text: maker.items.concat(), fabric }
+    let text = maker.items.concat();
+    Program { text: if random.percent(10) { spaced(random, &text) } else { text }, fabric }
 }
 
 /// A stream that can be named, and its width.
@@ -400,10 +401,10 @@ impl Maker<'_> {
     /// What stands after `@`, of this number at least.
     fn delay(&mut self, least: usize) -> String {
         let number = self.random.weighted(&[(10, 1), (5, 2), (3, 3), (1, 0), (1, 5), (1, 9)]).max(least) as u64;
-        if self.random.percent(90) {
-            number.to_string()
-        } else {
-            format!("({})", self.fixed(number))
+        match self.random.below(10) {
+            0 => format!("({})", self.fixed(number)),
+            1 if !self.scope.indices.is_empty() => self.random.pick(&self.scope.indices).0.clone(),
+            _ => number.to_string(),
         }
     }
 
@@ -439,7 +440,10 @@ impl Maker<'_> {
             4 if !self.scope.tables.is_empty() => {
                 let (name, length) = self.random.pick(&self.scope.tables).clone();
                 let place = self.random.below(length) as u64;
-                format!("{name}[{}]", self.fixed(place))
+                match self.scope.indices.last() {
+                    Some((index, _)) if place > 0 => format!("{name}[({index} + {place}) % {length}]"),
+                    _ => format!("{name}[{}]", self.fixed(place)),
+                }
             }
             5 if !self.scope.indices.is_empty() => self.random.pick(&self.scope.indices).0.clone(),
             6 if own.is_some() => format!("{}@{}", own.unwrap_or_default(), self.delay(1)),
@@ -534,6 +538,8 @@ impl Maker<'_> {
         match self.random.below(8) {
             0 => format!("({} + {})", by / 2, by - by / 2),
             1 => format!("({by} * 1)"),
+            2 if !self.scope.indices.is_empty() => self.random.pick(&self.scope.indices).0.clone(),
+            3 if !self.scope.consts.is_empty() => self.random.pick(&self.scope.consts).0.clone(),
             _ => by.to_string(),
         }
     }
@@ -571,6 +577,19 @@ impl Maker<'_> {
     }
 }
 
+/// The text with comments and other blanks.
+fn spaced(random: &mut Random, text: &str) -> String {
+    let mut spaced = String::new();
+    for letter in text.chars() {
+        if letter.is_ascii_whitespace() && random.percent(30) {
+            spaced += random.pick::<&str>(&["\r\n", "\t", "  ", " // + ( let\n", "\n//\n", "\r"]);
+        } else {
+            spaced.push(letter);
+        }
+    }
+    spaced
+}
+
 /// Outputs that show the streams, with names that no program here has.
 fn shown(names: &[String]) -> String {
     names.iter().enumerate().map(|(place, name)| format!("output zz{place} = {name};\n")).collect()
@@ -606,5 +625,21 @@ fn at_a_limit(random: &mut Random) -> String {
             let declared = random.from_to(1, 130);
             format!("input x:{};\nrec s:{declared} = 0 by s@{} + x;\noutput y = s;\n", near(128).min(129), near(256))
         }
+    }
+}
+
+#[cfg(test)]
+mod tests {
+    use super::*;
+
+    #[test]
+    fn most_programs_are_compiled_and_each_comes_again() {
+        let compiled = |case: &u64| {
+            let made = program(&mut Random::of_case(9, *case));
+            assert_eq!(made.text, program(&mut Random::of_case(9, *case)).text);
+            let target = second::Target { fabric: made.fabric, narrowed: false };
+            second::compile(made.text.as_bytes(), target).is_ok()
+        };
+        assert!((0..100).filter(compiled).count() > 75);
     }
 }

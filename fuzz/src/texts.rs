@@ -283,3 +283,25 @@ pub fn padded(random: &mut Random, text: &[u8], limit: usize, with: u8) -> Vec<u
     text.resize(length.max(text.len()), with);
     text
 }
+
+#[cfg(test)]
+mod tests {
+    use super::*;
+
+    #[test]
+    fn split_loses_nothing() {
+        for (text, count) in [("", 0), ("a<<b", 3), ("t[i-1]  ==x", 9), ("0..9;\n", 5), ("a @1", 4)] {
+            let parts = split(text);
+            assert_eq!((parts.concat().as_str(), parts.len()), (text, count));
+        }
+    }
+
+    #[test]
+    fn padded_texts_are_as_long_as_the_limit_or_a_byte_beside() {
+        let mut random = Random::of_case(1, 2);
+        for _ in 0..20 {
+            let text = padded(&mut random, b"ab", 10, b' ');
+            assert!(text.starts_with(b"ab") && (9..=11).contains(&text.len()));
+        }
+    }
+}
