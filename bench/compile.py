@@ -1,12 +1,13 @@
 #!/usr/bin/env python3
-"""Times `compile` and a second compiler of the same passes in plain Rust (compiler/), and compares their configuration files.
+"""Times `compile` of the program and of a second one in plain Rust (second/, beside this folder), and compares their configuration
+files.
 
     bench/compile.py [RUNS]         the best of so many runs of each, 7 where none is said
 
 It compares first what both make of every program under examples/, on both fabrics, narrowed and not: files, notes and statuses.
 Then it prints for generated programs of 300 to 32,000 units the processor time of each (user and system, the process's start
 included) and their ratio: below 2 the program takes less than twice the plain one's time. Their files have to be the same, byte by
-byte. It wants the built program (crates/piperench/out/piperench, or the one in PIPERENCH) and `rustc`, or the compiler in RUSTC."""
+byte. It wants the built program (crates/piperench/out/piperench, or the one in PIPERENCH) and `cargo`, or the one in CARGO."""
 
 import os
 import pathlib
@@ -15,7 +16,7 @@ import subprocess
 import sys
 import tempfile
 
-from compare import HERE, ROOT, TOOL
+from compare import ROOT, TOOL
 
 SIZES = [300, 1000, 3000, 10000, 32000]
 # The most units that one equation for each allows.
@@ -104,15 +105,22 @@ def differing_examples(plain):
             for narrow in [[], ["--narrow"]]:
                 words = [program, "--fabric", fabric] + narrow
                 count += 1
-                if answer_of([TOOL, "compile"] + words) != answer_of([plain] + words):
+                if answer_of([TOOL, "compile"] + words) != answer_of([plain, "compile"] + words):
                     different.append(" ".join(map(str, words)))
     print(f"{count} calls on examples, {len(different)} differ", *different, sep="\n  ", flush=True)
     return bool(different)
 
 
-def units_of(program, options):
+def units_of(plain, words):
     """How many units there are, by the plain compiler."""
-    return int(subprocess.run([program, *options], capture_output=True, text=True, check=True).stdout)
+    return int(subprocess.run([plain, "units", *words], capture_output=True, text=True, check=True).stdout)
+
+
+def built_second():
+    """The plain compiler, built."""
+    folder = ROOT / "second"
+    subprocess.run([os.environ.get("CARGO", "cargo"), "build", "--release", "--offline", "--quiet"], cwd=folder, check=True)
+    return folder / "target" / "release" / "second"
 
 
 def main():
@@ -122,17 +130,15 @@ def main():
     resource.setrlimit(resource.RLIMIT_STACK, (1 << 30 if most == resource.RLIM_INFINITY else min(1 << 30, most), most))
     with tempfile.TemporaryDirectory() as folder:
         work = pathlib.Path(folder)
-        plain, program = work / "plain", work / "program.dil"
-        source = HERE / "compiler" / "main.rs"
-        subprocess.run([os.environ.get("RUSTC", "rustc"), "-O", "--edition", "2021", source, "-o", plain], check=True)
+        plain, program = built_second(), work / "program.dil"
         failed = differing_examples(plain)
         print(f"{'program':20} {'units':>6} {'program, ms':>12} {'plain, ms':>10} {'ratio':>6}")
         for name, options, text_of in WORKLOADS:
             seen = set()
             for size in SIZES:
                 program.write_text(text_of(size) + "\n")
-                ours, theirs = [TOOL, "compile", program] + options, [plain, program] + options
-                units = units_of(plain, [program, "--units"] + options)
+                ours, theirs = [TOOL, "compile", program] + options, [plain, "compile", program] + options
+                units = units_of(plain, [program] + options)
                 if units in seen:
                     continue
                 seen.add(units)

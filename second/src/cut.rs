@@ -1,6 +1,7 @@
 //! From equations to units of cells: a value has a slice for each byte, and a unit is a row of cells that stand side by side.
 
 use crate::equation::{bits_of, Arg, Equation, Flat, Op, Operand};
+use crate::plant::{self, Plant};
 use crate::tree::BinaryOp;
 use crate::width::{natural, GREATEST};
 use crate::{Fabric, Refusal};
@@ -140,7 +141,7 @@ impl Net {
 
     fn begin(&mut self) -> Result<(), Refusal> {
         if self.starts.len() == UNITS {
-            return Err(Refusal::Limit("units", UNITS));
+            return Err(Refusal::Limit("units", UNITS as u64));
         }
         self.group_of.push(self.starts.len() as u32);
         self.starts.push(self.cells.len() as u32);
@@ -180,6 +181,9 @@ impl Net {
             slices.push(self.push(cell));
             if place % SEGMENT == SEGMENT - 1 && place + 1 < count {
                 carry = self.close(C);
+                if plant::is(Plant::CarryLost) {
+                    carry = ZERO;
+                }
             }
         }
         Ok(slices)
@@ -256,10 +260,10 @@ pub fn cut(flat: &Flat, widths: &[u32], fabric: Fabric) -> Cut<Net> {
         flat.equations.iter().zip(widths).filter(|(e, _)| e.op == Op::Input).map(|(_, w)| *w).collect();
     let bytes: usize = inputs.iter().map(|width| slices_of(*width)).sum();
     if bytes > fabric.columns {
-        return Err(Refusal::Limit("input-bytes", fabric.columns));
+        return Err(Refusal::Limit("input-bytes", fabric.columns as u64));
     }
     if flat.outputs.len() > OUTPUTS {
-        return Err(Refusal::Limit("outputs", OUTPUTS));
+        return Err(Refusal::Limit("outputs", OUTPUTS as u64));
     }
     let net = Net { cells: vec![], starts: vec![], unit_of: vec![], group_of: vec![], inputs, outputs: vec![] };
     let values = vec![Vec::new(); flat.equations.len()];
@@ -382,6 +386,7 @@ impl<'f> Cutter<'f> {
             for cell in net.cells_of(unit) {
                 for wire in net.cells[cell].wires_mut() {
                     if let Wire::Past { by, byte } = *wire {
+                        let by = if plant::is(Plant::PastTooNear) { (by - 1).max(1) } else { by };
                         *wire = Wire::State(held + (u32::from(by) - 1) * slices as u32 + u32::from(byte));
                         joins = true;
                     }
@@ -490,7 +495,7 @@ fn widened<'v>(net: &mut Net, signed: bool, a: Given<'v>, b: Given<'v>, bits: u3
 /// A signed value with copies of its sign up to so many bits. Others keep their slices.
 fn widen<'v>(net: &mut Net, given: Given<'v>, bits: u32) -> Cut<Given<'v>> {
     let width = bits.max(given.signed_width());
-    if !given.signed || bits <= given.width {
+    if !given.signed || bits <= given.width || plant::is(Plant::SignForgotten) {
         return Ok(Given { width, ..given });
     }
     let kept = (given.width / 8) as usize;
@@ -596,7 +601,8 @@ fn shifted(net: &mut Net, is_up: bool, signed: bool, a: Given, by: &Given, bits:
     let sign = a.sign();
     let turns = signed && !is_up;
     let mut row = if turns { flip(net, &a, sign)? } else { a };
-    for step in 0..by.width {
+    let missed = u32::from(plant::is(Plant::ShiftBitMissed));
+    for step in 0..by.width - missed {
         let c = Third::Bit(by.byte((step / 8) as usize), (step % 8) as u8);
         let distance =
             Some(step).filter(|step| *step <= 6).map(|step| 1 << step).filter(|distance| *distance < row.width);

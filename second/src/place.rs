@@ -1,6 +1,7 @@
 //! The greedy rule: stages are filled one after the other, and each group goes to the least columns where it fits.
 
 use crate::cut::{Net, Wire};
+use crate::plant::{self, Plant};
 use crate::{Fabric, Refusal};
 use std::cmp::Reverse;
 use std::collections::{BTreeSet, BinaryHeap, HashMap};
@@ -267,10 +268,11 @@ impl Placer<'_> {
 
     fn release_operands(&mut self, group: u32) -> bool {
         let mut opens = false;
+        let still_read = u32::from(plant::is(Plant::RegisterFreedEarly));
         for cell in self.groups.cells.of(group) {
             for read in reads(self.net, *cell) {
                 self.groups.uses[read as usize] -= 1;
-                if self.groups.uses[read as usize] == 0 {
+                if self.groups.uses[read as usize] <= still_read {
                     self.columns.release(self.placement.homes[read as usize]);
                     opens = true;
                 }

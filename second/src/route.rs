@@ -1,57 +1,32 @@
-//! The configuration file, in the second format: big-endian words, and for each stage the words of its working columns alone.
+//! From a net with its placement to the configuration: each wire becomes the source of its home.
 
+use crate::configuration::{Configuration, Output, Words};
 use crate::cut::{Cell, Net, Third, Wire};
 use crate::place::{Home, Placement};
 use crate::Fabric;
 
-const MAGIC: u32 = 0x5049_5032;
 const PREV: u32 = 0x1000;
 const HERE: u32 = 0x2000;
 const STATE: u32 = 0x3000;
 const BUS: u32 = 0x4000;
 
-pub fn file(net: &Net, placement: &Placement, fabric: Fabric) -> Vec<u8> {
-    let mut file = File { net, homes: &placement.homes, bytes: Vec::with_capacity(net.cells.len() * 16 + 4096) };
-    file.head(placement.stages, fabric);
-    let mut stages = vec![u32::MAX; placement.stages * fabric.columns];
-    for (cell, home) in placement.homes.iter().enumerate() {
-        stages[home.stage as usize * fabric.columns + home.column as usize] = cell as u32;
+pub fn configuration(net: &Net, placement: &Placement, fabric: Fabric) -> Configuration {
+    let router = Router { net, homes: &placement.homes };
+    let mut stages = vec![vec![[0; 4]; fabric.columns]; placement.stages];
+    for (number, (cell, home)) in net.cells.iter().zip(router.homes).enumerate() {
+        stages[home.stage as usize][home.column as usize] = router.words(number as u32, cell);
     }
-    for stage in stages.chunks(fabric.columns) {
-        file.stage(stage);
-    }
-    file.bytes
+    let tap = |slice: &Wire| router.passed(*slice) as u16;
+    let output = |(width, slices): &(u32, Vec<Wire>)| Output { width: *width, taps: slices.iter().map(tap).collect() };
+    Configuration { fabric, inputs: net.inputs.clone(), outputs: net.outputs.iter().map(output).collect(), stages }
 }
 
-struct File<'n> {
+struct Router<'n> {
     net: &'n Net,
     homes: &'n [Home],
-    bytes: Vec<u8>,
 }
 
-impl File<'_> {
-    fn word(&mut self, word: u32) {
-        self.bytes.extend_from_slice(&word.to_be_bytes());
-    }
-
-    fn head(&mut self, stages: usize, fabric: Fabric) {
-        let net = self.net;
-        self.word(MAGIC);
-        self.word((fabric.columns * 65536 + fabric.registers) as u32);
-        self.word(stages as u32);
-        self.word(net.inputs.len() as u32);
-        for width in &net.inputs {
-            self.word(*width);
-        }
-        self.word(net.outputs.len() as u32);
-        for (width, slices) in &net.outputs {
-            self.word(*width);
-            for slice in slices {
-                self.word(self.passed(*slice));
-            }
-        }
-    }
-
+impl Router<'_> {
     fn home(&self, cell: u32) -> Home {
         self.homes[cell as usize]
     }
@@ -83,22 +58,7 @@ impl File<'_> {
         }
     }
 
-    fn stage(&mut self, columns: &[u32]) {
-        let place = self.bytes.len();
-        self.word(0);
-        let mut map = 0u32;
-        for (column, number) in columns.iter().enumerate() {
-            let Some(cell) = self.net.cells.get(*number as usize) else { continue };
-            let words = self.words(*number, cell);
-            if words != [0; 4] {
-                map |= 1 << column;
-                words.into_iter().for_each(|word| self.word(word));
-            }
-        }
-        self.bytes[place..place + 4].copy_from_slice(&map.to_be_bytes());
-    }
-
-    fn words(&self, number: u32, cell: &Cell) -> [u32; 4] {
+    fn words(&self, number: u32, cell: &Cell) -> Words {
         let (third, kind, bit) = match cell.c {
             Third::None => (0, 0, 0),
             Third::Bit(wire, bit) => (self.source(number, wire), 1, u32::from(bit)),

@@ -94,3 +94,9 @@ impl Solver<'_> {
         None
     }
 }
+
+/// The widths of the inputs, in their order.
+pub fn of_inputs(flat: &Flat, widths: &[u32]) -> Vec<u32> {
+    let inputs = flat.equations.iter().zip(widths).filter(|(equation, _)| equation.op == Op::Input);
+    inputs.map(|(_, width)| *width).collect()
+}

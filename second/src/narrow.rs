@@ -2,6 +2,7 @@
 //! asked for.
 
 use crate::equation::{bits_of, Arg, Equation, Flat, Op, Operand};
+use crate::plant::{self, Plant};
 use crate::tree::BinaryOp;
 use crate::width::{natural, GREATEST};
 
@@ -168,7 +169,8 @@ fn demands(flat: &Flat, widths: &[u32]) -> Vec<u32> {
                 Operand::Const(number) => bits_of(number),
                 Operand::Eq(place) | Operand::Past { rec: place, .. } => widths[place as usize],
             });
-            let bits = bits.max(1).next_multiple_of(8).min(widths[asked]);
+            let unit = if plant::is(Plant::DemandNotRounded) { 1 } else { 8 };
+            let bits = bits.max(1).next_multiple_of(unit).min(widths[asked]);
             if bits > demands[asked] {
                 demands[asked] = bits;
                 // A recurrence stands later: its body is asked again.

@@ -163,7 +163,7 @@ pub fn check(program: &[Item]) -> Result<Statics<'_>, Refusal> {
     for (place, item) in program.iter().enumerate() {
         walk.item(place + 1, item).map_err(|offence| match offence {
             Offence::Rule(rule) => Refusal::Scope { rule, item: place },
-            Offence::Turns => Refusal::Limit("turns", TURNS as usize),
+            Offence::Turns => Refusal::Limit("turns", TURNS.into()),
         })?;
     }
     let has_input = program.iter().any(|item| matches!(item, Item::Input { .. }));

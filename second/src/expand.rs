@@ -1,6 +1,7 @@
 //! From the tree to flat equations: loops unrolled, and functions walked where they are called.
 
 use crate::equation::{Arg, Equation, Flat, Op, Operand};
+use crate::plant::{self, Plant};
 use crate::scope::{Instance, Offence, Static, Statics, View};
 use crate::token::Name;
 use crate::tree::*;
@@ -77,7 +78,7 @@ impl Maker<'_, '_> {
     fn push(&mut self, op: Op, args: &[Arg], declared: Option<u32>) -> Made<Arg> {
         let place = self.flat.equations.len();
         if place == EQUATIONS {
-            return Err(Refusal::Limit("equations", EQUATIONS));
+            return Err(Refusal::Limit("equations", EQUATIONS as u64));
         }
         let equation = Equation::new(op, args, declared);
         self.flat.equations.push(equation);
@@ -245,12 +246,13 @@ impl Maker<'_, '_> {
 
     /// The operand one sample ago: the equation that is there already, or a new one.
     fn delayed(&mut self, operand: Operand, initial: u64) -> Made<Operand> {
-        if let Some(&there) = self.delays.get(&(operand, initial)) {
+        let key = (operand, if plant::is(Plant::DelaysMixed) { 0 } else { initial });
+        if let Some(&there) = self.delays.get(&key) {
             return Ok(Operand::Eq(there));
         }
         let there = self.flat.equations.len() as u32;
         self.push(Op::Delay(initial), &[unsigned(operand)], None)?;
-        self.delays.insert((operand, initial), there);
+        self.delays.insert(key, there);
         Ok(Operand::Eq(there))
     }
 
