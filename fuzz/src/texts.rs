@@ -5,7 +5,7 @@ use crate::random::Random;
 /// Lines of samples for inputs of these widths; a bad one among them now and then.
 pub fn samples(random: &mut Random, widths: &[u32], most: usize) -> Vec<u8> {
     let count = random.below(most + 1);
-    let bad = if random.percent(12) { random.below(count + 1) } else { usize::MAX };
+    let bad = if random.percent(20) { random.below(count + 1) } else { usize::MAX };
     let is_plain = random.percent(60);
     let mut text = Vec::new();
     for number in 0..count {
@@ -70,13 +70,13 @@ fn number(random: &mut Random, width: u32) -> u128 {
 /// Makes a line of samples wrong, or nearly so.
 fn spoil(random: &mut Random, line: &mut Vec<u8>) {
     let place = random.below(line.len() + 1);
-    match random.below(8) {
+    match random.below(9) {
         0 => line.clear(),
         1 => line.truncate(place.saturating_sub(1)),
         2 => line.extend_from_slice(b" 1"),
         3 => line.extend_from_slice(b"9999999999999999999999999999999999999999"),
         4 => line.insert(place, *random.pick(b"x+-.,_\r\x00\x0b\xff:")),
-        5 => line.insert(0, b'+'),
+        5 | 8 => line.insert(0, b'+'),
         6 => line.insert(0, b'-'),
         _ => line.insert(place, b'9'),
     }
