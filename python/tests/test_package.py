@@ -23,7 +23,7 @@ class Installing(unittest.TestCase):
             python = str(Path(folder, "bin", "python"))
             for words in ([str(ROOT)], ["-e", str(ROOT)]):
                 made = subprocess.run(
-                    [python, "-m", "pip", "install", "--no-index", "--force-reinstall", *words], capture_output=True, text=True
+                    [python, "-m", "pip", "install", "--no-index", "--no-compile", "--force-reinstall", *words], capture_output=True, text=True
                 )
                 self.assertEqual(made.returncode, 0, made.stderr)
                 told = subprocess.run(
