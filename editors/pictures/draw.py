@@ -1,4 +1,7 @@
-"""Turns a screen of a terminal, as `tmux capture-pane -e -p` writes it, into a picture: draw.py COLUMNS TITLE <screen >picture.svg"""
+"""Turns a screen of a terminal, as `tmux capture-pane -e -p` writes it, into a picture.
+
+draw.py COLUMNS TITLE <screen >picture.svg
+"""
 
 import re
 import sys

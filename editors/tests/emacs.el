@@ -85,7 +85,8 @@ So it is.
                  '(("rec" . font-lock-keyword-face) ("s_1" . font-lock-variable-name-face) ("8" . font-lock-constant-face)
                    ("0x1F" . font-lock-constant-face) ("by" . font-lock-keyword-face) ("cat" . font-lock-builtin-face)
                    ("1" . font-lock-constant-face) ("f" . font-lock-function-name-face) ("2" . font-lock-constant-face)
-                   ("8x" . font-lock-warning-face) ("// " . font-lock-comment-delimiter-face) ("for\n" . font-lock-comment-face)))))
+                   ("8x" . font-lock-warning-face) ("// " . font-lock-comment-delimiter-face)
+                   ("for\n" . font-lock-comment-face)))))
 
 (ert-deftest dil-test-indentation ()
   (with-temp-buffer

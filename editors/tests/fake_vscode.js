@@ -73,6 +73,23 @@ class EventEmitter {
     }
 }
 
+/** Of work that can be cancelled, which the user then does after a while. */
+class Token {
+    isCancellationRequested = false;
+
+    onCancellationRequested(listener) {
+        if (user.cancels) {
+            setTimeout(() => {
+                this.isCancellationRequested = true;
+                listener();
+            }, 300);
+        }
+        return { dispose: () => {} };
+    }
+}
+
+class CancellationError extends Error {}
+
 class Document {
     constructor(name, text, scheme = 'file') {
         this.uri = new Uri(scheme, name);
@@ -98,7 +115,8 @@ class Document {
 }
 
 const events = Object.fromEntries(['open', 'change', 'save', 'close', 'configuration'].map((name) => [name, new EventEmitter()]));
-const noted = { warnings: [], errors: [], informations: [], picks: [], terminals: [], opened: [], executed: [], diagnostics: new Map() };
+const lists = ['warnings', 'errors', 'informations', 'picks', 'terminals', 'opened', 'executed'];
+const noted = { ...Object.fromEntries(lists.map((name) => [name, []])), diagnostics: new Map() };
 const contents = new Map();
 const commands = new Map();
 const hovers = [];
@@ -109,8 +127,9 @@ const user = {
     // The label of the next item to pick, and the file of the next dialog.
     picks: undefined,
     file: undefined,
-    // The button to press at a message.
+    // The button to press at a message, and whether to cancel what shows its progress.
     presses: undefined,
+    cancels: false,
     open(name, text, scheme) {
         if (scheme === undefined) {
             fs.writeFileSync(name, text);
@@ -158,6 +177,7 @@ const message = (list) => async (text) => {
 };
 
 const vscode = {
+    CancellationError,
     Diagnostic,
     EventEmitter,
     Hover,
@@ -191,7 +211,10 @@ const vscode = {
             contents.set(scheme, provider);
             return { dispose: () => {} };
         },
-        openTextDocument: async (uri) => new Document(uri.path, contents.get(uri.scheme).provideTextDocumentContent(uri), uri.scheme),
+        openTextDocument: async (uri) => {
+            const text = contents.get(uri.scheme).provideTextDocumentContent(uri);
+            return new Document(uri.path, text, uri.scheme);
+        },
     },
     window: {
         activeTextEditor: undefined,
@@ -208,7 +231,7 @@ const vscode = {
             return { show: () => {} };
         },
         showTextDocument: async (document) => noted.opened.push(document),
-        withProgress: async (options, work) => work({}, { onCancellationRequested: () => ({ dispose: () => {} }) }),
+        withProgress: async (options, work) => work({}, new Token()),
     },
     commands: {
         registerCommand: (name, work) => {

@@ -1,5 +1,5 @@
-" Tries the files for Vim. `editors/check` starts it in an empty folder, with a stand-in for pipelens on the PATH that answers with
-" the file `answer` and notes its words in `words`. What is not as it is to be goes to the file `wrong`.
+" Tries the files for Vim. `editors/check` starts it in an empty folder, with a stand-in for pipelens on the PATH that answers
+" with the file `answer` and notes its words in `words`. What is not as it is to be goes to the file `wrong`.
 let s:vim = fnamemodify(expand('<sfile>:p:h'), ':h') . '/vim'
 execute 'set runtimepath^=' . fnameescape(s:vim)
 filetype plugin on
@@ -25,8 +25,8 @@ let s:refused = [
       \ '`z` is used | before it is assigned.',
       \ 'Assign it in an item before this one.',
       \ ]
-call assert_equal([['a program.dil', 2, 16, 'E',
-      \ "scope: rule 2 item 1\n`z` is used | before it is assigned.\nAssign it in an item before this one."]], s:make(s:refused, ''))
+let s:told = "scope: rule 2 item 1\n`z` is used | before it is assigned.\nAssign it in an item before this one."
+call assert_equal([['a program.dil', 2, 16, 'E', s:told]], s:make(s:refused, ''))
 call assert_equal([2, 16], [line('.'), col('.')])
 call assert_equal(['why', 'a program.dil'], readfile('words'))
 

@@ -74,7 +74,7 @@ beforeEach(() => {
     }
     fs.rmSync(path.join(place, 'calls'), { force: true });
     [...fake.vscode.workspace.textDocuments].forEach((document) => user.closes(document));
-    Object.assign(user, { savesNothing: false, picks: undefined, file: undefined, presses: undefined });
+    Object.assign(user, { savesNothing: false, picks: undefined, file: undefined, presses: undefined, cancels: false });
     fake.vscode.window.activeTextEditor = undefined;
     context.workspaceState.kept.clear();
     user.sets({ programs: bin });
@@ -136,7 +136,8 @@ test('a refused program is marked at its token, and explained there', async () =
 });
 
 test('warnings are shown as such, and go when they are mended', async () => {
-    finds(0, finding(1, 1, 6, 'unneeded', 'No output needs `x`.', 'warning'), finding(2, 1, 4, 'long-delay', 'So.\nTake x@1.', 'warning'));
+    const unneeded = finding(1, 1, 6, 'unneeded', 'No output needs `x`.', 'warning');
+    finds(0, unneeded, finding(2, 1, 4, 'long-delay', 'So.\nTake x@1.', 'warning'));
     const document = user.open(path.join(work, 'a.dil'), 'input x:8;\nlet y = x;\n');
     await untilShown(document);
     assert.deepStrictEqual(shown(document).map((one) => [one.severity, one.code]), [[1, 'unneeded'], [1, 'long-delay']]);
@@ -213,7 +214,9 @@ test('a missing pipelens is told once, and again once the settings change', asyn
         user.types(document, text);
         await pause(400);
     }
-    const text = `There is no program pipelens in ${bin}, which the setting dil.programs names. Install it, or set dil.programs to its folder.`;
+    const text =
+        `There is no program pipelens in ${bin}, which the setting dil.programs names. ` +
+        'Install it, or set dil.programs to its folder.';
     assert.deepStrictEqual(noted.warnings, [text]);
     user.presses = 'Open Settings';
     user.sets({ programs: bin });
@@ -364,6 +367,18 @@ test('a run that fails has no waveform', async () => {
     await user.calls('dil.wave');
     assert.deepStrictEqual([noted.errors, noted.executed], [['bad sample: line 1'], []]);
     assert.deepStrictEqual(fs.readdirSync(path.join(place, 'storage')), []);
+});
+
+test('a waveform is cancelled without a word', async () => {
+    standIn('piperench', 'exec sleep 20');
+    standIn('pipelens', '');
+    user.open(path.join(work, 'a.dil'), 'input x:8;');
+    Object.assign(user, { picks: 'Another file...', file: path.join(work, 'a.dil'), cancels: true });
+    const begun = Date.now();
+    await user.calls('dil.wave');
+    assert.ok(Date.now() - begun < 10000);
+    assert.deepStrictEqual([noted.errors, noted.executed], [[], []]);
+    assert.ok(!calls().some((call) => call.startsWith('pipelens wave')));
 });
 
 const grammar = JSON.parse(fs.readFileSync(path.join(__dirname, '../vscode/dil.tmLanguage.json'), 'utf8'));

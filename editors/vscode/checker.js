@@ -12,7 +12,7 @@ const settings = require('./settings');
 /** How long a text is left alone before it is looked at, in milliseconds. */
 const PAUSE = 300;
 
-/** Where documents to look at are: a file, and a text that has none yet. Others show an earlier state of a file, or another one. */
+/** The schemes of documents to look at: files, and texts that have none yet. Others show earlier states of a file. */
 const SCHEMES = ['file', 'untitled'];
 
 /** The statuses of `pipelens why` with which its findings are complete: accepted, and refused in one way or another. */
@@ -75,7 +75,8 @@ class Checker {
         if (here.length === 0) {
             return undefined;
         }
-        return new vscode.Hover(here.map((one) => new vscode.MarkdownString(one.explanation.join('\n\n'))), here[0].diagnostic.range);
+        const texts = here.map((one) => new vscode.MarkdownString(one.explanation.join('\n\n')));
+        return new vscode.Hover(texts, here[0].diagnostic.range);
     }
 
     /** Ends the call for a document, and a wait for one. */
@@ -116,7 +117,8 @@ async function why(document, call) {
         call.child = programs.start(lens, ['why', file, '--json', ...settings.fabric(document.uri)]);
         const answer = await programs.ended(call.child);
         if (!ANSWERED.includes(answer.status)) {
-            throw new programs.Unavailable(`pipelens gave no findings: ${answer.err.split('\n')[0] || answer.signal || answer.status}`);
+            const reason = answer.err.split('\n')[0] || answer.signal || answer.status;
+            throw new programs.Unavailable(`pipelens gave no findings: ${reason}`);
         }
         return answer.out;
     } finally {

@@ -49,7 +49,8 @@ async function savedProgram() {
 async function chosenSamples(program, memory) {
     const folder = path.dirname(program.fsPath);
     const key = `samples of ${program.fsPath}`;
-    const beside = fs.readdirSync(folder).filter((name) => /\.(txt|csv)$/.test(name)).map((name) => path.join(folder, name));
+    const names = fs.readdirSync(folder).filter((name) => /\.(txt|csv)$/.test(name));
+    const beside = names.map((name) => path.join(folder, name));
     const last = memory.get(key);
     const files = [...new Set([...(last && fs.existsSync(last) ? [last] : []), ...beside])];
     const other = { label: 'Another file...', file: undefined };
@@ -82,11 +83,17 @@ async function run(memory) {
     terminal.show(true);
 }
 
-/** Waits for a program of which the user can cancel the call. Throws Unavailable where it ends with another status than 0. */
+/**
+ * Waits for a program of which the user can cancel the call. Throws Unavailable where it ends with another status than 0, and
+ * CancellationError where the user cancelled it.
+ */
 async function answer(child, token) {
     const watch = token?.onCancellationRequested(() => child.kill());
     const { status, signal, out, err } = await programs.ended(child);
     watch?.dispose();
+    if (token?.isCancellationRequested) {
+        throw new vscode.CancellationError();
+    }
     if (status !== 0) {
         throw new programs.Unavailable(err.split('\n')[0] || `ended by ${signal ?? status}`);
     }
@@ -137,7 +144,9 @@ async function wave(memory, folder) {
         return;
     }
     const child = childProcess.spawn(viewer, [file], { detached: true, stdio: 'ignore' });
-    child.on('error', () => vscode.window.showErrorMessage(`The program ${viewer}, which dil.waveViewer names, cannot be started.`));
+    child.on('error', () => {
+        vscode.window.showErrorMessage(`The program ${viewer}, which dil.waveViewer names, cannot be started.`);
+    });
     child.unref();
 }
 
@@ -147,7 +156,9 @@ function told(work) {
         try {
             await work();
         } catch (error) {
-            vscode.window.showErrorMessage(error.message);
+            if (!(error instanceof vscode.CancellationError)) {
+                vscode.window.showErrorMessage(error.message);
+            }
         }
     };
 }

@@ -37,7 +37,9 @@ function activate(context) {
                 checkAll();
             }
         }),
-        vscode.languages.registerHoverProvider('dil', { provideHover: (document, position) => checker.hover(document, position) }),
+        vscode.languages.registerHoverProvider('dil', {
+            provideHover: (document, position) => checker.hover(document, position),
+        }),
     );
     commands.register(context);
     checkAll();
