@@ -1,7 +1,7 @@
 ;;; emacs.el --- Tries dil-mode  -*- lexical-binding: t; -*-
 
 ;; `editors/check' starts it in an empty folder, with a stand-in for pipelens on the PATH that answers with the file `answer' and
-;; notes its words in `words'.
+;; notes its words in `words', and perhaps the real one below `real'.
 
 (require 'ert)
 (require 'dil-mode)
@@ -65,6 +65,12 @@ So it is.
   (dil-test-file "input x:8;\n\toutput y = x;\n")
   (let ((places (dil-test-places dil-test-answer (lambda () (compile compile-command)))))
     (should (equal places '((1 7 warning) (2 9 error))))))
+
+(ert-deftest dil-test-real ()
+  (skip-unless (file-executable-p "real/pipelens"))
+  (dil-test-file "input x:8;\n\toutput y = x + z;\n")
+  (let ((dil-pipelens (expand-file-name "real/pipelens")))
+    (should (equal (dil-test-places "" #'dil-check) '((2 17 error))))))
 
 (defun dil-test-faces (text)
   "The words of TEXT that have a colour, each with its colour."

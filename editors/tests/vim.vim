@@ -1,5 +1,6 @@
 " Tries the files for Vim. `editors/check` starts it in an empty folder, with a stand-in for pipelens on the PATH that answers
-" with the file `answer` and notes its words in `words`. What is not as it is to be goes to the file `wrong`.
+" with the file `answer` and notes its words in `words`, and perhaps the real one below `real`. What is not as it is to be goes to
+" the file `wrong`.
 let s:vim = fnamemodify(expand('<sfile>:p:h'), ':h') . '/vim'
 execute 'set runtimepath^=' . fnameescape(s:vim)
 filetype plugin on
@@ -58,6 +59,18 @@ function s:colour(line, column)
 endfunction
 call assert_equal(['dilDeclare', 'dilNumber', 'dilComment'], [s:colour(1, 1), s:colour(1, 9), s:colour(1, 14)])
 call assert_equal(['dilOperator', 'dilOperator'], [s:colour(2, 10), s:colour(2, 14)])
+
+" The real pipelens finds the same, where it is at hand.
+if filereadable('real/pipelens')
+  let s:path = $PATH
+  let $PATH = getcwd() . '/real:' . $PATH
+  call delete('words')
+  let s:found = s:make([], '')
+  call assert_equal([1, ['a program.dil', 2, 16, 'E']], [len(s:found), s:found[0][:3]])
+  call assert_match("^scope: [^\n]*\n`z` is used before it is assigned\\.\n[^|^]*$", s:found[0][4])
+  call assert_equal(0, filereadable('words'))
+  let $PATH = s:path
+endif
 
 " Another file type takes all of it away.
 call assert_notequal(&g:errorformat, &errorformat)
