@@ -1,4 +1,4 @@
-use Rattle.std.proofs.Common.{◌∙◌, ◌-◌, ◌^◌, ℕ, sym, subst, ap, inr}
+use Rattle.std.proofs.Common.{◌∙◌, ◌-◌, ◌^◌, ℕ, List, sym, subst, ap, inr}
 use Rattle.std.proofs.lemmas.Result.{IfOk-weaker, IfErr-weaker}
 use Rattle.pr_conf.specs.Configuration.{shape_of}
 use Rattle.pr_machine.specs.Stands.{conf_of, stripes_of}
