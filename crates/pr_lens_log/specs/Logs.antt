@@ -4,7 +4,7 @@ use Rattle.pr_lens_text.specs.Places.{HasNoEnd}
 use Rattle.pr_lens_log.specs.declared.lines.Logged.{Logged}
 use Rattle.pr_lens_log.specs.declared.logs.Log.{Log}
 use Rattle.pr_lens_log.specs.declared.logs.LogFault.{LogFault}
-use Rattle.pr_lens_log.specs.declared.logs.LogFault.TheVariants.{BadLine, Memory}
+use Rattle.pr_lens_log.specs.declared.logs.LogFault.TheVariants.{BadLine, NoCycle, Memory}
 use Rattle.pr_lens_log.specs.Lines.{IsCycleLine, IsResultLine, IsEndLine, IsNoLine}
 
 -- the stage and the stripe are among those that are drawn
@@ -87,8 +87,9 @@ pub record IsAdded (old new : Log) (results : ℕ) (logged : Logged) : Type 0 wh
   pub stripes : new.stripes ≡ max old.stripes (stripes_to logged.turn.configured)
 
 -- ---- whole logs
--- the lines of the text tell the log
+-- the lines of the text tell the log, a cycle among them
 pub record IsLogOf (text : List ℕ) (log : Log) : Type 0 where
+  pub some : 0 < length log.cycles.items
   pub lines : ℕ
   pub results : ℕ
   pub tells : TellsTo text lines (length text) (tale_of log results)
@@ -105,7 +106,15 @@ pub record IsBadAt (text : List ℕ) (line : ℕ) : Type 0 where
   pub wrong : IsUnlawful (slice_range text from to)
   pub number : line ≡ before + 1
 
+-- all lines are those of a log, and none is that of a cycle
+pub record TellsNoCycle (text : List ℕ) : Type 0 where
+  pub lines : ℕ
+  pub told : Tale
+  pub tells : TellsTo text lines (length text) told
+  pub none : told.cycles ≡ []
+
 -- why a text is no log, but that memory may want
 abbrev pub IsLogAnswer : List ℕ → LogFault → Type 0
+IsLogAnswer text NoCycle = TellsNoCycle text
 IsLogAnswer text (BadLine line) = IsBadAt text line
 IsLogAnswer text (Memory e) = ⊤

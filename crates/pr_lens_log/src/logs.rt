@@ -25,6 +25,9 @@ pub enum LogFault {
     /// The line of this number, from 1, is none.
     #[error("bad log: line {line}")]
     BadLine { line: usize },
+    /// No line is that of a cycle.
+    #[error("bad log: no cycle")]
+    NoCycle,
     #[error("out of memory")]
     Memory(AllocError),
 }
@@ -119,7 +122,7 @@ fn next_line(text: &[u8], start: usize) -> usize
     if end < text.len() { end + 1 } else { end }
 }
 
-/// The log of a text.
+/// The log of a text, which has a cycle at least.
 pub fn read_log(alloc: Global, text: &[u8]) -> Result<Log, LogFault>
     ensures told { IfOk result (IsLogOf text.now) }
     ensures refused { IfErr result (IsLogAnswer text.now) }
@@ -140,6 +143,9 @@ pub fn read_log(alloc: Global, text: &[u8]) -> Result<Log, LogFault>
             return Err(LogFault::BadLine { line: number });
         }
         start = next;
+    }
+    if log.cycles.is_empty() {
+        return Err(LogFault::NoCycle);
     }
     Ok(log)
 }
