@@ -1,7 +1,7 @@
 -- What is told of a wrong token.
-use Rattle.std.specs.Prelude.{ℕ, ◌==◌, ◌&&◌, Bool, true, false, not, List, [], ◌∷◌, ◌++◌, Option, None, Some, codes, length, nat_eq, if◌then◌else◌}
+use Rattle.std.specs.Prelude.{ℕ, ◌==◌, ◌&&◌, ◌||◌, Bool, true, false, not, List, [], ◌∷◌, ◌++◌, Option, None, Some, codes, length, nat_eq, if◌then◌else◌}
 use Rattle.std.specs.Cmp.Lexicographic.{pointwise}
-use Rattle.std.specs.List.{flat_map, list_any, slice_get}
+use Rattle.std.specs.List.{flat_map, list_any, slice_get, starts_with}
 use Rattle.pr_lang.specs.declared.tokens.Keyword.{Keyword}
 use Rattle.pr_lang.specs.declared.tokens.Keyword.TheVariants as keyword
 use Rattle.pr_lang.specs.declared.tokens.Kind.{Kind}
@@ -176,7 +176,30 @@ advice_text name symbols (Word word) = word_text_for name symbols
 advice_text name symbols End = missing_before symbols false
 advice_text name symbols Bad = []
 
+-- ---- files that are no text of a program
+unfoldable pub configuration_text : List ℕ
+configuration_text = codes "The file is a configuration, and no text of a program: `piperench show FILE` tells what is in it, and `piperench exec FILE SAMPLES` runs it.\n"
+
+unfoldable pub checkpoint_text : List ℕ
+checkpoint_text = codes "The file is a checkpoint, and no text of a program: `piperench move FILE SAMPLES` goes on from it, and `piperench extend FILE SAMPLES` makes the next one.\n"
+
+unfoldable pub byte_order_text : List ℕ
+byte_order_text = codes "The file begins with a byte order mark (BOM): save it without one.\n"
+
+-- both formats of a configuration, a checkpoint, and a byte order mark, by what they begin with
+unfoldable pub file_text : List ℕ → List ℕ
+file_text text =
+    if starts_with nat_eq text (codes "PIP1") || starts_with nat_eq text (codes "PIP2") then configuration_text
+    else if starts_with nat_eq text (codes "PICK") then checkpoint_text
+    else if starts_with nat_eq text (239 ∷ 187 ∷ 191 ∷ []) then byte_order_text
+    else []
+
+-- the first token alone tells what the file is
+unfoldable pub whole_file_text : List ℕ → ℕ → List ℕ
+whole_file_text text token = if token == 0 then file_text text else []
+
 -- ---- the whole
 unfoldable pub syntax_text : List ℕ → List Token → Expected → ℕ → List ℕ
 syntax_text text tokens expected token =
     wrong_text text tokens token ++ listed_text expected ++ advice_text expected.name expected.symbols.items (kind_of tokens token)
+    ++ whole_file_text text token

@@ -1,6 +1,7 @@
 //! Why a text is refused, for people: the answer of the compiler, where it points to, and what to do about it.
 #![tactic(auto)]
 
+mod codes;
 mod explaining;
 mod fits;
 mod limits;
@@ -8,4 +9,5 @@ mod syntax;
 mod telling;
 mod widths;
 
+pub use codes::put_code;
 pub use explaining::{Explanation, Verdict, explain};

@@ -4,7 +4,7 @@ ghost use Rattle.std.specs.Prelude.{◌≡◌, ◌≤◌, ◌++◌, OnOk, true, 
 ghost use Rattle.std.specs.List.{flat_map, list_any, slice_get};
 ghost use Rattle.pr_lens_source.specs.Tokens.{end_of};
 ghost use Rattle.pr_lens_rules.specs.Pieces.{quoted};
-ghost use Rattle.pr_lens_why.specs.Syntax.{advice_text, bad_number_text, bad_text, chain_text, comma_before, expected_pieces, follows_text, has, in_expression_text, is_bad, is_beginning, is_cat, is_comparison, is_digit_there, is_first_behind, is_letter_there, is_nothing, is_operator, joined, listed_text, missing_before, no_token_text, operand_pieces, operand_text, operator_text, piece_where, symbol_piece, symbol_text_for, syntax_text, word_piece, word_text_for, wrong_text};
+ghost use Rattle.pr_lens_why.specs.Syntax.{advice_text, bad_number_text, bad_text, chain_text, comma_before, expected_pieces, file_text, follows_text, has, in_expression_text, is_bad, is_beginning, is_cat, is_comparison, is_digit_there, is_first_behind, is_letter_there, is_nothing, is_operator, joined, listed_text, missing_before, no_token_text, operand_pieces, operand_text, operator_text, piece_where, symbol_piece, symbol_text_for, syntax_text, word_piece, word_text_for, wrong_text};
 ghost use Rattle.pr_lens_why.specs.Messages.{TellsSyntax};
 
 use pr_lang::{Keyword, Kind, Symbol};
@@ -437,6 +437,31 @@ fn put_expected(message: &mut Vec<u8>, expected: &Expected) -> Result<(), AllocE
     put(message, ".\n")
 }
 
+/// What is told of a file that is no text of a program, by what it begins with.
+#[tactic(auto, unfolding(crate::specs::Syntax::file_text, crate::specs::Syntax::configuration_text, crate::specs::Syntax::checkpoint_text, crate::specs::Syntax::byte_order_text))]
+fn file_text(text: &[u8]) -> &'static str
+    ensures { result.now ≡ file_text text.now }
+{
+    if text.starts_with(b"PIP1") || text.starts_with(b"PIP2") {
+        return "The file is a configuration, and no text of a program: `piperench show FILE` tells what is in it, and `piperench exec FILE SAMPLES` runs it.\n";
+    }
+    if text.starts_with(b"PICK") {
+        return "The file is a checkpoint, and no text of a program: `piperench move FILE SAMPLES` goes on from it, and `piperench extend FILE SAMPLES` makes the next one.\n";
+    }
+    if text.starts_with(b"\xef\xbb\xbf") {
+        return "The file begins with a byte order mark (BOM): save it without one.\n";
+    }
+    ""
+}
+
+/// What the first token tells of the whole file.
+#[tactic(auto, unfolding(crate::specs::Syntax::whole_file_text))]
+fn whole_file_text(text: &[u8], token: usize) -> &'static str
+    ensures { result.now ≡ whole_file_text text.now token }
+{
+    if token == 0 { file_text(text) } else { "" }
+}
+
 /// Tells what is wrong with a token, what could have stood there, and what to do.
 pub fn tell(
     alloc: Global,
@@ -452,5 +477,6 @@ pub fn tell(
     put_wrong(message, source, token)?;
     put_expected(message, &expected)?;
     let kind = source.kind(token);
-    put(message, advice_text(expected.name, &expected.symbols, kind))
+    put(message, advice_text(expected.name, &expected.symbols, kind))?;
+    put(message, whole_file_text(source.text, token))
 }
