@@ -48,12 +48,20 @@ input x:8
 output y = x;
 = 3
 ! syntax: token 4
+`pipelens why p` tells more
 $ pipelens graph p
 input x:8;
 rec s = 0 by s@1 + x;
 output y = s;
 = 4
 ! no width: equation 2
+`pipelens why p` tells more
+$ pipelens cost p --narrow
+input x:8
+output y = x;
+= 3
+! syntax: token 4
+`pipelens why p --narrow` tells more
 $ pipelens cost p --fabric wide
 input a:128;
 input b:128;
@@ -61,6 +69,7 @@ input c:128;
 output y = a;
 = 6
 ! limit: input-bytes 32
+`pipelens why p --fabric wide` tells more
 $ pipelens chart p
 12
 cycle 0
@@ -69,7 +78,7 @@ cycle 0
 ! bad log: line 2
 $ pipelens look p
 = 2
-! usage: pipelens TASK FILE [--fabric F] [--narrow] [--samples N]; pipelens --help says more
+! usage: pipelens TASK FILE [--fabric F] [--narrow] [--samples N] [--json]; pipelens --help says more
 ";
 
 #[test]

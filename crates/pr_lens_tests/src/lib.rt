@@ -11,9 +11,13 @@ mod costs;
 #[cfg(test)]
 mod fits;
 #[cfg(test)]
+mod json;
+#[cfg(test)]
 mod logs;
 #[cfg(test)]
 mod scope;
+#[cfg(test)]
+mod shown;
 #[cfg(test)]
 mod syntax;
 #[cfg(test)]

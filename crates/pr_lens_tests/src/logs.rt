@@ -59,6 +59,19 @@ $ pipelens chart p
 ...</svg>
 ...
 $ pipelens chart nowhere
+= 15
+! bad log: no cycle
+$ pipelens wave p
+12
+7
+end cycles 2 stalls 0 records 2
+
+= 15
+! bad log: no cycle
+$ pipelens chart p
+12
+stall 4
+
 = 0
 ...</svg>
 ...

@@ -1,5 +1,4 @@
 mod OrderLemmas
 mod CallLemmas
-mod TextLemmas
 mod ProgramLemmas
 mod LogLemmas

@@ -1,7 +1,7 @@
 pub mod Tasks
 pub mod Orders
-pub mod Explanations
 pub mod Outcomes
 pub mod Programs
+pub mod Replies
 pub mod Logs
 pub mod Calls

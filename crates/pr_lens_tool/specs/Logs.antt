@@ -4,13 +4,13 @@ use Rattle.pr_edge.specs.Files.{Told, HasReadCause}
 use Rattle.pr_tool_answers.specs.declared.answers.Answer.{Answer}
 use Rattle.pr_tool_modes.specs.Files.{IsText, IsLong}
 use Rattle.pr_lens_log.specs.declared.logs.Log.{Log}
-use Rattle.pr_lens_log.specs.Logs.{IsBadAt, IsLogOf}
+use Rattle.pr_lens_log.specs.Logs.{IsBadAt, IsLogOf, TellsNoCycle}
 use Rattle.pr_lens_wave.specs.Scenes.{wave_text}
 use Rattle.pr_lens_chart.specs.Pictures.{chart_text}
 use Rattle.pr_lens_tool.specs.declared.orders.Drawing.{Drawing}
 use Rattle.pr_lens_tool.specs.declared.orders.Drawing.TheVariants.{Wave, Chart}
 use Rattle.pr_lens_tool.specs.declared.outcomes.Outcome.{Outcome}
-use Rattle.pr_lens_tool.specs.declared.outcomes.Outcome.TheVariants.{Plain, BadLog, LongLog}
+use Rattle.pr_lens_tool.specs.declared.outcomes.Outcome.TheVariants.{Plain, BadLog, NoCycle, LongLog}
 
 -- the bytes of a log, at most
 abbrev pub most_log_bytes : ℕ
@@ -31,6 +31,10 @@ HasLog told name log = HasShortText told name (λ text. IsLogOf text log)
 abbrev pub HasBadLine : Told → List ℕ → ℕ → Type 0
 HasBadLine told name line = HasShortText told name (λ text. IsBadAt text line)
 
+-- the file has the text of a log without a cycle
+abbrev pub HasNoCycle : Told → List ℕ → Type 0
+HasNoCycle told name = HasShortText told name TellsNoCycle
+
 -- a log is drawn so
 abbrev pub drawn_text : Drawing → Log → List ℕ
 drawn_text Wave log = wave_text log.stripes log.cycles.items log.written.items
@@ -47,5 +51,6 @@ abbrev pub IsNoLog : Told → List ℕ → ℕ → ℕ → Outcome → Type 0
 IsNoLog told name before now (Plain Answer.ReadFault) = HasReadCause told name before now
 IsNoLog told name before now (Plain Answer.Memory) = ⊤
 IsNoLog told name before now (BadLog line) = HasBadLine told name line
+IsNoLog told name before now NoCycle = HasNoCycle told name
 IsNoLog told name before now LongLog = IsLong told name most_log_bytes
 IsNoLog told name before now outcome = ⊥

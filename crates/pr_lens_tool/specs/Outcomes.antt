@@ -1,12 +1,13 @@
 -- What a call comes to.
-use Rattle.std.specs.Prelude.{◌≡◌, ◌⊎◌, ℕ, List, [], ◌++◌, codes, decimal}
+use Rattle.std.specs.Prelude.{◌≡◌, ◌⊎◌, ℕ, List, [], ◌++◌, codes, decimal, Option, Some, None, Vec}
+use Rattle.std.specs.declared.alloc.Global.{Global}
 use Rattle.pr_edge.specs.Count.{Rose}
 use Rattle.pr_edge.specs.Tape.{Tape, Appends, AppendsFront}
 use Rattle.pr_tool_answers.specs.declared.answers.Answer.{Answer}
 use Rattle.pr_tool_answers.specs.Statuses as answers
 use Rattle.pr_tool.specs.Notes.{note_of}
 use Rattle.pr_lens_tool.specs.declared.outcomes.Outcome.{Outcome}
-use Rattle.pr_lens_tool.specs.declared.outcomes.Outcome.TheVariants.{Plain, Explained, Usage, BadLog, LongLog}
+use Rattle.pr_lens_tool.specs.declared.outcomes.Outcome.TheVariants.{Plain, Explained, Usage, BadLog, NoCycle, LongLog}
 use Rattle.pr_lens_tool.specs.declared.outcomes.Reply.{Reply}
 
 -- the status with which the process ends
@@ -15,6 +16,7 @@ status_of (Plain answer) = answers.status_of answer
 status_of (Explained answer) = answers.status_of answer
 status_of Usage = 2
 status_of (BadLog line) = 15
+status_of NoCycle = 15
 status_of LongLog = 6
 
 -- ---- the line that is told beside what is written
@@ -24,18 +26,27 @@ bad_log_line line = codes "bad log: line " ++ decimal line ++ codes "\n"
 abbrev pub line_by : Reply → Outcome → List ℕ
 line_by reply (Plain answer) = note_of reply.bounds answer
 line_by reply (Explained answer) = []
-line_by reply Usage = codes "usage: pipelens TASK FILE [--fabric F] [--narrow] [--samples N]; pipelens --help says more\n"
+line_by reply Usage = codes "usage: pipelens TASK FILE [--fabric F] [--narrow] [--samples N] [--json]; pipelens --help says more\n"
 line_by reply (BadLog line) = bad_log_line line
+line_by reply NoCycle = codes "bad log: no cycle\n"
 line_by reply LongLog = codes "limit: log-bytes 16777216\n"
 
+abbrev pub own_line : Reply → List ℕ
+own_line reply = line_by reply reply.outcome
+
+-- the line in its place, where there is one
+abbrev pub line_or : List ℕ → Option (Vec Global ℕ) → List ℕ
+line_or own None = own
+line_or own (Some line) = line.items
+
 abbrev pub line_of : Reply → List ℕ
-line_of reply = line_by reply reply.outcome
+line_of reply = line_or (own_line reply) reply.line
 
 -- ---- what is written
 -- the help
 unfoldable pub help_text : List ℕ
 help_text =
-    codes "pipelens looks at programs and runs of piperench\n\nusage: pipelens TASK FILE [--fabric F] [--narrow] [--samples N]\n\n"
+    codes "pipelens looks at programs and runs of piperench\n\nusage: pipelens TASK FILE [--fabric F] [--narrow] [--samples N] [--json]\n\n"
     ++ codes "  why PROGRAM    where and why a program is refused, and what to do\n"
     ++ codes "  cost PROGRAM   equations, units and stages, and cycles by stripes\n"
     ++ codes "  graph PROGRAM  the units by stage with their wires, for Graphviz\n"
@@ -44,6 +55,7 @@ help_text =
     ++ codes "  --fabric F     base has 16 columns and 8 registers, wide 32 and 16; base without it\n"
     ++ codes "  --narrow       leaves out what no output shows\n"
     ++ codes "  --samples N    how long the run is whose cycles `cost` tells; 1000 without it\n"
+    ++ codes "  --json         `why` tells each finding as a line of JSON\n"
 
 -- a text was written whole, and this is the outcome; or a write failed
 pub record IsWhole (old new : Tape) (text : List ℕ) (outcome result : Outcome) : Type 0 where

@@ -1,5 +1,5 @@
 -- What is told of programs, and what is written of them.
-use Rattle.std.specs.Prelude.{◌≡◌, ◌≤◌, ℕ, Bool, not, List, codes, length, Option, Some, None}
+use Rattle.std.specs.Prelude.{◌≡◌, ◌≤◌, ℕ, Bool, not, List, [], codes, if◌then◌else◌, length, Option, Some, None}
 use Rattle.pr_base.specs.declared.caps.Cap.{Cap}
 use Rattle.pr_base.specs.declared.fabrics.Fabric.{Fabric}
 use Rattle.pr_base.specs.Fabrics.{columns, registers}
@@ -12,7 +12,11 @@ use Rattle.pr_tool_modes.specs.Files.{IsText}
 use Rattle.pr_tool_modes.specs.Programs.{IsNotCompiled, compile_answer}
 use Rattle.pr_tool.specs.declared.notes.Bounds.{Bounds}
 use Rattle.pr_tool.specs.Notes.{note_of}
+use Rattle.pr_lens_show.specs.declared.findings.Finding.{Finding}
+use Rattle.pr_lens_show.specs.declared.findings.Severity.{Severity}
+use Rattle.pr_lens_show.specs.Findings.{IsPut}
 use Rattle.pr_lens_why.specs.declared.explaining.Explanation.{Explanation}
+use Rattle.pr_lens_why.specs.Codes.{code_of}
 use Rattle.pr_lens_why.specs.Messages.{HasConfiguration}
 use Rattle.pr_lens_why.specs.Verdicts.{IsExplained}
 use Rattle.pr_lens_cost.specs.declared.amounts.Cost.{Cost as ProgramCost}
@@ -26,7 +30,6 @@ use Rattle.pr_lens_tool.specs.declared.orders.Question.{Question}
 use Rattle.pr_lens_tool.specs.declared.orders.Question.TheVariants.{Why, Cost, Graph}
 use Rattle.pr_lens_tool.specs.declared.outcomes.Outcome.{Outcome}
 use Rattle.pr_lens_tool.specs.declared.outcomes.Outcome.TheVariants.{Plain, Explained}
-use Rattle.pr_lens_tool.specs.Explanations.{IsExplanation}
 use Rattle.pr_lens_tool.specs.Orders.{Asked}
 
 -- the limits for programs on a fabric
@@ -34,17 +37,36 @@ abbrev pub bounds_for : Fabric → Bounds
 bounds_for fabric = record { fabric = fabric; sample_bytes = cap_number Fabric.Base Cap.SampleBytes }
 
 -- ---- why
+-- an explanation as a finding, with the line of the answer
+pub record IsFinding (e : Explanation) (heading : List ℕ) (f : Finding) : Type 0 where
+  pub severity : f.severity ≡ Severity.Error
+  pub code : f.code.now ≡ code_of e.fault
+  pub heading_is : f.heading.now ≡ heading
+  pub start : f.start ≡ e.start
+  pub end : f.end ≡ e.end
+  pub message : f.message.now ≡ e.message.items
+
+-- the text of an explanation, for people or as JSON
+pub record IsExplanation (order : Asked) (text : List ℕ) (e : Explanation) (answer : Answer) (written : List ℕ) : Type 0 where
+  pub finding : Finding
+  pub is : IsFinding e (note_of (bounds_for order.fabric) answer) finding
+  pub put : IsPut order.json order.file text finding [] written
+
 -- a text is refused with this answer, and what is written explains it
 pub record IsWhy (N P : ℕ) (order : Asked) (text : List ℕ) (answer : Answer) (written : List ℕ) : Type 0 where
   pub explanation : Explanation
   pub is : IsExplained N P order.narrowed text explanation
   pub answers : answer ≡ compile_answer explanation.fault
-  pub told : IsExplanation order.file text explanation (note_of (bounds_for order.fabric) answer) written
+  pub told : IsExplanation order text explanation answer written
+
+-- nothing as JSON
+abbrev pub accepted_text : Bool → List ℕ
+accepted_text json = if json then [] else codes "accepted\n"
 
 -- a text has a configuration, and that is written
 pub record IsAccepted (N P : ℕ) (order : Asked) (text written : List ℕ) : Type 0 where
   pub has : HasConfiguration N P order.narrowed text
-  pub told : written ≡ codes "accepted\n"
+  pub told : written ≡ accepted_text order.json
 
 abbrev pub IsSaid : ℕ → ℕ → Asked → List ℕ → Outcome → List ℕ → Type 0
 IsSaid N P order text (Explained answer) written = IsWhy N P order text answer written

@@ -75,7 +75,8 @@ fn command<'a>(alloc: Global) -> Result<Command<'a>, AllocError>
     let file = task.arg(place(alloc, "file"))?;
     let fabric = file.arg(option_or(alloc, "fabric", FABRIC))?;
     let narrow = fabric.arg(flag(alloc, "narrow"))?;
-    narrow.arg(option_or(alloc, "samples", SAMPLES))
+    let samples = narrow.arg(option_or(alloc, "samples", SAMPLES))?;
+    samples.arg(flag(alloc, "json"))
 }
 
 /// Whether the value of an option without one is `true`.
@@ -102,6 +103,7 @@ fn found<'a>(matches: &ArgMatches<'a>) -> Option<Order<'a>>
         fabric,
         narrowed: is_true(matches.get_str("narrow")),
         samples,
+        json: is_true(matches.get_str("json")),
     })
 }
 

@@ -6,16 +6,18 @@ ghost use Rattle.pr_lens_tool.specs.declared.outcomes.Outcome.TheVariants.{Plain
 ghost use Rattle.pr_lens_tool.specs.Orders.{asked_in, asked_by};
 ghost use Rattle.pr_lens_tool.specs.Outcomes.{IsWritten};
 ghost use Rattle.pr_lens_tool.specs.Programs.{IsToldOf, IsUntold};
+ghost use Rattle.pr_lens_tool.specs.Replies.{HasLine};
 ghost use Rattle.pr_lens_tool.specs.Calls.{call, IsMade, IsUnmade, IsFollowed, IsCalled};
 
 use crate::asking::{OrderFault, read_order};
 use crate::logs::of_log;
 use crate::orders::{Order, Question, Task};
 use crate::outcomes::{Outcome, Output, Reply};
-use crate::programs::{bounds_of, of_program};
+use crate::programs::of_program;
+use crate::replies::{bare, reply_of};
 use pr_base::{Cap, Fabric};
 use pr_edge::{Shelf, Sink, write_all};
-use pr_tool::{Answer, Bounds};
+use pr_tool::Answer;
 use pr_tool_modes::read_file;
 use std::alloc::Global;
 
@@ -23,7 +25,7 @@ use std::alloc::Global;
 const HELP: &[u8] = b"\
 pipelens looks at programs and runs of piperench
 
-usage: pipelens TASK FILE [--fabric F] [--narrow] [--samples N]
+usage: pipelens TASK FILE [--fabric F] [--narrow] [--samples N] [--json]
 
   why PROGRAM    where and why a program is refused, and what to do
   cost PROGRAM   equations, units and stages, and cycles by stripes
@@ -34,6 +36,7 @@ usage: pipelens TASK FILE [--fabric F] [--narrow] [--samples N]
   --fabric F     base has 16 columns and 8 registers, wide 32 and 16; base without it
   --narrow       leaves out what no output shows
   --samples N    how long the run is whose cycles `cost` tells; 1000 without it
+  --json         `why` tells each finding as a line of JSON
 ";
 
 /// What is asked of the program of a file; else the answer to it.
@@ -116,26 +119,19 @@ pub fn pipelens<S: Shelf, K: Sink>(
     ensures called { IsCalled (asked_by words.now) (call
         (S.told shelf.old) (S.faults shelf.old) (S.faults shelf.new)
         (K.told out.old) (K.told out.new) (K.faults out.old) (K.faults out.new)) result.outcome }
+    // A line that is told in place of an answer's own names the file.
+    ensures line { HasLine (asked_by words.now) result }
     ensures told { S.told shelf.new ≡ S.told shelf.old }
     ensures shelf_later { S.faults shelf.old ≤ S.faults shelf.new }
     ensures out_later { K.faults out.old ≤ K.faults out.new }
 {
     match read_order(alloc, words) {
-        Ok(order) => Reply {
-            outcome: follow(alloc, &order, shelf, out),
-            bounds: bounds_of(order.fabric),
-        },
-        Err(OrderFault::Help) => Reply {
-            outcome: written(out, HELP, Outcome::Plain(Answer::Ok)),
-            bounds: Bounds::BASE,
-        },
-        Err(OrderFault::Usage) => Reply {
-            outcome: Outcome::Usage,
-            bounds: Bounds::BASE,
-        },
-        Err(OrderFault::Memory(_)) => Reply {
-            outcome: Outcome::Plain(Answer::Memory),
-            bounds: Bounds::BASE,
-        },
+        Ok(order) => {
+            let outcome = follow(alloc, &order, shelf, out);
+            reply_of(alloc, &order, outcome)
+        }
+        Err(OrderFault::Help) => bare(written(out, HELP, Outcome::Plain(Answer::Ok))),
+        Err(OrderFault::Usage) => bare(Outcome::Usage),
+        Err(OrderFault::Memory(_)) => bare(Outcome::Plain(Answer::Memory)),
     }
 }

@@ -3,14 +3,13 @@
 
 mod asking;
 mod calling;
-mod explanations;
 mod logs;
 mod orders;
 mod outcomes;
 mod programs;
+mod replies;
 
 pub use asking::{OrderFault, read_order};
 pub use calling::pipelens;
-pub use explanations::put_explanation;
 pub use orders::{Drawing, Order, Question, Task};
 pub use outcomes::{Outcome, Reply};

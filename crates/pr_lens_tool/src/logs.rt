@@ -36,7 +36,7 @@ fn log_text<S: Shelf>(alloc: Global, shelf: &mut S, name: &str) -> Result<Vec<u8
 }
 
 /// The log of a file; else what the call comes to.
-#[tactic(auto, using(crate::proofs::LogLemmas::has_log, crate::proofs::LogLemmas::has_bad_line))]
+#[tactic(auto, using(crate::proofs::LogLemmas::has_log, crate::proofs::LogLemmas::has_bad_line, crate::proofs::LogLemmas::has_no_cycle))]
 fn log_of<S: Shelf>(alloc: Global, shelf: &mut S, name: &str) -> Result<Log, Outcome>
     ensures read { IfOk result (HasLog (S.told shelf.old) name.now) }
     ensures refused { IfErr result
@@ -48,6 +48,7 @@ fn log_of<S: Shelf>(alloc: Global, shelf: &mut S, name: &str) -> Result<Log, Out
     match read_log(alloc, &text) {
         Ok(log) => Ok(log),
         Err(LogFault::BadLine { line }) => Err(Outcome::BadLog { line }),
+        Err(LogFault::NoCycle) => Err(Outcome::NoCycle),
         Err(LogFault::Memory(_)) => Err(Outcome::Plain(Answer::Memory)),
     }
 }

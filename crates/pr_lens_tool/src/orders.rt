@@ -47,6 +47,8 @@ pub struct Order<'a> {
     pub narrowed: bool,
     /// The samples of a run whose cycles are told.
     pub samples: u32,
+    /// Whether findings are told as JSON.
+    pub json: bool,
 }
 
 /// The task of this name.

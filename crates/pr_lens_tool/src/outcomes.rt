@@ -2,7 +2,7 @@
 
 ghost use Rattle.std.specs.Prelude.{◌≡◌, ◌≤◌};
 ghost use Rattle.pr_tool.specs.Noted.{GainsNote};
-ghost use Rattle.pr_lens_tool.specs.Outcomes.{status_of, bad_log_line, line_of};
+ghost use Rattle.pr_lens_tool.specs.Outcomes.{status_of, bad_log_line, line_of, own_line};
 
 use arrayvec::ArrayString;
 use itoa::Buffer;
@@ -21,6 +21,8 @@ pub enum Outcome {
     Usage,
     /// The line of a log, counted from 1, is none.
     BadLog { line: usize },
+    /// A log has no line of a cycle.
+    NoCycle,
     /// A log has too many bytes.
     LongLog,
 }
@@ -32,16 +34,22 @@ pub struct Output {
     pub outcome: Outcome,
 }
 
-/// What a call comes to, and the limits that its line tells.
-#[derive(Clone, Copy, PartialEq, Eq, Debug)]
+/// What a call comes to, and what its line tells.
+#[derive(Drop)]
 pub struct Reply {
     pub outcome: Outcome,
+    /// The limits that an answer's own line tells.
     pub bounds: Bounds,
+    /// The line in place of an answer's own, where it tells more.
+    pub line: Option<Vec<u8>>,
 }
 
 /// The line for words that are no lawful command line.
 const USAGE: &str =
-    "usage: pipelens TASK FILE [--fabric F] [--narrow] [--samples N]; pipelens --help says more\n";
+    "usage: pipelens TASK FILE [--fabric F] [--narrow] [--samples N] [--json]; pipelens --help says more\n";
+
+/// The line for a log without a cycle.
+const NO_CYCLE: &str = "bad log: no cycle\n";
 
 /// The line for a log with too many bytes.
 const LONG: &str = "limit: log-bytes 16777216\n";
@@ -54,7 +62,7 @@ impl Outcome {
         match self {
             Outcome::Plain(answer) | Outcome::Explained(answer) => answer.status(),
             Outcome::Usage => 2,
-            Outcome::BadLog { .. } => 15,
+            Outcome::BadLog { .. } | Outcome::NoCycle => 15,
             Outcome::LongLog => 6,
         }
     }
@@ -90,6 +98,18 @@ impl Reply {
             (line_of self.now) }
         ensures later { E.faults note.old ≤ E.faults note.new }
     {
+        match &self.line {
+            Some(line) => put_bytes(note, line),
+            None => self.put_own(note),
+        }
+    }
+
+    /// Writes the line of the outcome itself, where there is one.
+    fn put_own<E: Sink>(&self, note: &mut E)
+        ensures gains { GainsNote (E.told note.old) (E.told note.new) (E.faults note.old) (E.faults note.new)
+            (own_line self.now) }
+        ensures later { E.faults note.old ≤ E.faults note.new }
+    {
         match self.outcome {
             Outcome::Plain(answer) => put_note(note, &self.bounds, &answer),
             Outcome::Explained(_) => {}
@@ -98,6 +118,7 @@ impl Reply {
                 let text = bad_log(line);
                 put_bytes(note, text.as_bytes());
             }
+            Outcome::NoCycle => put_bytes(note, NO_CYCLE.as_bytes()),
             Outcome::LongLog => put_bytes(note, LONG.as_bytes()),
         }
     }

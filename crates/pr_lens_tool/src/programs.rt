@@ -3,20 +3,21 @@
 ghost use Rattle.std.specs.Prelude.{◌≡◌, ◌≤◌, ◌⊎◌, length, IfOk, IfErr};
 ghost use Rattle.pr_tool_answers.specs.declared.answers.Answer.{Answer};
 ghost use Rattle.pr_tool_modes.specs.Programs.{compile_answer, IsUncompiled};
+ghost use Rattle.pr_lens_why.specs.Verdicts.{IsPointing};
 ghost use Rattle.pr_lens_tool.specs.declared.orders.Question.TheVariants.{Why, Cost as AskCost, Graph};
 ghost use Rattle.pr_lens_tool.specs.Orders.{asked_in};
-ghost use Rattle.pr_lens_tool.specs.Programs.{AreSavings, IsTold, bounds_for};
+ghost use Rattle.pr_lens_tool.specs.Programs.{AreSavings, IsExplanation, IsTold, accepted_text, bounds_for};
 
-use crate::explanations::put_explanation;
 use crate::orders::{Order, Question};
 use crate::outcomes::{Outcome, Output};
 use pr_base::Fabric;
 use pr_compile::CompileFault;
 use pr_lens_cost::{Savings, cost_of, put_cost};
 use pr_lens_graph::{graph, layout_of};
-use pr_lens_why::{Verdict, explain};
-use pr_tool::{Answer, Bounds};
-use std::alloc::Global;
+use pr_lens_show::{Finding, Severity, put_as};
+use pr_lens_why::{Explanation, Verdict, explain, put_code};
+use pr_tool::{Answer, Bounds, note_line};
+use std::alloc::{AllocError, Global};
 
 /// The answer that a fault of a text is.
 fn answer_of(fault: &CompileFault) -> Answer
@@ -42,6 +43,42 @@ pub fn bounds_of(fabric: Fabric) -> Bounds
     }
 }
 
+/// Why a program is refused, as a text.
+fn explained(
+    alloc: Global,
+    order: &Order,
+    text: &[u8],
+    explanation: &Explanation,
+    answer: &Answer,
+) -> Result<Vec<u8>, AllocError>
+    requires { IsPointing text.now explanation.now }
+    ensures { IfOk result (λ told.
+        IsExplanation (asked_in order.now) text.now explanation.now answer.now told.items) }
+{
+    let bounds = bounds_of(order.fabric);
+    let note = note_line(&bounds, answer);
+    let mut code = Vec::new(alloc);
+    put_code(&mut code, &explanation.fault)?;
+    let finding = Finding {
+        severity: Severity::Error,
+        code: &code,
+        heading: note.as_bytes(),
+        start: explanation.start,
+        end: explanation.end,
+        message: &explanation.message,
+    };
+    let mut told = Vec::new(alloc);
+    put_as(alloc, &mut told, order.json, order.file, text, &finding)?;
+    Ok(told)
+}
+
+/// That a program is accepted; nothing as JSON.
+fn accepted_text(json: bool) -> &'static [u8]
+    ensures { result.now ≡ accepted_text json }
+{
+    if json { b"" } else { b"accepted\n" }
+}
+
 /// Why a program is refused, or that it is accepted.
 fn why<const N: usize, const P: usize>(
     alloc: Global,
@@ -58,14 +95,13 @@ fn why<const N: usize, const P: usize>(
 {
     match explain::<N, P>(alloc, text, order.narrowed)? {
         Verdict::Accepted => Ok(Output {
-            text: Vec::from_slice(alloc, b"accepted\n")?,
+            text: Vec::from_slice(alloc, accepted_text(order.json))?,
             outcome: Outcome::Plain(Answer::Ok),
         }),
         Verdict::Refused(explanation) => {
             let answer = answer_of(&explanation.fault);
-            let bounds = bounds_of(order.fabric);
             Ok(Output {
-                text: put_explanation(alloc, order.file, text, &explanation, &answer, &bounds)?,
+                text: explained(alloc, order, text, &explanation, &answer)?,
                 outcome: Outcome::Explained(answer),
             })
         }

@@ -1,11 +1,14 @@
 use Rattle.std.proofs.Common.{refl}
 use Rattle.pr_lens_tool.specs.Outcomes.{help_text}
-use Rattle.pr_lens_tool.proofs.CallLemmas.{called_followed, called_help}
+use Rattle.pr_lens_tool.proofs.CallLemmas.{called_followed, called_help, has_line}
 use Rattle.pr_lens_tool.proofs.calling.pipelens.Goals as goal
 
 pub returns-in-Ok-clause-called : goal.returns-in-Ok-clause-called
-returns-in-Ok-clause-called g c = called_followed _ _ _ _ c.in-Ok.ensures.order c.follow.ensures.followed
+returns-in-Ok-clause-called g c = called_followed _ _ _ _ c.in-Ok.ensures.order (rw c.reply_of.ensures.outcome c.follow-outcome.ensures.followed)
+
+pub returns-in-Ok-clause-line : goal.returns-in-Ok-clause-line
+returns-in-Ok-clause-line g c = has_line _ _ _ _ c.in-Ok.ensures.order c.reply_of.ensures.outcome c.reply_of.ensures.line
 
 pub returns-in-Err-Help-clause-called : goal.returns-in-Err-Help-clause-called
 unfolding help_text
-returns-in-Err-Help-clause-called g c = called_help _ _ _ (c.in-Err-Help.ensures.help (rw c.in-Err-Help.field-0-is refl)) c.written.ensures.written
+returns-in-Err-Help-clause-called g c = called_help _ _ _ (c.in-Err-Help.ensures.help (rw c.in-Err-Help.field-0-is refl)) (rw c.bare.ensures.outcome c.written.ensures.written)

@@ -4,8 +4,8 @@ use Rattle.pr_lens_tool.specs.Orders.{asked_in}
 use Rattle.pr_lens_tool.proofs.ProgramLemmas.{why_told}
 use Rattle.pr_lens_tool.proofs.programs.why.Goals as goal
 
-pub returns-in_ok-put_explanation-in-Refused-clause-told : goal.returns-in_ok-put_explanation-in-Refused-clause-told
-returns-in_ok-put_explanation-in-Refused-clause-told g c =
-    let written = c.in_ok-put_explanation-in-Refused in
+pub returns-in_ok-explained-in-Refused-clause-told : goal.returns-in_ok-explained-in-Refused-clause-told
+returns-in_ok-explained-in-Refused-clause-told g c =
+    let written = c.in_ok-explained-in-Refused in
     let explained = subst (IsVerdict g.row.N g.row.P c.args.order.now.narrowed c.args.text.now) c.in-Refused.is c.in_ok-explain.ensures in
-    why_told g.row.N g.row.P (asked_in c.args.order.now) c.args.text.now written.field-0.items c.in-Refused.explanation c.answer_of-answer.result c.bounds_of-bounds.result explained c.answer_of-answer.ensures c.bounds_of-bounds.ensures written.ensures
+    why_told g.row.N g.row.P (asked_in c.args.order.now) c.args.text.now written.field-0.items c.in-Refused.explanation c.answer_of-answer.result explained c.answer_of-answer.ensures written.ensures

@@ -1,6 +1,6 @@
 use Rattle.std.proofs.Common.{◌≡◌, ◌∙◌}
 use Rattle.pr_lens_tool.specs.Outcomes.{bad_log_line}
-use Rattle.pr_lens_tool.proofs.outcomes.Reply.put_note.Goals as goal
+use Rattle.pr_lens_tool.proofs.outcomes.Reply.put_own.Goals as goal
 
 pub returns-in-Usage-clause-gains : goal.returns-in-Usage-clause-gains
 returns-in-Usage-clause-gains g c = rw c.in-Usage.is (rw c.as_bytes.ensures.value at c.put_bytes.ensures.gains)
@@ -12,3 +12,6 @@ returns-in-BadLog-clause-gains g c =
 
 pub returns-in-LongLog-clause-gains : goal.returns-in-LongLog-clause-gains
 returns-in-LongLog-clause-gains g c = rw c.in-LongLog.is (rw c.as_bytes-in-LongLog.ensures.value at c.put_bytes-in-LongLog.ensures.gains)
+
+pub returns-in-NoCycle-clause-gains : goal.returns-in-NoCycle-clause-gains
+returns-in-NoCycle-clause-gains g c = rw c.in-NoCycle.is (rw c.as_bytes-in-NoCycle.ensures.value at c.put_bytes-in-NoCycle.ensures.gains)

@@ -1,0 +1,125 @@
+//! What is replied, with the name of the file where that tells more.
+
+ghost use Rattle.std.specs.Prelude.{◌≡◌, ◌++◌, Some, None, option_map, IfOk, IfSome, OnOk};
+ghost use Rattle.pr_lens_tool.specs.Orders.{asked_in};
+ghost use Rattle.pr_lens_tool.specs.Replies.{answer_line, fabric_words, fault_line, line_for, narrow_words, refused_line, why_line};
+
+use crate::orders::Order;
+use crate::outcomes::{Outcome, Reply};
+use crate::programs::bounds_of;
+use pr_base::{Cap, Fabric};
+use pr_lens_text::put;
+use pr_tool::{Answer, Bounds, note_line};
+use std::alloc::{AllocError, Global};
+
+/// The option for a fabric, where it has to be given.
+fn fabric_words(fabric: Fabric) -> &'static str
+    ensures { result.now ≡ fabric_words fabric }
+{
+    match fabric {
+        Fabric::Base => "",
+        Fabric::Wide => " --fabric wide",
+    }
+}
+
+/// The option for narrowed equations, where it is given.
+fn narrow_words(narrowed: bool) -> &'static str
+    ensures { result.now ≡ narrow_words narrowed }
+{
+    if narrowed { " --narrow" } else { "" }
+}
+
+/// Adds which call tells more of a program that is refused.
+#[tactic(auto, unfolding(crate::specs::Replies::why_line))]
+fn put_why(line: &mut Vec<u8>, order: &Order) -> Result<(), AllocError>
+    ensures { OnOk result (line.new.items ≡ line.old.items ++ why_line (asked_in order.now)) }
+{
+    put(line, "`pipelens why ")?;
+    put(line, order.file)?;
+    put(line, fabric_words(order.fabric))?;
+    put(line, narrow_words(order.narrowed))?;
+    put(line, "` tells more\n")
+}
+
+/// The line for a program that is refused, and which call tells more.
+fn refused_line(alloc: Global, order: &Order, answer: &Answer) -> Result<Vec<u8>, AllocError>
+    ensures { IfOk result (λ line. line.items ≡ refused_line (asked_in order.now) answer.now) }
+{
+    let bounds = bounds_of(order.fabric);
+    let note = note_line(&bounds, answer);
+    let mut line = Vec::from_slice(alloc, note.as_bytes())?;
+    put_why(&mut line, order)?;
+    Ok(line)
+}
+
+/// The line for a file that cannot be read.
+fn fault_line(alloc: Global, name: &str) -> Result<Vec<u8>, AllocError>
+    ensures { IfOk result (λ line. line.items ≡ fault_line name.now) }
+{
+    let mut line = Vec::new(alloc);
+    put(&mut line, "read fault: ")?;
+    put(&mut line, name)?;
+    put(&mut line, "\n")?;
+    Ok(line)
+}
+
+/// The line of an answer to an order, where it tells more than the answer's own.
+fn answer_line(
+    alloc: Global,
+    order: &Order,
+    answer: Answer,
+) -> Result<Option<Vec<u8>>, AllocError>
+    ensures { IfOk result (λ line. option_map (λ v. v.items) line ≡ answer_line (asked_in order.now) answer) }
+{
+    match answer {
+        Answer::ReadFault => Ok(Some(fault_line(alloc, order.file)?)),
+        Answer::Syntax { token: _ } | Answer::Scope { rule: _, item: _ } => {
+            Ok(Some(refused_line(alloc, order, &answer)?))
+        }
+        Answer::NoWidth { equation: _ } | Answer::NoFit { unit: _ } => {
+            Ok(Some(refused_line(alloc, order, &answer)?))
+        }
+        Answer::Limit {
+            which: Cap::ProgramBytes,
+        } => Ok(None),
+        Answer::Limit { which: _ } => Ok(Some(refused_line(alloc, order, &answer)?)),
+        _ => Ok(None),
+    }
+}
+
+/// The line of an outcome, where it tells more than the outcome's own and memory does not want.
+fn line_for(alloc: Global, order: &Order, outcome: Outcome) -> Option<Vec<u8>>
+    ensures { IfSome result (λ line. line_for (asked_in order.now) outcome ≡ Some line.items) }
+{
+    match outcome {
+        Outcome::Plain(answer) => match answer_line(alloc, order, answer) {
+            Ok(line) => line,
+            Err(_) => None,
+        },
+        _ => None,
+    }
+}
+
+/// The reply to an order.
+pub fn reply_of(alloc: Global, order: &Order, outcome: Outcome) -> Reply
+    ensures outcome { result.outcome ≡ outcome }
+    ensures line { IfSome result.line (λ line. line_for (asked_in order.now) outcome ≡ Some line.items) }
+{
+    Reply {
+        outcome,
+        bounds: bounds_of(order.fabric),
+        line: line_for(alloc, order, outcome),
+    }
+}
+
+/// The reply where there is no order.
+pub fn bare(outcome: Outcome) -> Reply
+    ensures outcome { result.outcome ≡ outcome }
+    ensures line { result.line ≡ None }
+{
+    Reply {
+        outcome,
+        bounds: Bounds::BASE,
+        line: None,
+    }
+}
