@@ -4,7 +4,7 @@ ghost use Rattle.std.specs.Prelude.{◌≡◌, ◌≤◌, ◌++◌, OnOk, true, 
 ghost use Rattle.std.specs.List.{flat_map, list_any, slice_get};
 ghost use Rattle.pr_lens_source.specs.Tokens.{end_of};
 ghost use Rattle.pr_lens_rules.specs.Pieces.{quoted};
-ghost use Rattle.pr_lens_why.specs.Syntax.{advice_text, bad_number_text, bad_text, chain_text, comma_before, expected_pieces, file_text, follows_text, has, in_expression_text, is_bad, is_beginning, is_cat, is_comparison, is_digit_there, is_first_behind, is_letter_there, is_nothing, is_operator, joined, listed_text, missing_before, no_token_text, operand_pieces, operand_text, operator_text, piece_where, symbol_piece, symbol_text_for, syntax_text, word_piece, word_text_for, wrong_text};
+ghost use Rattle.pr_lens_why.specs.Syntax.{advice_text, bad_number_text, bad_text, chain_text, comma_before, expected_pieces, file_text, follows_text, has, in_expression_text, is_bad, is_beginning, is_cat, is_comparison, is_digit_there, is_first_behind, is_letter_there, is_nothing, is_operator, joined, listed_text, missing_before, no_token_text, operand_pieces, operand_text, operator_text, piece_where, symbol_piece, symbol_text_for, syntax_text, whole_file_text, word_piece, word_text_for, wrong_text};
 ghost use Rattle.pr_lens_why.specs.Messages.{TellsSyntax};
 
 use pr_lang::{Keyword, Kind, Symbol};
