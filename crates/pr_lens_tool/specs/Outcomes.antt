@@ -35,7 +35,7 @@ abbrev pub own_line : Reply → List ℕ
 own_line reply = line_by reply reply.outcome
 
 -- the line in its place, where there is one
-abbrev pub line_or : List ℕ → Option (Vec Global ℕ) → List ℕ
+abbrev pub line_or : List ℕ → Option (Vec ℕ Global) → List ℕ
 line_or own None = own
 line_or own (Some line) = line.items
 

@@ -30,7 +30,6 @@ fn narrow_words(narrowed: bool) -> &'static str
 }
 
 /// Adds which call tells more of a program that is refused.
-#[tactic(auto, unfolding(crate::specs::Replies::why_line))]
 fn put_why(line: &mut Vec<u8>, order: &Order) -> Result<(), AllocError>
     ensures { OnOk result (line.new.items ≡ line.old.items ++ why_line (asked_in order.now)) }
 {
@@ -64,11 +63,7 @@ fn fault_line(alloc: Global, name: &str) -> Result<Vec<u8>, AllocError>
 }
 
 /// The line of an answer to an order, where it tells more than the answer's own.
-fn answer_line(
-    alloc: Global,
-    order: &Order,
-    answer: Answer,
-) -> Result<Option<Vec<u8>>, AllocError>
+fn answer_line(alloc: Global, order: &Order, answer: Answer) -> Result<Option<Vec<u8>>, AllocError>
     ensures { IfOk result (λ line. option_map (λ v. v.items) line ≡ answer_line (asked_in order.now) answer) }
 {
     match answer {

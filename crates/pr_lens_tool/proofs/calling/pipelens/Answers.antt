@@ -7,7 +7,7 @@ pub returns-in-Ok-clause-called : goal.returns-in-Ok-clause-called
 returns-in-Ok-clause-called g c = called_followed _ _ _ _ c.in-Ok.ensures.order (rw c.reply_of.ensures.outcome c.follow-outcome.ensures.followed)
 
 pub returns-in-Ok-clause-line : goal.returns-in-Ok-clause-line
-returns-in-Ok-clause-line g c = has_line _ _ _ _ c.in-Ok.ensures.order c.reply_of.ensures.outcome c.reply_of.ensures.line
+returns-in-Ok-clause-line g c = has_line _ _ c.reply_of.result _ c.in-Ok.ensures.order c.reply_of.ensures.outcome c.reply_of.ensures.line
 
 pub returns-in-Err-Help-clause-called : goal.returns-in-Err-Help-clause-called
 unfolding help_text
