@@ -11,6 +11,7 @@ _pipelens() {
     local options='
         --fabric
         --help
+        --json
         --narrow
         --samples
     '

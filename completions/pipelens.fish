@@ -8,4 +8,5 @@ complete -c pipelens -n __fish_use_subcommand -a chart -d 'Draw a log of trace a
 complete -c pipelens -l fabric -x -a 'base wide' -d 'Fabric to compile for'
 complete -c pipelens -l narrow -d 'Leave out what no output shows'
 complete -c pipelens -l samples -x -d 'Length of the run that cost tells of'
+complete -c pipelens -l json -d 'Write the findings of why as JSON'
 complete -c pipelens -l help -d 'List the tasks'
