@@ -4,6 +4,7 @@ from __future__ import annotations
 
 import errno
 import os
+import re
 import select
 import subprocess
 import tempfile
@@ -28,6 +29,10 @@ _SET_PIPE_SIZE = 1031
 
 #: The bytes that a source of samples yields for: nothing now, first read what the program writes.
 WAIT = b""
+
+
+# What the launchers tell of a build, and the line of `pipelens` that names the call which tells more.
+_ASIDE = re.compile(r"(piperench|pipelens): |`pipelens why .* tells more$")
 
 
 class Call:
@@ -95,14 +100,15 @@ class Call:
             return memoryview(b"")
 
     def end(self) -> tuple[int, str]:
-        """Waits for the end of the program. Returns its status, and the last line that it wrote to standard error."""
+        """Waits for the end of the program. Returns its status and its note: the last line on standard error that is no aside."""
         self._input.close()
         self._output.close()
         status = self._process.wait()
         self._notes.seek(0)
         lines = self._notes.read().decode(errors="replace").splitlines()
         self._notes.close()
-        return status, lines[-1] if lines else ""
+        notes = [line for line in lines if not _ASIDE.match(line)] or lines
+        return status, notes[-1] if notes else ""
 
     def stop(self) -> None:
         """Ends the program if it still runs, and gives back what the call holds."""

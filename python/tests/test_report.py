@@ -101,7 +101,7 @@ class Pages(unittest.TestCase):
         second = page.split("<li>")[2]
         self.assertIn("column 12", second)
         self.assertIn("`z`", second)
-        self.assertIn("scope: rule 2 item 1", told)
+        self.assertRegex(told, r"scope(-2|: rule 2 item 1)\n`z` is used before it is assigned")
 
     def test_samples_that_are_refused(self) -> None:
         status, page, told = self.page(SUM, "1\n2\n256\n")
