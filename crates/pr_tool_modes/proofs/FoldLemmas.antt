@@ -1,5 +1,5 @@
 -- From a run whose results are dropped to its checkpoint.
-use Rattle.std.proofs.Common.{◌≡◌, ◌≤◌, ◌<◌, ◌+◌, ◌∙◌, ℕ, false, List, length, subst}
+use Rattle.std.proofs.Common.{◌≡◌, ◌≤◌, ◌<◌, ◌+◌, ◌∙◌, ℕ, false, List, length, Result, Err, IfErr, sym, subst, inl}
 use Rattle.std.proofs.lemmas.List.{length-map}
 use Rattle.pr_base.specs.Rows.{row_bytes}
 use Rattle.pr_code.specs.Marks.{IsMark}
@@ -12,13 +12,14 @@ use Rattle.pr_run_script.specs.Script.{Held}
 use Rattle.pr_run.specs.Setting.{View}
 use Rattle.pr_run.specs.Turns.{Going}
 use Rattle.pr_samples.specs.Fed.{End}
+use Rattle.pr_tool_answers.specs.declared.answers.Answer.{Answer}
 use Rattle.pr_tool_modes.specs.Executions.{IsLater}
 use Rattle.pr_tool_modes.specs.Jobs.{Job, IsNoStall}
 use Rattle.pr_tool_modes.specs.Runs.{Course, course, events_on, HasAll}
 use Rattle.pr_tool_modes.specs.Samples.{pieces}
 use Rattle.pr_tool_modes.specs.Sources.{most_in}
 use Rattle.pr_tool_modes.specs.Stalls.{HasStall}
-use Rattle.pr_tool_modes.specs.Folds.{HasMarked, HasRunFor}
+use Rattle.pr_tool_modes.specs.Folds.{HasMarked, HasRunFor, IsUnasked, IsUnfolded}
 
 -- the machine stands for the whole script of a run on these samples, and so its checkpoint is the one after them
 pub marked : {N P : ℕ} (r : Course) (m : Going N P) (rows : List (List ℕ)) (h : History) (before : ℕ) (bytes : List ℕ) → 0 < length r.conf.stages → 2 ≤ r.stripes → Stands m r.conf r.stripes h → h ≡ events_on r rows → HasAll r rows End
@@ -36,6 +37,11 @@ marked {N} {P} r m rows h before bytes some two stands events all mark =
       mark = subst (λ (n : ℕ). IsMark N P (before + n) (conf_after N P r.conf xs) bytes) count
           (subst (λ (ys : List (List ℕ)). IsMark N P (before + m.parts.left) (conf_after N P r.conf ys) bytes) through.offered is);
     }
+
+-- no samples were asked for, and the call ends so
+pub unasked_for : {T : Type 0} (r : Result T Answer) (a : Answer) (c : Shape) (j : Job) (before now : View) → (b : Answer) × (r ≡ Err b) × (b ≡ a) → IsUnasked j before now a → IfErr r (IsUnfolded c j before now)
+unasked_for r a c j before now exit unasked =
+    subst (λ (o : Result _ Answer). IfErr o (IsUnfolded c j before now)) (sym exit.1) (inl (subst (λ (o : Answer). IsUnasked j before now o) (sym exit.2) unasked))
 
 -- what came of the samples of a machine, a feed and a stall text is said of the job that asked for them
 pub run_for : (end : Course → Type 0) (c conf : Shape) (j : Job) (stripes most : ℕ) (name : List ℕ) (turns : List Held) (before start now : View)

@@ -59,8 +59,9 @@ folded_of j k mid loaded before a gives count told later reach (inl run) =
           (λ r put. inl (record { bytes = put.bytes; marked = subst (λ (n : ℕ). HasMarked N P r n put.bytes) (sym count) put.marked; put = put.put })) run;
     })
 folded_of j k mid loaded before a gives count told later reach (inr (inl early, unwritten)) = inl (record {
-  cause = later_refusal j k mid.told mid.faults (columns_in loaded) (registers_in loaded) (shape_in loaded) a gives told later early;
+  cause = later_refusal j k mid.told mid.faults (columns_in loaded) (registers_in loaded) (shape_in loaded) a gives told later early.cause;
   unwritten = unwritten;
+  unread = λ q kept. early.unread q kept.1 ∙ reach q kept.0;
 })
 folded_of j k mid loaded before a gives count told later reach (inr (inr run, unwritten)) =
     let N = columns_in loaded in

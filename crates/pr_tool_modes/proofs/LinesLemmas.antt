@@ -177,7 +177,7 @@ record Ran (N P : ℕ) (further : List ℕ → List (List ℕ) → (List ℕ →
   pub told : k.before.told ≡ Some files
   pub has : HasRan j k machine answer
   pub on_run : (widths : List ℕ) (rows : List (List ℕ)) (good : Bool) → HasRunOn files j k widths rows good machine → OnBench (λ N P m. HasRunOn files j k widths rows good m) bench
-  pub on_begun : (widths : List ℕ) (rows : List (List ℕ)) → HasBegunOn files j k widths rows machine → OnBench (λ N P m. HasBegunOn files j k widths rows m) bench
+  pub on_begun : (widths : List ℕ) (rows : List (List ℕ)) (good : Bool) → HasBegunOn files j k widths rows good machine → OnBench (λ N P m. HasBegunOn files j k widths rows good m) bench
   pub whole : (rows : List (List ℕ)) → rows ≡ take (length rows) (fed_at_most (most_in j.source) has.conf.inputs (samples_file files j)).samples
       → (j.log ≡ false → Appends k.old k.new (written (result_numbers N P has.conf (pieces has.conf rows)))) → further has.conf.inputs rows (Appends k.old k.new)
   pub front : (rows : List (List ℕ)) → rows ≡ take (length rows) (fed_at_most (most_in j.source) has.conf.inputs (samples_file files j)).samples
@@ -265,7 +265,12 @@ module _ {N P : ℕ} {further : List ℕ → List (List ℕ) → (List ℕ → T
         widths = r.has.conf.inputs;
         rows = rows_of;
         first = rows_first;
-        ran = r.on_begun r.has.conf.inputs rows_of (record {
+        closing = stopped.closing;
+        over = λ closing. (
+            let all = (stopped.over closing).0 in
+            let same = rows_all End all in
+            record { there = λ none. all.there (missing none); all = same.0; ends = same.1 });
+        ran = r.on_begun r.has.conf.inputs rows_of stopped.closing (record {
           conf = r.has.conf;
           gives = subst (λ (t : Told). Gives t r.j.source N P r.has.conf) r.told r.has.gives;
           inputs = refl;
@@ -303,7 +308,7 @@ no_run further files j k was bench a none =
 -- ---- a run of a configuration
 configuration_ran : {N P : ℕ} (files : List ℕ → Option (List ℕ)) (j : Job) (k : Call) (was bench : Bench) (machine : Going N P) (a : Answer) → k.before.told ≡ Some files → (has : HasRan j k machine a)
     → ((widths : List ℕ) (rows : List (List ℕ)) (good : Bool) → HasRunOn files j k widths rows good machine → OnBench (λ N P m. HasRunOn files j k widths rows good m) bench)
-    → ((widths : List ℕ) (rows : List (List ℕ)) → HasBegunOn files j k widths rows machine → OnBench (λ N P m. HasBegunOn files j k widths rows m) bench)
+    → ((widths : List ℕ) (rows : List (List ℕ)) (good : Bool) → HasBegunOn files j k widths rows good machine → OnBench (λ N P m. HasBegunOn files j k widths rows good m) bench)
     → AreRunLines NoMore files j k was bench a
 configuration_ran {N} {P} files j k was bench machine a told has on_run on_begun =
     let r : Ran N P NoMore = record {
@@ -325,8 +330,8 @@ configuration_ran {N} {P} files j k was bench machine a told has on_run on_begun
 
 pub configuration_lines : (files : List ℕ → Option (List ℕ)) (j : Job) (k : Call) (was bench : Bench) (a : Answer) → k.before.told ≡ Some files → HasCome j k was bench a → AreConfigurationLines files j k was bench a
 configuration_lines files j k was bench a told (inl none) = no_run NoMore files j k was bench a none
-configuration_lines files j k was (Bench.Base machine) a told (inr has) = configuration_ran files j k was (Bench.Base machine) machine a told has (λ ws xs g h. h) (λ ws xs h. h)
-configuration_lines files j k was (Bench.Wide machine) a told (inr has) = configuration_ran files j k was (Bench.Wide machine) machine a told has (λ ws xs g h. h) (λ ws xs h. h)
+configuration_lines files j k was (Bench.Base machine) a told (inr has) = configuration_ran files j k was (Bench.Base machine) machine a told has (λ ws xs g h. h) (λ ws xs g h. h)
+configuration_lines files j k was (Bench.Wide machine) a told (inr has) = configuration_ran files j k was (Bench.Wide machine) machine a told has (λ ws xs g h. h) (λ ws xs g h. h)
 configuration_lines files j k was Bench.Nothing a told (inr has) = absurd has
 
 -- ---- a run of a program
@@ -364,7 +369,7 @@ lines_same files j conf p rows first =
 
 program_ran : {N P : ℕ} (files : List ℕ → Option (List ℕ)) (j : Job) (name : List ℕ) (target : Target) (k : Call) (was bench : Bench) (machine : Going N P) (a : Answer) → j.source ≡ Text name target → k.before.told ≡ Some files → (has : HasRan j k machine a)
     → ((widths : List ℕ) (rows : List (List ℕ)) (good : Bool) → HasRunOn files j k widths rows good machine → OnBench (λ N P m. HasRunOn files j k widths rows good m) bench)
-    → ((widths : List ℕ) (rows : List (List ℕ)) → HasBegunOn files j k widths rows machine → OnBench (λ N P m. HasBegunOn files j k widths rows m) bench)
+    → ((widths : List ℕ) (rows : List (List ℕ)) (good : Bool) → HasBegunOn files j k widths rows good machine → OnBench (λ N P m. HasBegunOn files j k widths rows good m) bench)
     → AreProgramLines files j k was bench a
 program_ran {N} {P} files j name target k was bench machine a is told has on_run on_begun =
     let p = program_in files j name target N P has.conf is (subst (λ (t : Told). Gives t j.source N P has.conf) told has.gives) in
@@ -405,6 +410,6 @@ program_ran {N} {P} files j name target k was bench machine a is told has on_run
 
 pub program_lines : (files : List ℕ → Option (List ℕ)) (j : Job) (name : List ℕ) (target : Target) (k : Call) (was bench : Bench) (a : Answer) → j.source ≡ Text name target → k.before.told ≡ Some files → HasCome j k was bench a → AreProgramLines files j k was bench a
 program_lines files j name target k was bench a is told (inl none) = no_run (MeansLines files j) files j k was bench a none
-program_lines files j name target k was (Bench.Base machine) a is told (inr has) = program_ran files j name target k was (Bench.Base machine) machine a is told has (λ ws xs g h. h) (λ ws xs h. h)
-program_lines files j name target k was (Bench.Wide machine) a is told (inr has) = program_ran files j name target k was (Bench.Wide machine) machine a is told has (λ ws xs g h. h) (λ ws xs h. h)
+program_lines files j name target k was (Bench.Base machine) a is told (inr has) = program_ran files j name target k was (Bench.Base machine) machine a is told has (λ ws xs g h. h) (λ ws xs g h. h)
+program_lines files j name target k was (Bench.Wide machine) a is told (inr has) = program_ran files j name target k was (Bench.Wide machine) machine a is told has (λ ws xs g h. h) (λ ws xs g h. h)
 program_lines files j name target k was Bench.Nothing a is told (inr has) = absurd has

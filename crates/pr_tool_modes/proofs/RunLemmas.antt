@@ -157,12 +157,17 @@ follows b f rows (Got.BadSample line) read = inr (λ file tells. none_left b f r
 follows b f rows (Got.Limit cap) read = inr (λ file tells. none_left b f rows (Got.Limit cap) (Limit cap) read file tells (read.samples file tells).ends)
 follows b f rows Got.ReadFault read = inl (read.cause refl)
 
--- where the log's last line was begun, all samples are good
+-- where the log's last line was begun, the samples are all and good
+over_of : {N P : ℕ} (b : Begun N P) (f : Feed) (rows : List (List ℕ)) (last : Got) (h : History) → HasRead (setting b) f b.now rows last → (stopped : StoppedRun N P (setting b) rows last h b.new) → stopped.closing ≡ true
+    → HasAll (course_of b) rows End × (h ≡ events_on (course_of b) rows)
+over_of b f rows last h read stopped closing =
+    let over = stopped.over closing in
+    (all_of b f rows last End read (λ u. subst (λ (got : Got). IsUnread got f) over.0 u) (λ file ends. subst (λ (got : Got). EndsBy got f file) over.0 ends), over.1 ∙ events_same b rows)
+
 well_of : {N P : ℕ} (b : Begun N P) (f : Feed) (rows : List (List ℕ)) (last : Got) (h : History) → HasRead (setting b) f b.now rows last → (stopped : StoppedRun N P (setting b) rows last h b.new) → (file : List ℕ) → Tells b.start.told (name_of b.feed) file
     → stopped.closing ≡ true → ends_well (fed_at_most (most_of b.feed) (conf_of b.machine).inputs file).ending ≡ true
 well_of b f rows last h read stopped file tells closing =
-    let ends = subst (λ (got : Got). EndsBy got f file) (stopped.over closing).0 (read.samples file tells).ends in
-    ap ends_well (sym (ap (λ k. k.ending) (last_fed b f read.file file)) ∙ ends.ends)
+    ap ends_well ((over_of b f rows last h read stopped closing).0.ends file tells)
 
 all_begun : {N P : ℕ} (b : Begun N P) (f : Feed) (rows : List (List ℕ)) (last : Got) (h : History) → HasRead (setting b) f b.now rows last → StoppedRun N P (setting b) rows last h b.new
     → HasReadCause b.start.told (name_of b.feed) b.start.faults b.now.faults
@@ -181,8 +186,8 @@ stopped_of : {N P : ℕ} (b : Begun N P) (f : Feed) (rows : List (List ℕ)) (la
 stopped_of {N} {P} b f rows last h read stopped = record {
   closing = stopped.closing;
   text = stopped.text;
-  over = λ closing. (stopped.over closing).1 ∙ events_same b rows;
-  begun = subst (λ (xs : List (List ℕ)). IsBegun N P (course_of b) xs h true) (append-nil rows) (begun_on b rows [] last h true stopped (λ _. refl) (follows_nil last));
+  over = over_of b f rows last h read stopped;
+  begun = subst (λ (xs : List (List ℕ)). IsBegun N P (course_of b) xs h stopped.closing) (append-nil rows) (begun_on b rows [] last h stopped.closing stopped (λ closing. closing) (follows_nil last));
   all = all_begun b f rows last h read stopped (follows b f rows last read);
 }
 

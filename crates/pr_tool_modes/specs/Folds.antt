@@ -52,11 +52,15 @@ pub record HasRunFor (kept : List ℕ → Type 0) (c : Shape) (j : Job) (before 
   pub came : end (course c j.stripes turns false (most_in j.source) j.second start now untold untold)
 
 -- ---- of a configuration
--- why there is no checkpoint: there is no stall text, memory was wanting, or none comes of the samples
+-- there is no stall text, or memory was wanting: no samples were asked for, and no other file was read
+pub record IsUnasked (j : Job) (before now : View) (answer : Answer) : Type 0 where
+  pub cause : IsStallRefusal before.told j.stall before.faults now.faults answer ⊎ (answer ≡ Answer.Memory)
+  pub unread : (q : List ℕ) → IsNoStall j q → now.reach q ≡ before.reach q
+
+-- why there is no checkpoint: no samples were asked for, or none comes of them
 abbrev pub IsUnfolded : Shape → Job → View → View → Answer → Type 0
 IsUnfolded c j before now answer =
-    (IsStallRefusal before.told j.stall before.faults now.faults answer ⊎ (answer ≡ Answer.Memory))
-    ⊎ HasRunFor (IsNoStall j) c j before now (λ r. IsUnmarked r answer)
+    IsUnasked j before now answer ⊎ HasRunFor (IsNoStall j) c j before now (λ r. IsUnmarked r answer)
 
 -- the checkpoint was to be written
 pub record IsMarkPut (N P : ℕ) (r : Course) (before : ℕ) (k : Call) (answer : Answer) : Type 0 where
@@ -70,10 +74,11 @@ IsFoldOf loaded before j k answer =
     ⊎ (IsUnfolded (shape_in loaded) j k.before k.now answer × (k.new ≡ k.old))
 
 -- ---- of a source
--- no samples were asked for, and nothing is written
+-- no samples were asked for: nothing is written, and the samples were not read
 pub record HasNoFold (j : Job) (k : Call) (answer : Answer) : Type 0 where
   pub cause : IsRunRefusal j k.before k.now answer
   pub unwritten : k.new ≡ k.old
+  pub unread : (q : List ℕ) → IsNeither j q → k.now.reach q ≡ k.before.reach q
 
 -- the checkpoint was to be written, or none came of the samples and nothing is written
 abbrev pub IsFoldEnd : ℕ → ℕ → Course → ℕ → Call → Answer → Type 0

@@ -1,5 +1,5 @@
 -- How much of the lines is written, by the answer, and what the machine was asked.
-use Rattle.std.specs.Prelude.{◌≡◌, ◌⊎◌, ◌≤◌, ℕ, Bool, true, false, List, [], length, take, Option, Some, unwrap_or, ⊤}
+use Rattle.std.specs.Prelude.{◌≡◌, ◌⊎◌, ◌≤◌, ℕ, Bool, true, false, List, [], length, take, Option, Some, None, unwrap_or, ⊤}
 use Rattle.pr_base.specs.declared.caps.Cap.{Cap}
 use Rattle.pr_base.specs.Rows.{written}
 use Rattle.pr_edge.specs.Tape.{Tape, Appends, AppendsFront}
@@ -70,7 +70,7 @@ pub record HasRunOn {N P : ℕ} (files : List ℕ → Option (List ℕ)) (j : Jo
   pub results : j.log ≡ false → Appends k.old k.new (written (result_numbers N P conf (pieces conf rows)))
 
 -- it was asked the first of these events, and some first bytes of their lines are written
-pub record HasBegunOn {N P : ℕ} (files : List ℕ → Option (List ℕ)) (j : Job) (k : Call) (widths : List ℕ) (rows : List (List ℕ)) (machine : Going N P) : Type 0 where
+pub record HasBegunOn {N P : ℕ} (files : List ℕ → Option (List ℕ)) (j : Job) (k : Call) (widths : List ℕ) (rows : List (List ℕ)) (good : Bool) (machine : Going N P) : Type 0 where
   pub conf : Shape
   pub gives : Gives (Some files) j.source N P conf
   pub inputs : conf.inputs ≡ widths
@@ -80,7 +80,7 @@ pub record HasBegunOn {N P : ℕ} (files : List ℕ → Option (List ℕ)) (j : 
   pub stands : Stands machine conf j.stripes history
   pub events : IsPrefix history (script (length conf.stages) j.stripes (pieces conf rows) turns)
   pub cycles : cycles_in history ≤ most_cycles (length conf.stages) j.stripes turns (length rows)
-  pub text : AppendsFront k.old k.new (run_text N P j.log conf j.stripes (pieces conf rows) turns true)
+  pub text : AppendsFront k.old k.new (run_text N P j.log conf j.stripes (pieces conf rows) turns good)
   pub results : j.log ≡ false → AppendsFront k.old k.new (written (result_numbers N P conf (pieces conf rows)))
 
 -- the machine is on the bench
@@ -107,12 +107,20 @@ pub record IsReadRun (further : List ℕ → List (List ℕ) → (List ℕ → T
   pub reached : (reach : ℕ) → files j.second ≡ Some file → IsNeither j j.second → k.before.reach j.second ≡ Some 0 → k.now.reach j.second ≡ Some reach
       → length rows ≡ length (fed_to (most_in j.source) widths file reach).samples
 
--- a write failed after these samples, the first of the file
+-- the file of samples is there, these are all its samples, and they are good
+pub record AreAllGood (files : List ℕ → Option (List ℕ)) (j : Job) (file widths : List ℕ) (rows : List (List ℕ)) : Type 0 where
+  pub there : files j.second ≡ None → ⊥
+  pub all : rows ≡ (fed_at_most (most_in j.source) widths file).samples
+  pub ends : (fed_at_most (most_in j.source) widths file).ending ≡ End
+
+-- a write failed after these samples, the first of the file; the log's last line was begun only where they are all and good
 pub record IsCutRun (further : List ℕ → List (List ℕ) → (List ℕ → Type 0) → Type 0) (files : List ℕ → Option (List ℕ)) (j : Job) (file : List ℕ) (k : Call) (bench : Bench) : Type 0 where
   pub widths : List ℕ
   pub rows : List (List ℕ)
   pub first : rows ≡ take (length rows) (fed_at_most (most_in j.source) widths file).samples
-  pub ran : OnBench (λ N P machine. HasBegunOn files j k widths rows machine) bench
+  pub closing : Bool
+  pub over : closing ≡ true → AreAllGood files j file widths rows
+  pub ran : OnBench (λ N P machine. HasBegunOn files j k widths rows closing machine) bench
   pub means : further widths rows (AppendsFront k.old k.new)
   pub all : further widths (fed_at_most (most_in j.source) widths file).samples (AppendsFront k.old k.new)
 

@@ -95,13 +95,13 @@ pub record IsBegun (N P : ℕ) (r : Course) (rows : List (List ℕ)) (history : 
   pub results : r.log ≡ false → AppendsFront r.old r.new (results_on N P r rows)
 
 -- a write failed after these samples: some first bytes of the lines are written, and the machine was asked to take each
--- result whose line is whole; the log's last line is begun only where all else is over. It was the beginning of a run on these
--- samples, and, unless a read failed too, on all
+-- result whose line is whole; the log's last line is begun only where all else is over, and the samples are all and good. It was
+-- the beginning of a run on these samples, and, unless a read failed too, on all
 pub record IsStopped (N P : ℕ) (r : Course) (rows : List (List ℕ)) (history : History) : Type 0 where
   pub closing : Bool
   pub text : AppendsFront r.old r.new (text_of r.log (history_lines N P r.conf r.stripes history ++ closing_lines r.conf r.stripes history closing))
-  pub over : closing ≡ true → history ≡ events_on r rows
-  pub begun : IsBegun N P r rows history true
+  pub over : closing ≡ true → HasAll r rows End × (history ≡ events_on r rows)
+  pub begun : IsBegun N P r rows history closing
   pub all : HasReadCause r.start.told r.name r.start.faults r.now.faults
       ⊎ ((file : List ℕ) → Tells r.start.told r.name file → IsBegun N P r (fed_at_most r.most r.conf.inputs file).samples history (ends_well (fed_at_most r.most r.conf.inputs file).ending))
 

@@ -1,5 +1,5 @@
-use Rattle.std.proofs.Common.{◌∙◌, ◌-◌, ◌^◌, ℕ, List, sym, subst, ap, inr}
-use Rattle.std.proofs.lemmas.Result.{IfOk-weaker, IfErr-weaker}
+use Rattle.std.proofs.Common.{◌∙◌, ◌-◌, ◌^◌, ℕ, List, sym, subst, ap, inl, inr}
+use Rattle.std.proofs.lemmas.Result.{IfOk-weaker, IfErr-weaker, err_from_is_err_and}
 use Rattle.pr_conf.specs.Configuration.{shape_of}
 use Rattle.pr_machine.specs.Stands.{conf_of, stripes_of}
 use Rattle.pr_run_script.specs.Script.{Held}
@@ -9,8 +9,22 @@ use Rattle.pr_tool_modes.specs.Folds.{HasMarked, IsUnmarked}
 use Rattle.pr_tool_modes.specs.Jobs.{job_on, stall_in}
 use Rattle.pr_tool_modes.specs.Runs.{Course}
 use Rattle.pr_tool_modes.specs.Stalls.{HasStall}
-use Rattle.pr_tool_modes.proofs.FoldLemmas.{run_for}
+use Rattle.pr_tool_modes.proofs.FoldLemmas.{run_for, unasked_for}
 use Rattle.pr_tool_modes.proofs.folds.fold_on.Goals as goal
+
+pub returns-in_err-stall-clause-refused : goal.returns-in_err-stall-clause-refused
+returns-in_err-stall-clause-refused g c = λ source count. (
+    let before = view (g.S.Shelf.told c.args.shelf.now) (g.S.Shelf.reach c.args.shelf.now) (g.S.Shelf.faults c.args.shelf.now) in
+    let now = view (g.S.Shelf.told c.read_stall.new.shelf) (g.S.Shelf.reach c.read_stall.new.shelf) (g.S.Shelf.faults c.read_stall.new.shelf) in
+    let r = c.from_residual in
+    unasked_for r.result _ (shape_of c.args.conf) (job_on source c.args.run.now) before now (err_from_is_err_and r.result r.ensures.1) (record { cause = inl c.in_err-stall.ensures.refused; unread = c.read_stall.ensures.others }))
+
+pub returns-in_err-ready-clause-refused : goal.returns-in_err-ready-clause-refused
+returns-in_err-ready-clause-refused g c = λ source count. (
+    let before = view (g.S.Shelf.told c.args.shelf.now) (g.S.Shelf.reach c.args.shelf.now) (g.S.Shelf.faults c.args.shelf.now) in
+    let now = view (g.S.Shelf.told c.read_stall.new.shelf) (g.S.Shelf.reach c.read_stall.new.shelf) (g.S.Shelf.faults c.read_stall.new.shelf) in
+    let r = c.from_residual-in_err-ready in
+    unasked_for r.result _ (shape_of c.args.conf) (job_on source c.args.run.now) before now (err_from_is_err_and r.result r.ensures.1) (record { cause = inr c.in_err-ready.ensures.refused; unread = c.read_stall.ensures.others }))
 
 pub returns-clause-marked : goal.returns-clause-marked
 returns-clause-marked g c = λ source count. (
