@@ -68,8 +68,9 @@ pub fn piperench<S: Shelf, K: Sink, E: Sink>(
     // line and at a limit of samples these are all samples before the end, all their lines are written, and the machine on the bench
     // stands for the whole script of the run: it was asked for no more cycles than one for each turn of the stall text and those
     // that drain the samples. After a read fault they are first samples, and all their lines are written, or no run was begun.
-    // After a write fault first bytes of the lines are. With the log the same lines stand among those of the cycles. At every
-    // other answer no run was begun: nothing is written, and the bench is as it was.
+    // After a write fault first bytes of the lines are, and the last line of the log is begun only where all samples were fed and
+    // are good. With the log all this holds of the text that `out` gained without the lines of the log, byte by byte. At every other
+    // answer no run was begun: nothing is written, and the bench is as it was.
     ensures lines { (files : List ℕ → Option (List ℕ)) (order : Order) (j : Job) (name : List ℕ) (target : Target)
         → S.told shelf.old ≡ Some files
         → asked_by words.now ≡ Some order → plan_of order ≡ Runs j → j.source ≡ Text name target

@@ -40,8 +40,8 @@ marked {N} {P} r m rows h before bytes some two stands events all mark =
 
 -- no samples were asked for, and the call ends so
 pub unasked_for : {T : Type 0} (r : Result T Answer) (a : Answer) (c : Shape) (j : Job) (before now : View) → (b : Answer) × (r ≡ Err b) × (b ≡ a) → IsUnasked j before now a → IfErr r (IsUnfolded c j before now)
-unasked_for r a c j before now exit unasked =
-    subst (λ (o : Result _ Answer). IfErr o (IsUnfolded c j before now)) (sym exit.1) (inl (subst (λ (o : Answer). IsUnasked j before now o) (sym exit.2) unasked))
+unasked_for {T} r a c j before now exit unasked =
+    subst (λ (o : Result T Answer). IfErr o (IsUnfolded c j before now)) (sym exit.1) (inl (subst (λ (o : Answer). IsUnasked j before now o) (sym exit.2) unasked))
 
 -- what came of the samples of a machine, a feed and a stall text is said of the job that asked for them
 pub run_for : (end : Course → Type 0) (c conf : Shape) (j : Job) (stripes most : ℕ) (name : List ℕ) (turns : List Held) (before start now : View)

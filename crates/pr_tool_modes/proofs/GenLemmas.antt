@@ -1,5 +1,5 @@
 -- From a run over texts in memory to what is told of it.
-use Rattle.std.proofs.Common.{◌≡◌, ◌⊎◌, ◌≤◌, ◌<◌, ◌∙◌, ℕ, true, List, [], length, map, vec_len, Option, Some, None, refl, sym, ap, subst, arith, inl, inr}
+use Rattle.std.proofs.Common.{◌≡◌, ◌⊎◌, ◌≤◌, ◌<◌, ◌∙◌, ℕ, true, false, List, [], length, map, vec_len, Option, Some, None, refl, sym, ap, subst, arith, inl, inr}
 use Rattle.std.proofs.lemmas.List.{length-map}
 use Rattle.pr_base.specs.Rows.{row_bytes, written}
 use Rattle.pr_compile.specs.Configured.{HasUnits}
@@ -32,6 +32,7 @@ use Rattle.pr_tool_modes.specs.Lines.{HasRunOn, OnBench, IsWholeRun, MeansLines}
 use Rattle.pr_tool_modes.specs.Programs.{IsCounted}
 use Rattle.pr_tool_modes.specs.Samples.{fed_in, pieces}
 use Rattle.pr_tool_modes.specs.Stalls.{HasStall}
+use Rattle.pr_tool_modes.specs.Unlogged.{GainsLines}
 use Rattle.pr_tool_modes.specs.Sources.{Gives, columns_in, registers_in, shape_in, IsOnFabric}
 use Rattle.pr_tool_modes.proofs.LinesLemmas.{program_lines}
 use Rattle.pr_tool_modes.proofs.RunVerdicts.{come_of, run_owed}
@@ -70,7 +71,7 @@ told_run {N} {P} g k widths machine units bytes text two on ends means counts te
     let told : text ≡ summary g.turns units (length on.conf.stages) (cycles_of (length on.conf.stages) g.stripes (length rows)) (written (out means.program rows)) =
     tells on.conf g.stripes _ stands
     ∙ (ap (λ (t : ℕ). summary g.turns units (length on.conf.stages) t bytes) time
-    ∙ ap (λ (b : List ℕ). summary g.turns units (length on.conf.stages) (cycles_of (length on.conf.stages) g.stripes (length rows)) b) (means.lines refl)) in
+    ∙ ap (λ (b : List ℕ). summary g.turns units (length on.conf.stages) (cycles_of (length on.conf.stages) g.stripes (length rows)) b) means.lines) in
     record {
       program = means.program;
       widths = means.equation_widths;
@@ -91,13 +92,13 @@ gained_is old new bytes piece empty now h = subst (λ (o : Option (List ℕ)). I
 
 -- the lines of the program's meaning are those that the sink holds
 gained_means : (g : Generation) (k : Call) (widths : List ℕ) (rows : List (List ℕ)) (bytes : List ℕ) → k.old.bytes ≡ Some [] → k.new.bytes ≡ Some bytes
-    → MeansLines (generated g.turns) (job_for g) widths rows (Appends k.old k.new) → MeansLines (generated g.turns) (job_for g) widths rows (λ t. bytes ≡ t)
+    → MeansLines (generated g.turns) (job_for g) widths rows (GainsLines false k.old k.new) → MeansLines (generated g.turns) (job_for g) widths rows (λ t. bytes ≡ t)
 gained_means g k widths rows bytes empty now means = record {
   program = means.program;
   equation_widths = means.equation_widths;
   has = means.has;
   inputs = means.inputs;
-  lines = λ off. gained_is k.old k.new bytes _ empty now (means.lines off);
+  lines = gained_is k.old k.new bytes means.lines.text empty now means.lines.gained ∙ means.lines.are;
 }
 
 -- what came of the run, as a run of the files of a shelf

@@ -2,6 +2,7 @@ pub mod CompileLaws
 pub mod ReasonLemmas
 pub mod FileLemmas
 pub mod SourceLemmas
+pub mod UnloggedLemmas
 pub mod RunLemmas
 pub mod RunVerdicts
 pub mod TextVerdicts

@@ -21,7 +21,7 @@ use Rattle.pr_machine.specs.Stands.{Stands, History}
 use Rattle.pr_run_script.specs.Script.{most_cycles}
 use Rattle.pr_run_script.specs.Counts.{cycles_in}
 use Rattle.pr_run.specs.Turns.{Going}
-use Rattle.pr_run.proofs.Lines.{front_longer, nothing_appended}
+use Rattle.pr_run.proofs.Lines.{nothing_appended}
 use Rattle.pr_base.specs.declared.fabrics.Fabric.{Fabric}
 use Rattle.pr_tool_answers.specs.declared.answers.Answer.{Answer}
 use Rattle.pr_tool_modes.specs.declared.benches.Bench.{Bench}
@@ -38,12 +38,14 @@ use Rattle.pr_tool_modes.specs.Runs.{Course, course, ends_well, HasAll, IsWhole,
 use Rattle.pr_tool_modes.specs.Samples.{fed_in, fed_at_most, fed_whole, pieces}
 use Rattle.pr_tool_modes.specs.Sources.{Source, Text, name_in, most_in, Gives}
 use Rattle.pr_tool_modes.specs.Stalls.{HasStall}
+use Rattle.pr_tool_modes.specs.Unlogged.{GainsLines, GainsFirst}
 use Rattle.pr_tool_modes.proofs.CompileLaws.{is_meant}
 use Rattle.pr_tool_modes.proofs.EvalVerdicts.{program_kind}
 use Rattle.pr_tool_modes.proofs.FedLemmas.{fed_rows, fed_limit, short_fed, long_fed}
 use Rattle.pr_tool_modes.proofs.ReasonLemmas.{is_of_samples, refuses, IsKind}
 use Rattle.pr_tool_modes.proofs.RunVerdicts.{refusal_is}
 use Rattle.pr_tool_modes.proofs.SourceLemmas.{of_fabric}
+use Rattle.pr_tool_modes.proofs.UnloggedLemmas.{gains_longer}
 
 -- ---- answers
 limit_lines : (all : Ending → Type 0) (read cut none : Type 0) (which : Cap) → MatchBool (is_of_samples which) (all (Limit which)) none → ByAnswer all read cut none (Answer.Limit which)
@@ -85,8 +87,8 @@ kind_lines all read cut none cause a (inr (inr memory)) r h = subst (ByAnswer al
 
 -- ---- lines of the first samples
 -- the lines of the first samples are the first lines
-front_of : (program : Program) (rows all : List (List ℕ)) (old new : Tape) → rows ≡ take (length rows) all → AppendsFront old new (written (out program rows)) → AppendsFront old new (written (out program all))
-front_of program rows all old new first text =
+front_of : (program : Program) (rows all : List (List ℕ)) (log : Bool) (old new : Tape) → rows ≡ take (length rows) all → GainsFirst log old new (written (out program rows)) → GainsFirst log old new (written (out program all))
+front_of program rows all log old new first text =
     let n = length rows in
     let rest = drop n all in
     let parts : rows ++ rest ≡ all = ap (λ (xs : List (List ℕ)). xs ++ rest) first ∙ take-append-drop n all in
@@ -94,7 +96,7 @@ front_of program rows all old new first text =
     let lines : written (out program rows) ++ written (drop n (out program all)) ≡ written (out program all) =
     sym (flat_map-append row_line (out program rows) (drop n (out program all)))
     ∙ ap written (ap (λ (xs : List (List ℕ)). xs ++ drop n (out program all)) begins ∙ take-append-drop n (out program all)) in
-    subst (λ (t : List ℕ). AppendsFront old new t) lines (front_longer old new (written (out program rows)) (written (drop n (out program all))) text)
+    subst (λ (t : List ℕ). GainsFirst log old new t) lines (gains_longer log old new (written (out program rows)) (written (drop n (out program all))) text)
 
 -- ---- an evaluation
 -- the samples of the file that was read are those of this one
@@ -179,10 +181,10 @@ record Ran (N P : ℕ) (further : List ℕ → List (List ℕ) → (List ℕ →
   pub on_run : (widths : List ℕ) (rows : List (List ℕ)) (good : Bool) → HasRunOn files j k widths rows good machine → OnBench (λ N P m. HasRunOn files j k widths rows good m) bench
   pub on_begun : (widths : List ℕ) (rows : List (List ℕ)) (good : Bool) → HasBegunOn files j k widths rows good machine → OnBench (λ N P m. HasBegunOn files j k widths rows good m) bench
   pub whole : (rows : List (List ℕ)) → rows ≡ take (length rows) (fed_at_most (most_in j.source) has.conf.inputs (samples_file files j)).samples
-      → (j.log ≡ false → Appends k.old k.new (written (result_numbers N P has.conf (pieces has.conf rows)))) → further has.conf.inputs rows (Appends k.old k.new)
+      → GainsLines j.log k.old k.new (written (result_numbers N P has.conf (pieces has.conf rows))) → further has.conf.inputs rows (GainsLines j.log k.old k.new)
   pub front : (rows : List (List ℕ)) → rows ≡ take (length rows) (fed_at_most (most_in j.source) has.conf.inputs (samples_file files j)).samples
-      → (j.log ≡ false → AppendsFront k.old k.new (written (result_numbers N P has.conf (pieces has.conf rows)))) → further has.conf.inputs rows (AppendsFront k.old k.new)
-  pub longer : (rows all : List (List ℕ)) → rows ≡ take (length rows) all → further has.conf.inputs rows (AppendsFront k.old k.new) → further has.conf.inputs all (AppendsFront k.old k.new)
+      → GainsFirst j.log k.old k.new (written (result_numbers N P has.conf (pieces has.conf rows))) → further has.conf.inputs rows (GainsFirst j.log k.old k.new)
+  pub longer : (rows all : List (List ℕ)) → rows ≡ take (length rows) all → further has.conf.inputs rows (GainsFirst j.log k.old k.new) → further has.conf.inputs all (GainsFirst j.log k.old k.new)
 
 module _ {N P : ℕ} {further : List ℕ → List (List ℕ) → (List ℕ → Type 0) → Type 0} (r : Ran N P further) where
   -- its samples, and those of the file
@@ -245,7 +247,7 @@ module _ {N P : ℕ} {further : List ℕ → List (List ℕ) → (List ℕ → T
         widths = r.has.conf.inputs;
         ends = same.1;
         ran = subst (λ (xs : List (List ℕ)). OnBench (λ N P m. HasRunOn r.files r.j r.k r.has.conf.inputs xs (ends_well ending) m) r.bench) same.0 on;
-        means = subst (λ (xs : List (List ℕ)). further r.has.conf.inputs xs (Appends r.k.old r.k.new)) same.0 (r.whole rows_of rows_first whole.results);
+        means = subst (λ (xs : List (List ℕ)). further r.has.conf.inputs xs (GainsLines r.j.log r.k.old r.k.new)) same.0 (r.whole rows_of rows_first whole.results);
       }
 
   read_run : IsBroken course_of rows_of → IsWhole N P course_of rows_of r.has.run.run.history false → IsReadRun further r.files r.j file_of r.k r.bench
@@ -389,21 +391,21 @@ program_ran {N} {P} files j name target k was bench machine a is told has on_run
         equation_widths = p.widths;
         has = p.has;
         inputs = sym p.means.inputs;
-        lines = λ off. subst (λ (t : List ℕ). Appends k.old k.new t) (lines_same files j has.conf p rows first) (results off);
+        lines = subst (λ (t : List ℕ). GainsLines j.log k.old k.new t) (lines_same files j has.conf p rows first) results;
       };
       front = λ rows first results. record {
         program = p.program;
         equation_widths = p.widths;
         has = p.has;
         inputs = sym p.means.inputs;
-        lines = λ off. subst (λ (t : List ℕ). AppendsFront k.old k.new t) (lines_same files j has.conf p rows first) (results off);
+        lines = subst (λ (t : List ℕ). GainsFirst j.log k.old k.new t) (lines_same files j has.conf p rows first) results;
       };
       longer = λ rows all first means. record {
         program = means.program;
         equation_widths = means.equation_widths;
         has = means.has;
         inputs = means.inputs;
-        lines = λ off. front_of means.program rows all k.old k.new first (means.lines off);
+        lines = front_of means.program rows all j.log k.old k.new first means.lines;
       };
     } in
     ended_run r was a has.run.run.end

@@ -13,8 +13,6 @@ use Rattle.pr_machine.specs.Stands.{History, conf_of, stripes_of}
 use Rattle.pr_conf.specs.Shape.{Shape}
 use Rattle.pr_run_script.specs.Script.{Held, most_cycles}
 use Rattle.pr_run_script.specs.Counts.{IsPrefix, cycles_in}
-use Rattle.pr_run_script.specs.Text.{run_text}
-use Rattle.pr_run_script.proofs.TextLaws.{run_is_written}
 use Rattle.pr_run.specs.declared.ending.RunEnd.{RunEnd}
 use Rattle.pr_run.specs.Setting.{Setting, View, IsSet, setting_of, stall_turns}
 use Rattle.pr_run.specs.Setting.{pieces as pieces_in}
@@ -24,7 +22,9 @@ use Rattle.pr_run.proofs.NextSamples.{follows_nil}
 use Rattle.pr_run.proofs.WholeRuns.{set_of}
 use Rattle.pr_tool_modes.specs.Samples.{fed_at_most, fed_to, pieces}
 use Rattle.pr_tool_modes.specs.Ready.{IsReady}
+use Rattle.pr_tool_modes.specs.Unlogged.{without_log}
 use Rattle.pr_tool_modes.specs.Runs.{Course, course, answer_by, events_on, text_on, results_on, ends_well, HasAll, IsWhole, IsBroken, IsBegun, IsStopped, IsEnd, IsRun}
+use Rattle.pr_tool_modes.proofs.UnloggedLemmas.{run_is_results, gains_first}
 
 -- ---- the samples
 pub fed_is : (widths ws : List ℕ) (limit most bound : ℕ) (file : List ℕ) → ws ≡ widths → limit ≡ 2 ^ 44 → most ≡ bound → fed_of ws limit most file ≡ fed_at_most bound widths file
@@ -74,11 +74,10 @@ events_same b rows = ap (λ (xs : List (List ℕ)). events_of (setting b) xs) (p
 lines_same : {N P : ℕ} (b : Begun N P) (rows : List (List ℕ)) (good : Bool) → lines_of N P (setting b) (pieces_in (setting b) rows) good ≡ text_on N P (course_of b) rows good
 lines_same {N} {P} b rows good = ap (λ (xs : List (List ℕ)). lines_of N P (setting b) xs good) (pieces_same b rows)
 
-results_same : {N P : ℕ} (b : Begun N P) (rows : List (List ℕ)) (good : Bool) → b.log ≡ false → text_on N P (course_of b) rows good ≡ results_on N P (course_of b) rows
-results_same {N} {P} b rows good off =
+results_same : {N P : ℕ} (b : Begun N P) (rows : List (List ℕ)) (good : Bool) → without_log b.log (text_on N P (course_of b) rows good) ≡ results_on N P (course_of b) rows
+results_same {N} {P} b rows good =
     let c = conf_of b.machine in
-    ap (λ (l : Bool). run_text N P l c (stripes_of b.machine) (pieces c rows) (stall_turns b.stall) good) off
-    ∙ run_is_written N P c (stripes_of b.machine) (pieces c rows) (stall_turns b.stall) good (set b).some (set b).two
+    run_is_results N P b.log c (stripes_of b.machine) (pieces c rows) (stall_turns b.stall) good (set b).some (set b).two
 
 -- the samples of the file are those of the feed, also as it is after the run
 first_fed : {N P : ℕ} (b : Begun N P) (file : List ℕ) → fed b.feed file ≡ fed_at_most (most_of b.feed) (conf_of b.machine).inputs file
@@ -114,7 +113,7 @@ whole_of {N} {P} b rows h good w =
     record {
       events = w.events ∙ events_same b rows;
       text = text;
-      results = λ off. subst (λ (t : List ℕ). Appends b.old b.new t) (results_same b rows good off) text;
+      results = record { text = text_on N P (course_of b) rows good; gained = text; are = results_same b rows good };
     }
 
 broken_of : {N P : ℕ} (b : Begun N P) (f : Feed) (rows : List (List ℕ)) → HasRead (setting b) f b.now rows Got.ReadFault → IsBroken (course_of b) rows
@@ -138,7 +137,7 @@ begun_on {N} {P} b rows more last h good stopped well follow =
     record {
       events = subst (λ (w : History). IsPrefix h w) (ap (λ (xs : List (List ℕ)). events_of (setting b) xs) parts ∙ events_same b (rows ++ more)) (stopped.events (pieces_in (setting b) more) follow);
       text = text;
-      results = λ off. subst (λ (t : List ℕ). AppendsFront b.old b.new t) (results_same b (rows ++ more) good off) text;
+      results = gains_first b.log b.old b.new (text_on N P (course_of b) (rows ++ more) good) (results_on N P (course_of b) (rows ++ more)) (results_same b (rows ++ more) good) text;
     }
 
 -- nothing follows the last sample

@@ -8,6 +8,7 @@ pub mod Calls
 pub mod Texts
 pub mod Stalls
 pub mod Samples
+pub mod Unlogged
 pub mod Ready
 pub mod Runs
 pub mod Executions

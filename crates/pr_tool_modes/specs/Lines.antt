@@ -22,6 +22,7 @@ use Rattle.pr_tool_modes.specs.Runs.{ends_well}
 use Rattle.pr_tool_modes.specs.Samples.{fed_at_most, fed_to, fed_whole, pieces}
 use Rattle.pr_tool_modes.specs.Sources.{most_in, Gives}
 use Rattle.pr_tool_modes.specs.Stalls.{HasStall}
+use Rattle.pr_tool_modes.specs.Unlogged.{GainsLines, GainsFirst}
 
 -- by the answer: all lines are written, and the samples end so; a read failed; a write failed; or nothing was to be written
 abbrev pub ByAnswer : (Ending → Type 0) → Type 0 → Type 0 → Type 0 → Answer → Type 0
@@ -57,7 +58,7 @@ AreEvalLines files name file old new answer =
 -- ---- a run
 -- a machine with the configuration of the source, whose inputs have these widths, was asked all events of a run on these
 -- samples, under the turns of the stall text: they have no more cycles than one for each turn and those that drain the samples.
--- All their lines are written; without the log these are the lines of the results
+-- All their lines are written; without those of the log they are the lines of the results
 pub record HasRunOn {N P : ℕ} (files : List ℕ → Option (List ℕ)) (j : Job) (k : Call) (widths : List ℕ) (rows : List (List ℕ)) (good : Bool) (machine : Going N P) : Type 0 where
   pub conf : Shape
   pub gives : Gives (Some files) j.source N P conf
@@ -67,7 +68,7 @@ pub record HasRunOn {N P : ℕ} (files : List ℕ → Option (List ℕ)) (j : Jo
   pub stands : Stands machine conf j.stripes (script (length conf.stages) j.stripes (pieces conf rows) turns)
   pub cycles : cycles_in (script (length conf.stages) j.stripes (pieces conf rows) turns) ≤ most_cycles (length conf.stages) j.stripes turns (length rows)
   pub text : Appends k.old k.new (run_text N P j.log conf j.stripes (pieces conf rows) turns good)
-  pub results : j.log ≡ false → Appends k.old k.new (written (result_numbers N P conf (pieces conf rows)))
+  pub results : GainsLines j.log k.old k.new (written (result_numbers N P conf (pieces conf rows)))
 
 -- it was asked the first of these events, and some first bytes of their lines are written
 pub record HasBegunOn {N P : ℕ} (files : List ℕ → Option (List ℕ)) (j : Job) (k : Call) (widths : List ℕ) (rows : List (List ℕ)) (good : Bool) (machine : Going N P) : Type 0 where
@@ -81,7 +82,7 @@ pub record HasBegunOn {N P : ℕ} (files : List ℕ → Option (List ℕ)) (j : 
   pub events : IsPrefix history (script (length conf.stages) j.stripes (pieces conf rows) turns)
   pub cycles : cycles_in history ≤ most_cycles (length conf.stages) j.stripes turns (length rows)
   pub text : AppendsFront k.old k.new (run_text N P j.log conf j.stripes (pieces conf rows) turns good)
-  pub results : j.log ≡ false → AppendsFront k.old k.new (written (result_numbers N P conf (pieces conf rows)))
+  pub results : GainsFirst j.log k.old k.new (written (result_numbers N P conf (pieces conf rows)))
 
 -- the machine is on the bench
 abbrev pub OnBench : ((N P : ℕ) → Going N P → Type 0) → Bench → Type 0
@@ -94,7 +95,7 @@ pub record IsWholeRun (further : List ℕ → List (List ℕ) → (List ℕ → 
   pub widths : List ℕ
   pub ends : (fed_at_most (most_in j.source) widths file).ending ≡ ending
   pub ran : OnBench (λ N P machine. HasRunOn files j k widths (fed_at_most (most_in j.source) widths file).samples (ends_well ending) machine) bench
-  pub means : further widths (fed_at_most (most_in j.source) widths file).samples (Appends k.old k.new)
+  pub means : further widths (fed_at_most (most_in j.source) widths file).samples (GainsLines j.log k.old k.new)
 
 -- a read failed after these samples, the first of the file. Where the file was read from its beginning and in the run alone,
 -- they are those of the lines that stand with their LF in the bytes that were reached
@@ -103,7 +104,7 @@ pub record IsReadRun (further : List ℕ → List (List ℕ) → (List ℕ → T
   pub rows : List (List ℕ)
   pub first : rows ≡ take (length rows) (fed_at_most (most_in j.source) widths file).samples
   pub ran : OnBench (λ N P machine. HasRunOn files j k widths rows false machine) bench
-  pub means : further widths rows (Appends k.old k.new)
+  pub means : further widths rows (GainsLines j.log k.old k.new)
   pub reached : (reach : ℕ) → files j.second ≡ Some file → IsNeither j j.second → k.before.reach j.second ≡ Some 0 → k.now.reach j.second ≡ Some reach
       → length rows ≡ length (fed_to (most_in j.source) widths file reach).samples
 
@@ -121,8 +122,8 @@ pub record IsCutRun (further : List ℕ → List (List ℕ) → (List ℕ → Ty
   pub closing : Bool
   pub over : closing ≡ true → AreAllGood files j file widths rows
   pub ran : OnBench (λ N P machine. HasBegunOn files j k widths rows closing machine) bench
-  pub means : further widths rows (AppendsFront k.old k.new)
-  pub all : further widths (fed_at_most (most_in j.source) widths file).samples (AppendsFront k.old k.new)
+  pub means : further widths rows (GainsFirst j.log k.old k.new)
+  pub all : further widths (fed_at_most (most_in j.source) widths file).samples (GainsFirst j.log k.old k.new)
 
 -- no run was begun: nothing is written, and the bench is as it was
 pub record IsNoRun (k : Call) (was bench : Bench) : Type 0 where
@@ -147,14 +148,14 @@ AreRunLines further files j k was bench answer =
     (IsNoRun k was bench) answer
 
 -- ---- a run of a program
--- a program that no point refuses is in the first file, its inputs have these widths, and without the log the lines of what it
--- means on these samples are put; what it means is also what the log leaves of a text
+-- a program that no point refuses is in the first file, its inputs have these widths, and the lines of what it means on these
+-- samples are put
 pub record MeansLines (files : List ℕ → Option (List ℕ)) (j : Job) (widths : List ℕ) (rows : List (List ℕ)) (put : List ℕ → Type 0) : Type 0 where
   pub program : Program
   pub equation_widths : List ℕ
   pub has : HasProgram (Some files) (first_of j) program equation_widths
   pub inputs : inputs_of program ≡ widths
-  pub lines : j.log ≡ false → put (written (out program rows))
+  pub lines : put (written (out program rows))
 
 abbrev pub AreProgramLines : (List ℕ → Option (List ℕ)) → Job → Call → Bench → Bench → Answer → Type 0
 AreProgramLines files j k was bench answer = AreRunLines (MeansLines files j) files j k was bench answer

@@ -16,6 +16,7 @@ use Rattle.pr_run.specs.Setting.{View}
 use Rattle.pr_run.specs.Turns.{Going}
 use Rattle.pr_tool_answers.specs.declared.answers.Answer.{Answer}
 use Rattle.pr_tool_modes.specs.Samples.{fed_at_most, fed_to, pieces}
+use Rattle.pr_tool_modes.specs.Unlogged.{GainsLines, GainsFirst}
 
 abbrev pub answer_by : RunEnd → Answer
 answer_by (RunEnd.Done cycles stalls results) = Answer.Ok
@@ -60,7 +61,7 @@ events_on r rows = script (length r.conf.stages) r.stripes (pieces r.conf rows) 
 abbrev pub text_on : ℕ → ℕ → Course → List (List ℕ) → Bool → List ℕ
 text_on N P r rows good = run_text N P r.log r.conf r.stripes (pieces r.conf rows) r.turns good
 
--- the lines of their results, which are the text without the log
+-- the lines of their results, which are the text without the lines of the log
 abbrev pub results_on : ℕ → ℕ → Course → List (List ℕ) → List ℕ
 results_on N P r rows = written (result_numbers N P r.conf (pieces r.conf rows))
 
@@ -79,7 +80,7 @@ pub record HasAll (r : Course) (rows : List (List ℕ)) (ending : Ending) : Type
 pub record IsWhole (N P : ℕ) (r : Course) (rows : List (List ℕ)) (history : History) (good : Bool) : Type 0 where
   pub events : history ≡ events_on r rows
   pub text : Appends r.old r.new (text_on N P r rows good)
-  pub results : r.log ≡ false → Appends r.old r.new (results_on N P r rows)
+  pub results : GainsLines r.log r.old r.new (results_on N P r rows)
 
 -- a read failed after these samples: where the file was read from its beginning alone, they are those of the lines that
 -- stand with their LF in the bytes that were reached
@@ -92,7 +93,7 @@ pub record IsBroken (r : Course) (rows : List (List ℕ)) : Type 0 where
 pub record IsBegun (N P : ℕ) (r : Course) (rows : List (List ℕ)) (history : History) (good : Bool) : Type 0 where
   pub events : IsPrefix history (events_on r rows)
   pub text : AppendsFront r.old r.new (text_on N P r rows good)
-  pub results : r.log ≡ false → AppendsFront r.old r.new (results_on N P r rows)
+  pub results : GainsFirst r.log r.old r.new (results_on N P r rows)
 
 -- a write failed after these samples: some first bytes of the lines are written, and the machine was asked to take each
 -- result whose line is whole; the log's last line is begun only where all else is over, and the samples are all and good. It was
