@@ -158,7 +158,7 @@ share_fault list stripes k a (inl held) is untold = by_cause held.cause
         let cause = kind_fault _ kind.place kind.alone kind.kind (sym kind.answers ∙ is) in
         untold_cause cause.0 k.before.faults k.now.faults k.before.told untold cause.1
     by_cause (inr (inr memory)) = absurd (let no : Answer.ReadFault ≡ Answer.Memory = sym is ∙ memory in cc)
-share_fault list stripes k a (inr shared) is untold = by_end shared.taken
+share_fault list stripes k a (inr shared) is untold = by_end shared.turned.taken
   where
     by_end : HaveTaken shared.firsts shared.items (world k.before.told shared.faults k.old) (world k.before.told k.now.faults k.new) k.out_before k.out_now a → Rose k.before.faults k.now.faults
     by_end (inl done) =
@@ -173,7 +173,7 @@ share_fault list stripes k a (inr shared) is untold = by_end shared.taken
 
 pub share_write : (list : List ℕ) (stripes : ℕ) (k : Call) (a : Answer) → IsSharedBy list stripes k a → a ≡ Answer.WriteFault → Rose k.out_before k.out_now
 share_write list stripes k a (inl held) is = absurd (true≢false (sym (ap is_other is) ∙ held_other list k a held.cause))
-share_write list stripes k a (inr shared) is = by_end shared.taken
+share_write list stripes k a (inr shared) is = by_end shared.turned.taken
   where
     by_end : HaveTaken shared.firsts shared.items (world k.before.told shared.faults k.old) (world k.before.told k.now.faults k.new) k.out_before k.out_now a → Rose k.out_before k.out_now
     by_end (inl done) = absurd (true≢false (sym (ap is_never is) ∙ (ap is_never done.1 ∙ all_never (map end_of shared.items))))
@@ -181,7 +181,7 @@ share_write list stripes k a (inr shared) is = by_end shared.taken
 
 pub share_memory : (list : List ℕ) (stripes : ℕ) (k : Call) (a : Answer) → IsSharedBy list stripes k a → a ≡ Answer.Memory → k.new ≡ k.old
 share_memory list stripes k a (inl held) is = held.unwritten
-share_memory list stripes k a (inr shared) is = absurd (by_end shared.taken)
+share_memory list stripes k a (inr shared) is = absurd (by_end shared.turned.taken)
   where
     by_end : HaveTaken shared.firsts shared.items (world k.before.told shared.faults k.old) (world k.before.told k.now.faults k.new) k.out_before k.out_now a → ⊥
     by_end (inl done) = true≢false (sym (ap is_never is) ∙ (ap is_never done.1 ∙ all_never (map end_of shared.items)))
@@ -189,7 +189,7 @@ share_memory list stripes k a (inr shared) is = absurd (by_end shared.taken)
 
 pub share_usage : (list : List ℕ) (stripes : ℕ) (k : Call) (a : Answer) → IsSharedBy list stripes k a → a ≡ Answer.Usage → ⊥
 share_usage list stripes k a (inl held) is = true≢false (sym (ap is_other is) ∙ held_other list k a held.cause)
-share_usage list stripes k a (inr shared) is = by_end shared.taken
+share_usage list stripes k a (inr shared) is = by_end shared.turned.taken
   where
     by_end : HaveTaken shared.firsts shared.items (world k.before.told shared.faults k.old) (world k.before.told k.now.faults k.new) k.out_before k.out_now a → ⊥
     by_end (inl done) = true≢false (sym (ap is_never is) ∙ (ap is_never done.1 ∙ all_never (map end_of shared.items)))

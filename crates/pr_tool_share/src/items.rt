@@ -9,13 +9,13 @@ ghost use Rattle.pr_tool_share.specs.Items.{IsParkedFor, IsItemOf, AreItemsOf};
 use crate::parts::part_answer;
 use pr_conf::Configuration;
 use pr_edge::Shelf;
-use pr_machine::Parked;
+use pr_machine::{ParkRefused, Parked};
 use pr_samples::Feed;
 use pr_share::ShareItem;
 use pr_share_list::Entry;
 use pr_tool_answers::Answer;
 use pr_tool_modes::compile_on;
-use std::alloc::{AllocError, Global};
+use std::alloc::Global;
 
 /// Reads and compiles the program of an entry, for the base fabric and not narrowed.
 fn compile<S: Shelf>(
@@ -36,16 +36,13 @@ fn compile<S: Shelf>(
 }
 
 /// A configuration that is parked, with the samples and the quota of an entry.
-fn park(
-    alloc: Global,
-    said: &Entry,
-    conf: Configuration<16, 8>,
-) -> Result<ShareItem<16, 8>, AllocError>
-    ensures { IfOk result (λ i. IsParkedFor (entry_in said.now) (shape_of conf) i) }
+fn park(alloc: Global, said: &Entry, conf: Configuration<16, 8>) -> Result<ShareItem<16, 8>, Answer>
+    ensures parked { IfOk result (λ i. IsParkedFor (entry_in said.now) (shape_of conf) i) }
+    ensures refused { IfErr result (λ a. a ≡ Answer.Memory) }
 {
     let feed = Feed::make(alloc, &said.samples, &conf.inputs)?;
     match Parked::make(alloc, conf) {
-        Err(_) => Err(AllocError),
+        Err(ParkRefused { .. }) => Err(Answer::Memory),
         Ok(parked) => Ok(ShareItem {
             parked: Some(parked),
             feed,
@@ -70,7 +67,8 @@ fn make_item<S: Shelf>(
     ensures others { (q : List ℕ) → q ≢ (entry_in entry.now).program → S.reach shelf.new q ≡ S.reach shelf.old q }
 {
     let conf = compile(alloc, shelf, entry)?;
-    Ok(park(alloc, entry, conf)?)
+    let item = park(alloc, entry, conf)?;
+    Ok(item)
 }
 
 /// Makes the programs of a list ready for their turns. They are read and compiled in order, and the first that is refused ends it.

@@ -7,7 +7,7 @@ ghost use Rattle.pr_share.specs.Items.{World, world, AreReady, names_of, IsNoneO
 ghost use Rattle.pr_tool_modes.specs.Calls.{call};
 ghost use Rattle.pr_tool_share.specs.Items.{Item};
 ghost use Rattle.pr_tool_share.specs.Lists.{IsUnlisted};
-ghost use Rattle.pr_tool_share.specs.Shares.{HaveTaken, IsSharedBy};
+ghost use Rattle.pr_tool_share.specs.Shares.{HaveTurned, IsSharedBy};
 
 use crate::ends::answer_of_all;
 use crate::items::make_items;
@@ -50,25 +50,26 @@ fn make_place(alloc: Global, stripes: usize) -> Result<Place, AllocError>
     Ok(Place { machine, room })
 }
 
-/// Runs programs in turns until the samples of all have ended. No memory is taken.
+/// Runs programs in turns on this machine until the samples of all have ended. It can take no memory, so there is no other machine.
 fn take_turns<S: Shelf, K: Sink>(
-    place: Place,
+    machine: Machine<16, 8, Bare>,
+    room: &mut Room,
     items: &mut [ShareItem<16, 8>],
     shelf: &mut S,
     out: &mut K,
 ) -> Answer
     requires few { length items.old ≤ 8 }
     requires ready { AreReady items.old }
-    ensures taken { HaveTaken items.old items.new (world (S.told shelf.old) (S.faults shelf.old)
-        (K.told out.old)) (world (S.told shelf.new) (S.faults shelf.new) (K.told out.new))
+    ensures turned { HaveTurned (bare_stripes machine) items.old items.new
+        (world (S.told shelf.old) (S.faults shelf.old) (K.told out.old))
+        (world (S.told shelf.new) (S.faults shelf.new) (K.told out.new))
         (K.faults out.old) (K.faults out.new) result }
     ensures told { S.told shelf.new ≡ S.told shelf.old }
     ensures others { (q : List ℕ) → IsNoneOf (names_of items.old) q → S.reach shelf.new q ≡ S.reach shelf.old q }
     ensures shelf_later { S.faults shelf.old ≤ S.faults shelf.new }
     ensures out_later { K.faults out.old ≤ K.faults out.new }
 {
-    let Place { machine, mut room } = place;
-    match share(machine, items, shelf, out, &mut room) {
+    match share(machine, items, shelf, out, room) {
         ShareEnd::WriteFault => Answer::WriteFault,
         ShareEnd::Done => answer_of_all(items),
     }
@@ -107,7 +108,10 @@ pub fn share_list<S: Shelf, K: Sink>(
         Err(answer) => return answer,
     };
     match make_place(alloc, sharing.stripes) {
-        Ok(place) => take_turns(place, &mut items, shelf, out),
+        Ok(place) => {
+            let Place { machine, mut room } = place;
+            take_turns(machine, &mut room, &mut items, shelf, out)
+        }
         Err(_) => Answer::Memory,
     }
 }

@@ -1,14 +1,17 @@
-use Rattle.std.proofs.Common.{◌≡◌, ◌⊎◌, ◌∙◌, List, length, map, refl, sym, ap, subst, arith, inl, inr}
+use Rattle.std.proofs.Common.{◌≡◌, ◌≢◌, ◌⊎◌, ◌∙◌, ℕ, List, length, map, refl, sym, ap, subst, arith, inl, inr}
 use Rattle.pr_edge.specs.Files.{Told}
 use Rattle.pr_share.specs.Items.{world, AreReady, names_of, IsNoneOf}
-use Rattle.pr_share_list.specs.List.{entry_in}
+use Rattle.pr_share_list.specs.List.{Entry, entry_in}
 use Rattle.pr_share_list.specs.declared.lines.Entry.{Entry as Named}
 use Rattle.pr_tool_answers.specs.declared.answers.Answer.{Answer}
-use Rattle.pr_tool_share.specs.Lists.{IsProgramRefusal, IsNoProgram}
+use Rattle.pr_tool_share.specs.Lists.{HasList, IsProgramRefusal, IsNoProgram}
 use Rattle.pr_tool_share.specs.Items.{Item, AreItemsOf}
-use Rattle.pr_tool_share.specs.Shares.{HaveTaken}
+use Rattle.pr_tool_share.specs.Shares.{HaveTurned}
 use Rattle.pr_tool_share.proofs.ItemLemmas.{program_earlier, length-items, are_ready, listed_quotas, items_unnamed}
 use Rattle.pr_tool_share.proofs.shares.share_list.Goals as goal
+
+pub returns-in-Err-clause-shared : goal.returns-in-Err-clause-shared
+returns-in-Err-clause-shared g c = inl (record { cause = inl c.in-Err.ensures.refused; unwritten = refl; unread = λ q other programs. c.load_list.ensures.others q other })
 
 pub returns-in-Err-make_items-clause-shared : goal.returns-in-Err-make_items-clause-shared
 returns-in-Err-make_items-clause-shared g c =
@@ -19,6 +22,8 @@ returns-in-Err-make_items-clause-shared g c =
     let entries = map entry_in c.in-Ok.entries.items in
     let a = c.in-Err-make_items.answer in
     let refused = subst (λ (xs : List Named). IsProgramRefusal (g.S.Shelf.told c.load_list.new.shelf) mid now 0 (map entry_in xs) a ⊎ (a ≡ Answer.Memory)) c.deref.ensures.value c.in-Err-make_items.ensures.refused in
+    let unread : (q : List ℕ) → q ≢ c.args.sharing.now.list.now → ((es : List Entry) → HasList told c.args.sharing.now.list.now es → IsNoProgram es q) → g.S.Shelf.reach c.make_items.new.shelf q ≡ g.S.Shelf.reach c.args.shelf.now q =
+    λ q other programs. c.make_items.ensures.others q (subst (λ (xs : List Named). IsNoProgram (map entry_in xs) q) (sym c.deref.ensures.value) (programs _ c.in-Ok.ensures.list)) ∙ c.load_list.ensures.others q other in
     elim refused [
       | inl is ↦ inl (record {
         cause = inr (inl (record {
@@ -27,8 +32,9 @@ returns-in-Err-make_items-clause-shared g c =
           refused = program_earlier told before mid now 0 entries a c.load_list.ensures.later (subst (λ (t : Told). IsProgramRefusal t mid now 0 entries a) c.load_list.ensures.same is);
         }));
         unwritten = refl;
+        unread = unread;
       })
-      | inr memory ↦ inl (record { cause = inr (inr memory); unwritten = refl })
+      | inr memory ↦ inl (record { cause = inr (inr memory); unwritten = refl; unread = unread })
     ]
 
 pub take_turns-requires-clause-few : goal.take_turns-requires-clause-few
@@ -57,6 +63,13 @@ returns-in-Ok-make_place-clause-others g c = λ q none.
     let names = items_unnamed _ (map entry_in c.in-Ok.entries.items) c.in-Ok-make_items.items.items q ready (none.no_samples _ c.in-Ok.ensures.list) in
     c.take_turns.ensures.others q (subst (λ (xs : List Item). IsNoneOf (names_of xs) q) (sym c.deref_mut.ensures.value) names) ∙ (c.make_items.ensures.others q programs ∙ c.load_list.ensures.others q none.other)
 
+pub returns-clause-shared : goal.returns-clause-shared
+returns-clause-shared g c = inl (record {
+  cause = inr (inr refl);
+  unwritten = refl;
+  unread = λ q other programs. c.make_items.ensures.others q (subst (λ (xs : List Named). IsNoProgram (map entry_in xs) q) (sym c.deref.ensures.value) (programs _ c.in-Ok.ensures.list)) ∙ c.load_list.ensures.others q other;
+})
+
 pub returns-clause-others : goal.returns-clause-others
 returns-clause-others g c = λ q none.
     let programs = subst (λ (xs : List Named). IsNoProgram (map entry_in xs) q) (sym c.deref.ensures.value) (none.no_program _ c.in-Ok.ensures.list) in
@@ -76,11 +89,12 @@ returns-in-Ok-make_place-clause-shared g c =
     let items = c.take_turns.new.items in
     let same : g.S.Shelf.told c.make_items.new.shelf ≡ told = c.make_items.ensures.same ∙ c.load_list.ensures.same in
     let ready = subst (λ (xs : List Named). AreItemsOf (g.S.Shelf.told c.load_list.new.shelf) (map entry_in xs) firsts) c.deref.ensures.value c.in-Ok-make_items.ensures.ready in
-    let later = subst (λ (t : Told). HaveTaken c.deref_mut.result.now items (world (g.S.Shelf.told c.make_items.new.shelf) start old) (world t now new) before after c.take_turns.result) (c.take_turns.ensures.told ∙ same) c.take_turns.ensures.taken in
-    let taken = subst (λ (t : Told). HaveTaken c.deref_mut.result.now items (world t start old) (world told now new) before after c.take_turns.result) same later in
+    let mid = g.S.Shelf.told c.make_items.new.shelf in
+    let stripes = c.args.sharing.now.stripes in
+    let on = subst (λ (n : ℕ). HaveTurned n c.deref_mut.result.now items (world mid start old) (world (g.S.Shelf.told c.take_turns.new.shelf) now new) before after c.take_turns.result) c.in-Ok-make_place.ensures c.take_turns.ensures.turned in
+    let later = subst (λ (t : Told). HaveTurned stripes c.deref_mut.result.now items (world mid start old) (world t now new) before after c.take_turns.result) (c.take_turns.ensures.told ∙ same) on in
+    let turned = subst (λ (t : Told). HaveTurned stripes c.deref_mut.result.now items (world t start old) (world told now new) before after c.take_turns.result) same later in
     inr (record {
-      machine = c.in-Ok-make_place.place.machine;
-      stripes_are = c.in-Ok-make_place.ensures;
       entries = entries;
       has = c.in-Ok.ensures.list;
       firsts = firsts;
@@ -88,5 +102,5 @@ returns-in-Ok-make_place-clause-shared g c =
       faults = start;
       later = omega (arith, c.load_list.ensures.later, c.make_items.ensures.later);
       items = items;
-      taken = subst (λ (xs : List Item). HaveTaken xs items (world told start old) (world told now new) before after c.take_turns.result) c.deref_mut.ensures.value taken;
+      turned = subst (λ (xs : List Item). HaveTurned stripes xs items (world told start old) (world told now new) before after c.take_turns.result) c.deref_mut.ensures.value turned;
     })
