@@ -130,7 +130,8 @@ fn put_answer(text: &mut Line, bounds: &Bounds, answer: &Answer)
 
 /// The line of an answer; Ok has none.
 pub fn note_line(bounds: &Bounds, answer: &Answer) -> ArrayString<128>
-    ensures { result.bytes ≡ note_of bounds.now answer.now }
+    ensures bytes { result.bytes ≡ note_of bounds.now answer.now }
+    ensures short { length result.bytes ≤ 128 }
 {
     let mut text = Line::new();
     if let Answer::Ok = answer {
@@ -145,6 +146,7 @@ pub fn note_line(bounds: &Bounds, answer: &Answer) -> ArrayString<128>
 pub fn put_note<E: Sink>(note: &mut E, bounds: &Bounds, answer: &Answer)
     ensures gains { GainsNote (E.told note.old) (E.told note.new) (E.faults note.old) (E.faults note.new)
         (note_of bounds.now answer.now) }
+    ensures short { length (note_of bounds.now answer.now) ≤ 128 }
     ensures later { E.faults note.old ≤ E.faults note.new }
 {
     if let Answer::Ok = answer {

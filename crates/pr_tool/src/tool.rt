@@ -1,5 +1,5 @@
 //! The top call.
-ghost use Rattle.std.specs.Prelude.{◌≡◌, ◌≢◌, ◌⊎◌, ◌≤◌, ℕ, List, Some, None, Option};
+ghost use Rattle.std.specs.Prelude.{◌≡◌, ◌≢◌, ◌⊎◌, ◌≤◌, ℕ, List, length, Some, None, Option};
 ghost use Rattle.pr_edge.specs.Count.{Rose, IsSteady};
 ghost use Rattle.pr_run.specs.Setting.{view};
 ghost use Rattle.pr_tool_words.specs.Lawful.{Order};
@@ -105,6 +105,7 @@ pub fn piperench<S: Shelf, K: Sink, E: Sink>(
 
     ensures note { GainsNote (E.told note.old) (E.told note.new) (E.faults note.old) (E.faults note.new)
         (note_of (bounds_in (asked_by words.now)) result) }
+    ensures short { length (note_of (bounds_in (asked_by words.now)) result) ≤ 128 }
     ensures told { S.told shelf.new ≡ S.told shelf.old }
     ensures counts { (S.faults shelf.old ≤ S.faults shelf.new) × (K.faults out.old ≤ K.faults out.new)
         × (E.faults note.old ≤ E.faults note.new) }

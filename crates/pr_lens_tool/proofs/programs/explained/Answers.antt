@@ -15,6 +15,6 @@ returns c =
     let answer = c.args.answer.now in
     let f : Finding = record { severity = Severity.Error; code = c.deref.result; heading = c.as_bytes.result; start = e.start; end = e.end; message = c.deref-3.result } in
     let code = c.deref.ensures.value ∙ (c.in_ok-put_code.ensures ∙ ap (λ (b : List ℕ). b ++ code_of e.fault) c.new-code.ensures.items) in
-    let heading = c.as_bytes.ensures.value ∙ (c.deref-2.ensures.0 ∙ (c.note_line-note.ensures ∙ ap (λ (b : Bounds). note_of b answer) c.bounds_of-bounds.ensures)) in
+    let heading = c.as_bytes.ensures.value ∙ (c.deref-2.ensures.0 ∙ (c.note_line-note.ensures.bytes ∙ ap (λ (b : Bounds). note_of b answer) c.bounds_of-bounds.ensures)) in
     let is : IsFinding e (note_of (bounds_for c.args.order.now.fabric) answer) f = record { severity = refl; code = code; heading_is = heading; start = refl; end = refl; message = c.deref-3.ensures.value } in
     explanation_told (asked_in c.args.order.now) c.args.text.now e answer f c.new-told.result.items c.put_as.new.told.items c.new-told.ensures.items is c.in_ok-put_as.ensures

@@ -1,3 +1,4 @@
+use Rattle.std.proofs.Common.{◌≤◌, ℕ, List, length, subst}
 use Rattle.pr_run.specs.Setting.{view}
 use Rattle.pr_tool_answers.proofs.OwedLemmas.{owed_steady}
 use Rattle.pr_tool_modes.specs.Calls.{call}
@@ -32,3 +33,6 @@ returns-clause-write_fault g c = called_write (asked_by c.args.words.now) (call 
 
 pub returns-clause-memory : goal.returns-clause-memory
 returns-clause-memory g c = called_memory (asked_by c.args.words.now) (call (view (g.S.Shelf.told c.args.shelf.now) (g.S.Shelf.reach c.args.shelf.now) (g.S.Shelf.faults c.args.shelf.now)) (view (g.S.Shelf.told c.reply_to-reply.new.shelf) (g.S.Shelf.reach c.reply_to-reply.new.shelf) (g.S.Shelf.faults c.reply_to-reply.new.shelf)) (g.K.Sink.told c.args.out.now) (g.K.Sink.told c.reply_to-reply.new.out) (g.K.Sink.faults c.args.out.now) (g.K.Sink.faults c.reply_to-reply.new.out)) c.args.bench.now c.reply_to-reply.new.bench c.reply_to-reply.result.answer c.reply_to-reply.ensures.called
+
+pub returns-clause-short : goal.returns-clause-short
+returns-clause-short g c = subst (λ (t : List ℕ). length t ≤ 128) c.reply_to-reply.ensures.bounds c.put_note.ensures.short
