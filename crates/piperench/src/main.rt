@@ -1,24 +1,23 @@
 //! The program: the system's words, files and streams, put through the tool.
 #![tactic(auto)]
 
-ghost use Rattle.std.specs.Prelude.{◌≡◌, MatchResult, IfOk, None, Some, []};
-ghost use Rattle.pr_edge.specs.SureSink.{bytes_of, told_of};
+ghost use Rattle.std.specs.Prelude.{◌≡◌, ◌⊎◌, None};
+ghost use Rattle.pr_edge.specs.SureSink.{bytes_of};
 ghost use Rattle.pr_tool.specs.Noted.{GainsNote};
 ghost use Rattle.pr_tool.specs.Notes.{note_of};
 ghost use Rattle.pr_tool.specs.Words.{asked_by, bounds_in};
+ghost use Rattle.piperench.specs.Settled.{went_through, settled, line_after};
 
-use pr_edge::{Shelf, Sink, SureSink, write_all};
-use pr_system::{FileShelf, Gathered, Gathering, OutSink};
-use pr_tool::{Answer, Bench, Bounds, piperench, put_note};
-use std::alloc::Global;
-use std::cell::RefCell;
+mod calls;
+
+use calls::{Called, call, settle};
+use pr_edge::{Sink, write_all};
+use pr_system::OutSink;
+use pr_tool::{Answer, Bounds, put_note};
 use std::env;
-use std::io::{self, ErrorKind};
+use std::io::ErrorKind;
 use std::process::ExitCode;
 use std::rt::{Env, Files};
-
-/// The bytes of a note, at most.
-const NOTE: usize = 128;
 
 /// The words of the command line; else the answer to them.
 fn words_of<R: Env + AllocGlobal>(rt: &R) -> Result<Vec<String>, Answer> {
@@ -29,83 +28,69 @@ fn words_of<R: Env + AllocGlobal>(rt: &R) -> Result<Vec<String>, Answer> {
     }
 }
 
-/// Runs the tool on the words, on a bench of its own, and says what it answers.
-fn on_bench<S: Shelf, K: Sink>(
-    alloc: Global,
-    words: &[String],
-    shelf: &mut S,
-    out: &mut K,
-    note: &mut SureSink,
-) -> Answer
-    ensures { GainsNote (told_of note.old) (told_of note.new) 0 0 (note_of (bounds_in (asked_by words.now)) result) }
+/// Writes the line that was held back, where the last results went through, and else that of a write fault.
+fn put_held<E: Sink>(held: &[u8], through: bool, stderr: &mut E)
+    ensures { GainsNote (E.told stderr.old) (E.told stderr.new) (E.faults stderr.old) (E.faults stderr.new)
+        (line_after held.now through) }
 {
-    let mut bench = Bench::Nothing;
-    piperench(alloc, words, shelf, out, note, &mut bench)
-}
-
-/// Runs the tool on the words, with results gathered on their way to standard output; what it answers, and its note. The
-/// note is held back until the last result is through, since there is to be one at most.
-fn call<R: Files + Print + AllocGlobal>(
-    rt: &R,
-    words: &[String],
-) -> Result<(Answer, SureSink), Answer>
-    // The note that is held back is the line of the answer.
-    ensures { IfOk result
-        (λ r. GainsNote (record { bytes = Some []; keeps = 128 }) (told_of r.1) 0 0
-        (note_of (bounds_in (asked_by words.now)) r.0)) }
-{
-    let alloc = rt.alloc();
-    let Ok(mut note) = SureSink::make(alloc, NOTE) else {
-        return Err(Answer::Memory);
-    };
-    let gathering = Gathering::new(alloc, io::writer(rt)).map_err(|_| Answer::Memory)?;
-    let results = RefCell::new(gathering);
-    let answer = {
-        let mut shelf = FileShelf::make(alloc, rt, &results).map_err(|_| Answer::Memory)?;
-        let mut out = OutSink::new(Gathered { results: &results });
-        on_bench(alloc, words, &mut shelf, &mut out, &mut note)
-    };
-    if answer != Answer::WriteFault && !results.into_inner().finish().went_through() {
-        return Err(Answer::WriteFault);
+    if !through {
+        put_note(stderr, &Bounds::BASE, &Answer::WriteFault);
+        return;
     }
-    Ok((answer, note))
+    // Nobody can be told of a note that is not written.
+    match write_all(stderr, held) {
+        Ok(()) => {}
+        Err(_) => {}
+    }
 }
 
 /// Writes the note of a call, and says with which answer to end.
-fn report<E: Sink>(called: Result<(Answer, SureSink), Answer>, stderr: &mut E) -> Answer
-    ensures answer { MatchResult called (λ r. result ≡ r.0) (λ a. result ≡ a) }
-
-    // The line that was held back, or that of the answer, is written, up to a write that fails.
-    ensures note { MatchResult called
-        (λ r. GainsNote (E.told stderr.old) (E.told stderr.new) (E.faults stderr.old) (E.faults stderr.new)
-        (bytes_of r.1))
-        (λ a. GainsNote (E.told stderr.old) (E.told stderr.new) (E.faults stderr.old) (E.faults stderr.new)
-        (note_of (bounds_in None) a)) }
+fn report<W, E: Sink>(called: &Called<W>, stderr: &mut E) -> Answer
+    ensures answer { result ≡ settled called.now.told (went_through called.now.last) }
+    ensures note { GainsNote (E.told stderr.old) (E.told stderr.new) (E.faults stderr.old) (E.faults stderr.new)
+        (line_after (bytes_of called.now.note) (went_through called.now.last)) }
 {
-    match called {
-        Ok((answer, note)) => {
-            // Nobody can be told of a note that is not written.
-            match write_all(stderr, note.bytes()) {
-                Ok(()) | Err(_) => answer,
-            }
-        }
-        Err(answer) => {
-            put_note(stderr, &Bounds::BASE, &answer);
-            answer
-        }
-    }
+    let through = called.went_through();
+    put_held(called.note.bytes(), through, stderr);
+    settle(called.told, through)
 }
 
-/// Calls the tool with the words of the system, writes the note, and says with which answer to end.
-fn answer_to<R: Env + Files + Print + AllocGlobal, E: Sink>(rt: &R, stderr: &mut E) -> Answer {
-    let called = match words_of(rt) {
-        Ok(words) => call(rt, &words),
-        Err(answer) => Err(answer),
-    };
-    report(called, stderr)
+/// Writes the note of an answer that came before the tool was asked.
+fn refuse<E: Sink>(answer: Answer, stderr: &mut E) -> Answer
+    ensures answer { result ≡ answer }
+    ensures note { GainsNote (E.told stderr.old) (E.told stderr.new) (E.faults stderr.old) (E.faults stderr.new)
+        (note_of (bounds_in None) answer) }
+{
+    put_note(stderr, &Bounds::BASE, &answer);
+    answer
+}
+
+/// Calls the tool with these words, writes the note, and says with which answer to end.
+fn answer_to<R: Files + Print + AllocGlobal, E: Sink>(
+    rt: &R,
+    words: &[String],
+    stderr: &mut E,
+) -> Answer
+    // Words that are no lawful command line are answered so, unless memory is wanting or a write fails, and no others are.
+    ensures usage { result ≡ Answer.Usage → asked_by words.now ≡ None }
+    ensures wrong { asked_by words.now ≡ None
+        → (result ≡ Answer.Usage) ⊎ ((result ≡ Answer.Memory) ⊎ (result ≡ Answer.WriteFault)) }
+
+    // The note is the line of the answer, up to a write that fails.
+    ensures note { GainsNote (E.told stderr.old) (E.told stderr.new) (E.faults stderr.old) (E.faults stderr.new)
+        (note_of (bounds_in (asked_by words.now)) result) }
+{
+    match call(rt, words) {
+        Ok(called) => report(&called, stderr),
+        Err(answer) => refuse(answer, stderr),
+    }
 }
 
 fn main(rt: HostRuntime) -> ExitCode {
     let mut stderr = OutSink::new(rt.stderr());
-    ExitCode::from(answer_to(&rt, &mut stderr).status())
+    let answer = match words_of(&rt) {
+        Ok(words) => answer_to(&rt, &words, &mut stderr),
+        Err(answer) => refuse(answer, &mut stderr),
+    };
+    ExitCode::from(answer.status())
 }
