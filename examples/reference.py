@@ -318,6 +318,15 @@ def biquad(rows):
     return [[v % 2**16] for v in y]
 
 
+@example("kernels/biquad-14")
+def biquad_14(rows):
+    x, y = [signed(v, 14) for v, in rows], []  # y in halves
+    for n in range(len(x)):
+        ahead = 3 * (x[n] + 2 * at(x, n - 1) + at(x, n - 2)) // 16
+        y.append(ahead + at(y, n - 1) - at(y, n - 2) // 4 - at(y, n - 2) // 8)
+    return [[v // 2 % 2**15] for v in y]
+
+
 @example("kernels/base64")
 def base_64(rows):
     return [list(base64.b64encode(bytes(row))) for row in rows]
