@@ -1,0 +1,3 @@
+use Rattle.std.proofs.Common.{refl, inl, ◌∙◌, sym, subst}
+use Rattle.pr_lens_signals.proofs.SignalLemmas.{shown-cut, shown-ended, shown-faulted, shown-nameless}
+use Rattle.pr_lens_signals.proofs.signals.show.Goals as goal
