@@ -18,6 +18,7 @@ mod logs;
 mod scope;
 #[cfg(test)]
 mod shown;
+mod streams;
 #[cfg(test)]
 mod syntax;
 #[cfg(test)]
