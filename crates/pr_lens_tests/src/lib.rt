@@ -18,6 +18,7 @@ mod logs;
 mod scope;
 #[cfg(test)]
 mod shown;
+#[cfg(test)]
 mod streams;
 #[cfg(test)]
 mod syntax;
