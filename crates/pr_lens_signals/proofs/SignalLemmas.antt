@@ -8,6 +8,7 @@ use Rattle.pr_edge.specs.Count.{Rose}
 use Rattle.pr_edge.specs.Files.{Told, IsMissing, HasReadCause}
 use Rattle.pr_edge.specs.Tape.{Tape, Appends, AppendsFront}
 use Rattle.pr_edge.proofs.Appending.{Appends-append}
+use Rattle.pr_flat.specs.declared.equations.Operand.{Operand}
 use Rattle.pr_flat.specs.Forms.{Stream}
 use Rattle.pr_flat.specs.Values.{input_widths}
 use Rattle.pr_flat.specs.Widths.{AreWidths}
@@ -64,8 +65,8 @@ cut-columns front outputs streams (n ∷ ns) fits =
     ap (λ (k : ℕ). drop k (numbers_at n outputs ++ numbers_at n streams)) (sym long) ∙ drop-append_seam (numbers_at n outputs) (numbers_at n streams) in
     ap₂ (λ (a b : List ℕ). numbers_line a ++ b) cut (cut-columns front outputs streams ns fits)
 
-counted : (program : Program) (count : ℕ) (xs rows : List (List ℕ)) (has : HasColumns program count xs rows) → (instances : ℕ) → length (instances_of program) ≡ instances → length has.outputs + instances ≡ count
-counted program count xs rows has instances is =
+counted : (program : Program) (operands : List Operand) (xs rows : List (List ℕ)) (has : HasColumns program operands xs rows) → (instances : ℕ) → length (instances_of program) ≡ instances → length has.outputs + instances ≡ length operands
+counted program operands xs rows has instances is =
     let streams : length has.streams ≡ length (instances_of program) = sym (length-map has.streams Some) ∙ (sym (ap length has.has.each) ∙ length-map (instances_of program) _) in
     omega (arith, has.all, streams, is)
 
