@@ -84,3 +84,72 @@ samples-preserved g c =
       others = λ q other. c.next.ensures.others q (rw c.samples.invariant.file.name other) ∙ c.samples.invariant.others q other;
       out_later = omega (arith, c.samples.invariant.out_later, c.put_row-in-Sample.ensures.later);
     }
+
+pub returns-in_default-clause-ended : goal.returns-in_default-clause-ended
+returns-in_default-clause-ended g c = λ no_fault.
+    let f = c.samples.work.feed in
+    let f' = c.next.new.self in
+    let put = c.samples.invariant.put in
+    let showing = c.args.showing.now in
+    let scoped = showing.probed.scoped in
+    let flat = showing.probed.flat in
+    let same = same_later c.args.work.now.feed f f' c.samples.invariant.file c.next.ensures.file in
+    let seen = subst (λ (t : Told). (bytes : List ℕ) → IsSeen t bytes f → ReadsOn t bytes f f' (λ file. StandsFor f file → Gives c.next.result (given_of f) f' c.next.new.into file)) c.samples.invariant.same c.next.ensures.seen in
+    let means = rows_mean scoped.program flat showing.widths put.taken.samples (record {
+      lawful = scoped.lawful;
+      equations = c.requires.ready.flat.equations;
+      outputs = c.requires.ready.flat.outputs;
+      wide = subst (λ (es : List EquationShape). AreWidths es showing.widths) (sym c.requires.ready.flat.equations) c.requires.ready.widths;
+      rows = put.taken.stands.lawful;
+    }) in
+    put_ended (g.S.Shelf.told c.args.shelf.now) scoped.program (shapes_of flat.equations.items) flat.outputs.items showing.widths (front_of showing) c.args.work.now.feed f c.samples.work.evaluator _ put means f' c.next.new.into c.next.result same
+    c.next.ensures.given seen c.in_default.not-Sample no_fault
+
+pub returns-in_default-clause-begun : goal.returns-in_default-clause-begun
+returns-in_default-clause-begun g c = λ fault.
+    let f = c.samples.work.feed in
+    let f' = c.next.new.self in
+    let put = c.samples.invariant.put in
+    let showing = c.args.showing.now in
+    let scoped = showing.probed.scoped in
+    let flat = showing.probed.flat in
+    let seen = subst (λ (t : Told). (bytes : List ℕ) → IsSeen t bytes f → ReadsOn t bytes f f' (λ file. StandsFor f file → Gives c.next.result (given_of f) f' c.next.new.into file)) c.samples.invariant.same c.next.ensures.seen in
+    let means = rows_mean scoped.program flat showing.widths put.taken.samples (record {
+      lawful = scoped.lawful;
+      equations = c.requires.ready.flat.equations;
+      outputs = c.requires.ready.flat.outputs;
+      wide = subst (λ (es : List EquationShape). AreWidths es showing.widths) (sym c.requires.ready.flat.equations) c.requires.ready.widths;
+      rows = put.taken.stands.lawful;
+    }) in
+    put_faulted (g.S.Shelf.told c.args.shelf.now) scoped.program (shapes_of flat.equations.items) flat.outputs.items showing.widths (front_of showing) c.args.work.now.feed f c.samples.work.evaluator _ put means f' _ seen
+
+pub returns-in_default-clause-there : goal.returns-in_default-clause-there
+returns-in_default-clause-there g c = λ no_fault missing. no_fault (c.next.ensures.missing (rw (← c.samples.invariant.file.name, ← c.samples.invariant.same) at missing) (c.samples.invariant.there missing))
+
+pub returns-in_default-clause-read : goal.returns-in_default-clause-read
+returns-in_default-clause-read g c = λ fault.
+    cause_earlier (g.S.Shelf.told c.args.shelf.now) (name_of c.args.work.now.feed) _ _ _ c.samples.invariant.later (rw (c.samples.invariant.file.name, c.samples.invariant.same) at (c.next.ensures.cause fault))
+
+pub returns-in-Sample-Err-clause-cut : goal.returns-in-Sample-Err-clause-cut
+returns-in-Sample-Err-clause-cut g c =
+    let f = c.samples.work.feed in
+    let f' = c.next.new.self in
+    let told = g.S.Shelf.told c.args.shelf.now in
+    let put = c.samples.invariant.put in
+    let showing = c.args.showing.now in
+    let scoped = showing.probed.scoped in
+    let flat = showing.probed.flat in
+    let same = same_later c.args.work.now.feed f f' c.samples.invariant.file c.next.ensures.file in
+    let seen = subst (λ (t : Told). (bytes : List ℕ) → IsSeen t bytes f → ReadsOn t bytes f f' (λ file. StandsFor f file → IsGiven f' (given_of f) c.next.new.into file)) c.samples.invariant.same c.in-Sample.ensures.seen in
+    let broken = put_more told (shapes_of flat.equations.items) flat.outputs.items showing.widths (front_of showing) c.args.work.now.feed f f' _ _ c.next.new.into c.next-in-Sample.new.into _
+    (AppendsFront (g.K.Sink.told c.args.out.now) (g.K.Sink.told c.put_row-in-Sample.new.out)) put same c.in-Sample.ensures.given seen
+    (c.next-in-Sample.ensures.stands put.taken.samples put.taken.stands) (c.next-in-Sample.ensures.given put.taken.samples put.taken.stands)
+    (λ text done. front_more _ _ _ text _ done c.in-Sample-Err.ensures.front) in
+    let means = rows_mean scoped.program flat showing.widths broken.taken.samples (record {
+      lawful = scoped.lawful;
+      equations = c.requires.ready.flat.equations;
+      outputs = c.requires.ready.flat.outputs;
+      wide = subst (λ (es : List EquationShape). AreWidths es showing.widths) (sym c.requires.ready.flat.equations) c.requires.ready.widths;
+      rows = broken.taken.stands.lawful;
+    }) in
+    put_broken told scoped.program (shapes_of flat.equations.items) flat.outputs.items showing.widths (front_of showing) c.args.work.now.feed f' _ _ broken means
