@@ -1,11 +1,9 @@
 -- Samples that a feed gave, and the lines that are put of them.
-use Rattle.std.proofs.Common.{◌≡◌, ◌≢◌, ◌+◌, ◌≤◌, ℕ, List, [], ◌∷◌, ◌++◌, drop, length, map, reverse, take, None, Some, Option, IfSome, append-nil, refl, sym, ap, ◌∙◌, subst}
-use Rattle.std.specs.List.{flat_map}
+use Rattle.std.proofs.Common.{◌≡◌, ◌≢◌, ◌+◌, ◌-◌, ℕ, List, [], ◌∷◌, ◌++◌, drop, length, map, reverse, take, None, Some, Option, IfSome, append-nil, refl, sym, ap, ◌∙◌, subst}
 use Rattle.std.proofs.lemmas.Grind.{flat_map-append}
-use Rattle.std.proofs.lemmas.List.{map-append, take_all}
+use Rattle.std.proofs.lemmas.List.{map-append, take_rest}
 use Rattle.pr_edge.specs.Files.{Told, OfFile}
 use Rattle.pr_edge.specs.Tape.{Tape, Appends, AppendsFront}
-use Rattle.pr_edge.proofs.Appending.{Appends-append}
 use Rattle.pr_flat.specs.declared.equations.Operand.{Operand}
 use Rattle.pr_flat.specs.Shape.{EquationShape}
 use Rattle.pr_flat.specs.Values.{row_of, rows_of}
@@ -23,7 +21,7 @@ use Rattle.pr_source.specs.Standing.{Stands}
 use Rattle.pr_source.proofs.Latest.{rows_of-more}
 use Rattle.pr_tool_modes.proofs.SampleLemmas.{HasGiven, given_more, done_all}
 use Rattle.pr_lens_signals.specs.Texts.{cut_lines, numbers_line}
-use Rattle.pr_lens_signals.specs.Reading.{AreFirst, HasBegun, HasEnded, IsLongFeed}
+use Rattle.pr_lens_signals.specs.Reading.{HasBegun, HasEnded, IsLongFeed}
 
 -- a feed that began as this one has given these samples, and the evaluator was given them
 pub record HasTaken (told : Told) (equations : List EquationShape) (widths : List ℕ) (first f : Feed) (v : Evaluator) : Type 0 where
@@ -116,6 +114,10 @@ put_more told equations outputs widths front first f f' v v' numbers row Put Put
       };
       text = subst Put' (sym (lines-more front equations outputs widths taken.samples numbers row is)) (put (lines_of front equations outputs widths taken.samples) has.text);
     }
+
+-- a row without its front
+pub row-rest : (row : List ℕ) (k front : ℕ) → k ≡ front → take (length row - k) (drop k row) ≡ drop front row
+row-rest row k front is = take_rest row k ∙ ap (λ (n : ℕ). drop n row) is
 
 -- ---- no sample more
 module _ (told : Told) (program : Program) (equations : List EquationShape) (outputs : List Operand) (widths : List ℕ) (front : ℕ) (first f : Feed) (v : Evaluator) (Put : List ℕ → Type 0)

@@ -1,10 +1,8 @@
 -- What is written of a program that shows its instances, as the streams of a program's names.
-use Rattle.std.proofs.Common.{◌≡◌, ◌≢◌, ◌+◌, ◌-◌, ◌≤◌, ◌^◌, ℕ, List, [], ◌∷◌, ◌++◌, drop, length, map, take, None, Some, Option, refl, sym, ap, ap₂, ◌∙◌, subst, arith, inl, inr}
+use Rattle.std.proofs.Common.{◌≡◌, ◌≢◌, ◌+◌, ◌≤◌, ◌^◌, ℕ, List, [], ◌∷◌, ◌++◌, drop, length, map, take, None, Some, refl, sym, ap, ap₂, ◌∙◌, subst, arith, inl, inr}
 use Rattle.std.specs.List.{flat_map, range_with_len}
-use Rattle.std.specs.Prelude.{vec_len}
 use Rattle.std.proofs.lemmas.List.{length-map}
 use Rattle.std.proofs.Math.Seq.{drop-append_seam}
-use Rattle.pr_edge.specs.Count.{Rose}
 use Rattle.pr_edge.specs.Files.{Told, IsMissing, HasReadCause}
 use Rattle.pr_edge.specs.Tape.{Tape, Appends, AppendsFront}
 use Rattle.pr_edge.proofs.Appending.{Appends-append}
@@ -13,12 +11,12 @@ use Rattle.pr_flat.specs.Forms.{Stream}
 use Rattle.pr_flat.specs.Values.{input_widths}
 use Rattle.pr_flat.specs.Widths.{AreWidths}
 use Rattle.pr_lang.specs.declared.trees.Program.{Program}
-use Rattle.pr_lang_meaning.specs.Programs.{has_widths, out}
+use Rattle.pr_lang_meaning.specs.Programs.{out}
 use Rattle.pr_expand_spec.specs.Programs.{equations_of}
-use Rattle.pr_expand_correct.proofs.AgreedPrograms.{widths-needed}
 use Rattle.pr_scope.specs.Walk.{inputs_after, offence, start}
 use Rattle.pr_scope_facts.proofs.Inputs.{inputs-of-equations}
 use Rattle.pr_scope_facts.proofs.InvertedItems.{inputs-walked, program-inverted}
+use Rattle.pr_probe.specs.Instances.{instances_of}
 use Rattle.pr_probe.specs.Probes.{numbers_at}
 use Rattle.pr_run.proofs.Lines.{nothing_appended}
 use Rattle.pr_samples.specs.declared.feed.Feed.{Feed}
@@ -31,9 +29,10 @@ use Rattle.pr_tool_answers.specs.declared.answers.Answer.{Answer}
 use Rattle.pr_tool_modes.specs.Evaluations.{EndsBy, answer_by}
 use Rattle.pr_tool_modes.specs.Programs.{inputs_of}
 use Rattle.pr_tool_modes.specs.Samples.{fed_at_most, fed_in}
+use Rattle.pr_tool_modes.proofs.FileLemmas.{rose_earlier}
 use Rattle.pr_tool_modes.proofs.SampleLemmas.{some_file}
 use Rattle.pr_lens_probe.specs.Shown.{HasColumns, Shows}
-use Rattle.pr_lens_signals.specs.declared.showing.Showing.{Showing}
+use Rattle.pr_lens_signals.specs.declared.probing.Showing.{Showing}
 use Rattle.pr_lens_signals.specs.Calls.{call}
 use Rattle.pr_lens_signals.specs.Texts.{cut_lines, names_line, numbers_line}
 use Rattle.pr_lens_signals.specs.Reading.{front_of, HasBegun, HasEnded, IsLongFeed, IsReady, IsShowing, IsWriteCause}
@@ -147,6 +146,16 @@ module _ (program : Program) (s : Showing) (lawful : offence program ≡ None) (
           → IsShown name program (call told rb rn old new wb wn) Answer.ReadFault
       shown-faulted mid names has cause = (cause, begun (Appends mid new) (Appends old new) (λ text h. Appends-append old mid new _ text names h) has)
 
+      -- the samples came to an end
+      pub shown-read : (mid : Tape) (end : Got) → Appends old mid (names_line s.probed.instances.items) → (end ≢ Got.ReadFault → HasEnded told s.probed.scoped.program (front_of s) first now end (Appends mid new))
+          → (end ≢ Got.ReadFault → IsMissing told name → ⊥) → (end ≡ Got.ReadFault → HasReadCause told name rb rn) → (end ≡ Got.ReadFault → HasBegun told s.probed.scoped.program (front_of s) first now (Appends mid new))
+          → IsShown name program (call told rb rn old new wb wn) (answer_by end)
+      shown-read mid Got.ReadFault names ended there cause begins = shown-faulted mid names (begins refl) (cause refl)
+      shown-read mid Got.Sample names ended there cause begins = shown-ended mid Got.Sample names (ended (λ e. cc)) (there (λ e. cc)) (λ e. cc)
+      shown-read mid Got.End names ended there cause begins = shown-ended mid Got.End names (ended (λ e. cc)) (there (λ e. cc)) (λ e. cc)
+      shown-read mid (Got.BadSample line) names ended there cause begins = shown-ended mid (Got.BadSample line) names (ended (λ e. cc)) (there (λ e. cc)) (λ e. cc)
+      shown-read mid (Got.Limit which) names ended there cause begins = shown-ended mid (Got.Limit which) names (ended (λ e. cc)) (there (λ e. cc)) (λ e. cc)
+
       cut : (answer : Answer) → IsBegun told name program (AppendsFront old new) → IsWriteCause wb wn answer → IsShown name program (call told rb rn old new wb wn) answer
       cut Answer.WriteFault has cause = (cause, has)
       cut Answer.Memory has cause = inr has
@@ -164,6 +173,12 @@ module _ (program : Program) (s : Showing) (lawful : offence program ≡ None) (
       let put : List ℕ → Type 0 = λ text. AppendsFront old new (names_line s.probed.instances.items ++ text) in
       let has = begun_nothing told s.probed.scoped.program (inputs_of s.probed.scoped.program) (front_of s) first put long (front-longer old new (names_line s.probed.instances.items) _ names) in
       cut told name first first long named old new rb rn wb wn answer (begun told name first first long named put (AppendsFront old new) (λ text h. h) has) cause
+
+-- a cause of a later write is one of both together
+pub write-earlier : (a b n : ℕ) (answer : Answer) → a ≤ b → IsWriteCause b n answer → IsWriteCause a n answer
+write-earlier a b n Answer.WriteFault h cause = rose_earlier a b n h cause
+write-earlier a b n Answer.Memory h cause = tt
+write-earlier a b n answer h cause = absurd cause
 
 -- nothing is shown
 pub shown-never : (name : List ℕ) (program : Program) (told : Told) (rb rn wb wn : ℕ) (tape : Tape) (answer : Answer) → IsUnshown program answer → IsShown name program (call told rb rn tape tape wb wn) answer

@@ -15,7 +15,7 @@ use Rattle.pr_tool_answers.specs.declared.answers.Answer.{Answer}
 use Rattle.pr_tool_modes.specs.Evaluations.{AreAll}
 use Rattle.pr_lens_probe.specs.Shown.{Shows}
 use Rattle.pr_lens_signals.specs.Texts.{cut_lines}
-use Rattle.pr_lens_signals.specs.declared.showing.Showing.{Showing}
+use Rattle.pr_lens_signals.specs.declared.probing.Showing.{Showing}
 
 -- a program with the same equations as this one shows its instances behind so many outputs, and these are the widths
 pub record IsShowing (program : Program) (s : Showing) : Type 0 where

@@ -4,10 +4,10 @@
 //! for each column, while the samples are read.
 #![tactic(auto)]
 
+mod probing;
 mod rows;
-mod showing;
-mod signals;
+mod streams;
 mod texts;
 
-pub use showing::Showing;
-pub use signals::signals;
+pub use probing::Showing;
+pub use streams::signals;

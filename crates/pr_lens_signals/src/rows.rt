@@ -11,7 +11,7 @@ ghost use Rattle.pr_tool_modes.specs.Programs.{inputs_of};
 ghost use Rattle.pr_lens_signals.specs.Reading.{HasBegun, HasEnded, front_of, IsLongFeed, IsReady, IsWriteCause};
 ghost use Rattle.pr_lens_signals.specs.Texts.{numbers_line};
 
-use crate::showing::Showing;
+use crate::probing::Showing;
 use crate::texts::put_numbers;
 use pr_base::Num;
 use pr_edge::{Shelf, Sink, write_all};

@@ -1,4 +1,4 @@
-use Rattle.std.proofs.Common.{◌≡◌, ℕ, List, length, refl, sym, ap, subst, ◌∙◌, arith}
+use Rattle.std.proofs.Common.{◌≡◌, ◌++◌, ℕ, List, length, refl, sym, ap, subst, ◌∙◌, arith}
 use Rattle.pr_edge.specs.Files.{Told}
 use Rattle.pr_edge.specs.Tape.{Appends, AppendsFront}
 use Rattle.pr_edge.proofs.Appending.{Appends-append}
@@ -15,7 +15,8 @@ use Rattle.pr_tool_modes.specs.Programs.{inputs_of}
 use Rattle.pr_tool_modes.proofs.FileLemmas.{cause_earlier}
 use Rattle.pr_tool_modes.proofs.SampleLemmas.{lawful_next, same_later}
 use Rattle.pr_lens_signals.specs.Reading.{front_of}
-use Rattle.pr_lens_signals.proofs.RowLemmas.{front_more, put_broken, put_ended, put_faulted, put_more, put_nothing}
+use Rattle.pr_lens_signals.specs.Texts.{numbers_line}
+use Rattle.pr_lens_signals.proofs.RowLemmas.{front_more, put_broken, put_ended, put_faulted, put_more, put_nothing, row-rest}
 use Rattle.pr_lens_signals.proofs.rows.put_rows.Goals as goal
 
 pub samples-init : goal.samples-init
@@ -71,9 +72,10 @@ samples-preserved g c =
     let seen = subst (λ (t : Told). (bytes : List ℕ) → IsSeen t bytes f → ReadsOn t bytes f f' (λ file. StandsFor f file → IsGiven f' (given_of f) c.next.new.into file)) c.samples.invariant.same c.in-Sample.ensures.seen in
     record {
       put = put_more told (shapes_of flat.equations.items) flat.outputs.items c.args.showing.now.widths (front_of c.args.showing.now) c.args.work.now.feed f f' _ _ c.next.new.into c.next-in-Sample.new.into _
-          (Appends (g.K.Sink.told c.args.out.now) (g.K.Sink.told c.put_row-in-Sample.new.out)) put same c.in-Sample.ensures.given seen
+          (Appends (g.K.Sink.told c.args.out.now) (g.K.Sink.told c.put_row.new.out)) put same c.in-Sample.ensures.given seen
           (c.next-in-Sample.ensures.stands put.taken.samples put.taken.stands) (c.next-in-Sample.ensures.given put.taken.samples put.taken.stands)
-          (λ text done. Appends-append _ _ _ text _ done c.in-Sample-Ok.ensures.all);
+          (λ text done. subst (λ (r : List ℕ). Appends (g.K.Sink.told c.args.out.now) (g.K.Sink.told c.put_row.new.out) (text ++ numbers_line r)) (row-rest c.next-in-Sample.new.into _ (front_of c.args.showing.now) (omega (arith, c.len.ensures, c.len-2.ensures)))
+          (Appends-append _ _ _ text _ done c.in-Ok.ensures.all));
       there = λ missing.
           absurd (let no : Got.Sample ≡ Got.ReadFault = sym c.in-Sample.is ∙ c.next.ensures.missing (rw (← c.samples.invariant.file.name, ← c.samples.invariant.same) at missing) (c.samples.invariant.there missing) in cc);
       sample = c.next.auto.into ∙ c.samples.invariant.sample;
@@ -82,7 +84,7 @@ samples-preserved g c =
       later = omega (arith, c.samples.invariant.later, c.next.ensures.later);
       same = c.next.ensures.same ∙ c.samples.invariant.same;
       others = λ q other. c.next.ensures.others q (rw c.samples.invariant.file.name other) ∙ c.samples.invariant.others q other;
-      out_later = omega (arith, c.samples.invariant.out_later, c.put_row-in-Sample.ensures.later);
+      out_later = omega (arith, c.samples.invariant.out_later, c.put_row.ensures.later);
     }
 
 pub returns-in_default-clause-ended : goal.returns-in_default-clause-ended
@@ -130,8 +132,8 @@ pub returns-in_default-clause-read : goal.returns-in_default-clause-read
 returns-in_default-clause-read g c = λ fault.
     cause_earlier (g.S.Shelf.told c.args.shelf.now) (name_of c.args.work.now.feed) _ _ _ c.samples.invariant.later (rw (c.samples.invariant.file.name, c.samples.invariant.same) at (c.next.ensures.cause fault))
 
-pub returns-in-Sample-Err-clause-cut : goal.returns-in-Sample-Err-clause-cut
-returns-in-Sample-Err-clause-cut g c =
+pub returns-in-Err-clause-cut : goal.returns-in-Err-clause-cut
+returns-in-Err-clause-cut g c =
     let f = c.samples.work.feed in
     let f' = c.next.new.self in
     let told = g.S.Shelf.told c.args.shelf.now in
@@ -142,9 +144,10 @@ returns-in-Sample-Err-clause-cut g c =
     let same = same_later c.args.work.now.feed f f' c.samples.invariant.file c.next.ensures.file in
     let seen = subst (λ (t : Told). (bytes : List ℕ) → IsSeen t bytes f → ReadsOn t bytes f f' (λ file. StandsFor f file → IsGiven f' (given_of f) c.next.new.into file)) c.samples.invariant.same c.in-Sample.ensures.seen in
     let broken = put_more told (shapes_of flat.equations.items) flat.outputs.items showing.widths (front_of showing) c.args.work.now.feed f f' _ _ c.next.new.into c.next-in-Sample.new.into _
-    (AppendsFront (g.K.Sink.told c.args.out.now) (g.K.Sink.told c.put_row-in-Sample.new.out)) put same c.in-Sample.ensures.given seen
+    (AppendsFront (g.K.Sink.told c.args.out.now) (g.K.Sink.told c.put_row.new.out)) put same c.in-Sample.ensures.given seen
     (c.next-in-Sample.ensures.stands put.taken.samples put.taken.stands) (c.next-in-Sample.ensures.given put.taken.samples put.taken.stands)
-    (λ text done. front_more _ _ _ text _ done c.in-Sample-Err.ensures.front) in
+    (λ text done. subst (λ (r : List ℕ). AppendsFront (g.K.Sink.told c.args.out.now) (g.K.Sink.told c.put_row.new.out) (text ++ numbers_line r)) (row-rest c.next-in-Sample.new.into _ (front_of showing) (omega (arith, c.len.ensures, c.len-2.ensures)))
+    (front_more _ _ _ text _ done c.in-Err.ensures.front)) in
     let means = rows_mean scoped.program flat showing.widths broken.taken.samples (record {
       lawful = scoped.lawful;
       equations = c.requires.ready.flat.equations;

@@ -1,6 +1,6 @@
 //! A program that shows its instances.
 
-ghost use Rattle.std.specs.Prelude.{◌≡◌, ◌≤◌, length, vec_len, IfErr, IfOk};
+ghost use Rattle.std.specs.Prelude.{◌≤◌, length, IfErr, IfOk};
 ghost use Rattle.pr_flat.specs.Widths.{AreWidths};
 ghost use Rattle.pr_expand_spec.specs.Programs.{equations_of};
 ghost use Rattle.pr_lens_signals.specs.Reading.{IsReady, IsShowing};
@@ -21,7 +21,7 @@ pub struct Showing {
 }
 
 /// The program with an output more for each of its instances.
-pub fn showing(alloc: Global, front: Front) -> Result<Showing, Answer>
+pub fn showing_of(alloc: Global, front: Front) -> Result<Showing, Answer>
     requires few { length (equations_of front.scoped.program).equations ≤ 16384 }
     requires widths { AreWidths (equations_of front.scoped.program).equations front.widths }
     ensures shows { IfOk result (λ s. IsShowing front.scoped.program s) }

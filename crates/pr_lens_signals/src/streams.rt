@@ -15,8 +15,8 @@ ghost use Rattle.pr_lens_signals.specs.Reading.{IsLongFeed, IsReady, IsShowing, 
 ghost use Rattle.pr_lens_signals.specs.Signals.{IsShown};
 ghost use Rattle.pr_lens_signals.specs.Texts.{names_line};
 
+use crate::probing::{Showing, showing_of};
 use crate::rows::{Work, put_rows, put_text};
-use crate::showing::{Showing, showing};
 use crate::texts::put_names;
 use pr_base::Num;
 use pr_compile_front::Front;
@@ -39,7 +39,7 @@ struct Start {
 }
 
 /// What the samples of a file are read and evaluated with.
-fn start(alloc: Global, showing: &Showing, samples: &str) -> Result<Start, AllocError>
+fn start_of(alloc: Global, showing: &Showing, samples: &str) -> Result<Start, AllocError>
     ensures feed { IfOk result
         (λ s. IsLongFeed (inputs_of showing.now.probed.scoped.program) s.work.feed) }
     ensures name { IfOk result (λ s. name_of s.work.feed ≡ samples.now) }
@@ -93,7 +93,7 @@ fn show<S: Shelf, K: Sink>(
     ensures others { (q : List ℕ) → q ≢ samples.now → S.reach shelf.new q ≡ S.reach shelf.old q }
     ensures out_later { K.faults out.old ≤ K.faults out.new }
 {
-    let mut start = match start(alloc, showing, samples) {
+    let mut start = match start_of(alloc, showing, samples) {
         Ok(start) => start,
         Err(_) => return Answer::Memory,
     };
@@ -136,7 +136,7 @@ pub fn signals<S: Shelf, K: Sink>(
     ensures others { (q : List ℕ) → q ≢ samples.now → S.reach shelf.new q ≡ S.reach shelf.old q }
     ensures out_later { K.faults out.old ≤ K.faults out.new }
 {
-    match showing(alloc, front) {
+    match showing_of(alloc, front) {
         Ok(showing) => show(alloc, &showing, samples, shelf, out),
         Err(answer) => answer,
     }

@@ -1,6 +1,6 @@
-use Rattle.std.proofs.Common.{All, sym, subst, ◌∙◌, arith}
+use Rattle.std.proofs.Common.{All, sym, subst, ◌∙◌}
 use Rattle.pr_tool_modes.proofs.InputWidths.{IsInputWidth, lawful_inputs}
-use Rattle.pr_lens_signals.proofs.signals.start.Goals as goal
+use Rattle.pr_lens_signals.proofs.streams.start_of.Goals as goal
 
 pub make-requires : goal.make-requires
 make-requires c =
