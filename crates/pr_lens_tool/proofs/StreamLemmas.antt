@@ -1,5 +1,5 @@
 -- What is told of streams, from what is known of its parts.
-use Rattle.std.proofs.Common.{◌≡◌, ◌≤◌, ℕ, List, length, Some, Option, inl, inr, refl, sym, subst}
+use Rattle.std.proofs.Common.{◌≡◌, ◌≤◌, ℕ, List, length, Some, inl, inr, subst}
 use Rattle.pr_edge.specs.Files.{Told}
 use Rattle.pr_edge.specs.Tape.{Tape}
 use Rattle.pr_base.specs.Limits.{most_program_bytes}
@@ -12,7 +12,7 @@ use Rattle.pr_lang.specs.declared.trees.Program.{Program}
 use Rattle.pr_tool_answers.specs.declared.answers.Answer.{Answer}
 use Rattle.pr_tool_words.specs.Lawful.{Text}
 use Rattle.pr_tool_modes.specs.Files.{IsText}
-use Rattle.pr_tool_modes.specs.Programs.{compile_answer, front_answer, HasProgram, IsLoaded, IsNotLoaded}
+use Rattle.pr_tool_modes.specs.Programs.{compile_answer, IsLoaded, IsNotLoaded}
 use Rattle.pr_tool_modes.proofs.FileLemmas.{cause_earlier}
 use Rattle.pr_lens_signals.specs.Calls.{call}
 use Rattle.pr_lens_signals.specs.Signals.{IsShown}

@@ -1,5 +1,5 @@
 -- What comes of it that the streams of a program are asked for.
-use Rattle.std.specs.Prelude.{◌≡◌, ◌⊎◌, ℕ, List, Option, Some, None}
+use Rattle.std.specs.Prelude.{◌≡◌, ℕ, List, Some, None}
 use Rattle.pr_lang.specs.declared.trees.Program.{Program}
 use Rattle.pr_tool_answers.specs.declared.answers.Answer.{Answer}
 use Rattle.pr_tool_words.specs.Lawful.{Text}

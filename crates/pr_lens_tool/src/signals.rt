@@ -1,6 +1,6 @@
 //! What the streams of a program are on the samples of a file.
 
-ghost use Rattle.std.specs.Prelude.{◌≡◌, ◌≢◌, ◌≤◌, ℕ, List, IfErr, IfOk};
+ghost use Rattle.std.specs.Prelude.{◌≡◌, ◌≤◌, IfErr, IfOk};
 ghost use Rattle.pr_tool_modes.specs.Programs.{IsLoaded, IsNotLoaded};
 ghost use Rattle.pr_lens_signals.specs.Calls.{call};
 ghost use Rattle.pr_lens_tool.specs.Orders.{asked_in};
