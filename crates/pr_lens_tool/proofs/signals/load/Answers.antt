@@ -1,1 +1,0 @@
-use Rattle.pr_lens_tool.proofs.signals.load.Goals as goal
