@@ -5,10 +5,12 @@ _pipelens() {
         chart
         cost
         graph
+        signals
         wave
         why
     '
     local options='
+        --csv
         --fabric
         --help
         --json

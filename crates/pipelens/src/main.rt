@@ -37,8 +37,9 @@ fn call<R: Files + Print + AllocGlobal>(rt: &R, words: &[String]) -> Result<Repl
         let mut out = OutSink::new(Gathered { results: &results });
         pipelens(alloc, words, &mut shelf, &mut out)
     };
-    let is_written = reply.outcome != Outcome::Plain(Answer::WriteFault);
-    if is_written && !results.into_inner().finish().went_through() {
+    let is_broken = reply.outcome == Outcome::Plain(Answer::WriteFault)
+        || reply.outcome == Outcome::Streamed(Answer::WriteFault);
+    if !is_broken && !results.into_inner().finish().went_through() {
         return Err(Outcome::Plain(Answer::WriteFault));
     }
     Ok(reply)

@@ -1,5 +1,5 @@
 -- What the outputs show that are added.
-use Rattle.std.proofs.Common.{◌≡◌, ◌∙◌, ◌+◌, ◌≤◌, ℕ, true, List, [], ◌∷◌, ◌++◌, map, length, Option, None, Ok, refl, sym, ap, subst}
+use Rattle.std.proofs.Common.{◌≡◌, ◌∙◌, ◌+◌, ◌≤◌, ℕ, true, List, [], ◌∷◌, ◌++◌, map, length, Option, None, Ok, refl, sym, ap, ap₂, subst}
 use Rattle.std.proofs.lemmas.List.{length-append}
 use Rattle.std.proofs.lemmas.Option.{same_Some}
 use Rattle.std.proofs.lemmas.Slice.Zip.{AllZip-long}
@@ -8,7 +8,11 @@ use Rattle.pr_lang.specs.declared.trees.Program.{Program}
 use Rattle.pr_scope_names.specs.declared.streams.Instance.{Instance}
 use Rattle.pr_scope.specs.Walk.{World, offence, program_walk, turns_after}
 use Rattle.pr_scope_facts.proofs.InvertedItems.{program-inverted}
+use Rattle.std.specs.List.{AllZip}
+use Rattle.pr_flat.specs.declared.equations.Operand.{Operand}
 use Rattle.pr_flat.specs.Forms.{Stream}
+use Rattle.pr_flat.specs.Shape.{EquationShape}
+use Rattle.pr_flat.specs.Widths.{AreWidths, operand_width}
 use Rattle.pr_lang_meaning.specs.Streams.{Streams}
 use Rattle.pr_lang_meaning.specs.Programs.{has_widths, out}
 use Rattle.pr_expand_spec.specs.Programs.{equations_of}
@@ -22,12 +26,19 @@ use Rattle.pr_probe.proofs.Laws.{probed-signals, probed-widths}
 use Rattle.pr_probe.proofs.Probing.{all-probed}
 use Rattle.pr_probe.proofs.Columns.{columns-are}
 use Rattle.pr_lens_probe.specs.Fresh.{fresh_names, is_within, probes_from}
-use Rattle.pr_lens_probe.specs.Shown.{HasColumns, stream_of}
+use Rattle.pr_lens_probe.specs.Shown.{HasColumns, stream_of, width_of}
 use Rattle.pr_lens_probe.proofs.Names.{fresh, probes-are}
 
 streams-same : (most number : ℕ) (env : Streams) (is : List Instance) → map (stream_at env) (probes_from most number is) ≡ map (stream_of env) is
 streams-same most number env [] = refl
 streams-same most number env (i ∷ is) = ap (λ (rest : List (Option Stream)). stream_of env i ∷ rest) (streams-same most (number + 1) env is)
+
+-- operands that are as wide as streams
+wide-same : (widths : List ℕ) (operands : List Operand) (streams : List Stream) → AllZip (IsAsWide widths) operands streams → map (operand_width widths) operands ≡ map width_of streams
+wide-same widths [] [] wide = refl
+wide-same widths [] (s ∷ streams) wide = absurd wide
+wide-same widths (a ∷ operands) [] wide = absurd wide
+wide-same widths (a ∷ operands) (s ∷ streams) wide = ap₂ (λ (n : ℕ) (ns : List ℕ). n ∷ ns) (sym wide.0) (wide-same widths operands streams wide.1)
 
 -- a program that keeps the rules of scope and has turns enough left, whose names are no longer than this
 module _ (program : Program) (most : ℕ) (probed : Program) (none : offence program ≡ None)
@@ -45,7 +56,7 @@ module _ (program : Program) (most : ℕ) (probed : Program) (none : offence pro
   pub same : (equations_of probed).equations ≡ (equations_of program).equations
   same = equations-same program (probes_from most 0 (instances_of program)) probed is
 
-  pub columns : has_widths program ≡ true → (xs : List (List ℕ)) → HasColumns program (length (equations_of probed).outputs) xs (out probed xs)
+  pub columns : has_widths program ≡ true → (xs : List (List ℕ)) → HasColumns program (equations_of probed).outputs xs (out probed xs)
   columns has xs =
       let probes = probes_from most 0 (instances_of program) in
       let walk = program-inverted program none in
@@ -59,6 +70,10 @@ module _ (program : Program) (most : ℕ) (probed : Program) (none : offence pro
         streams = s.streams;
         has = record { world = s.world; is = s.is; outputs_are = refl; each = sym (streams-same most 0 s.world.streams (instances_of program)) ∙ s.each };
         all = sym (length-append s.world.outputs s.streams) ∙ (ap length (sym these) ∙ AllZip-long (IsAsWide have.widths) (equations_of probed).outputs found.streams found.wide);
+        wide = λ widths wide.
+            (let other = widths-found probed widths xs lawful (subst (λ (es : List EquationShape). AreWidths es widths) (sym same) wide) in
+            let those : other.streams ≡ s.world.outputs ++ s.streams = same_Some other.streams (s.world.outputs ++ s.streams) (sym other.are ∙ s.outputs) in
+            wide-same widths (equations_of probed).outputs other.streams other.wide ∙ ap (map width_of) those);
         are = columns-are program probes probed xs s;
       }
 
@@ -66,7 +81,7 @@ module _ (program : Program) (most : ℕ) (probed : Program) (none : offence pro
 pub record IsShowing (program probed : Program) : Type 0 where
   pub lawful : offence probed ≡ None
   pub same : (equations_of probed).equations ≡ (equations_of program).equations
-  pub columns : (xs : List (List ℕ)) → HasColumns program (length (equations_of probed).outputs) xs (out probed xs)
+  pub columns : (xs : List (List ℕ)) → HasColumns program (equations_of probed).outputs xs (out probed xs)
 
 -- the same of items and instances that are lent
 pub showing : (program : Program) (most : ℕ) (probed : Program) (items : List Item) (all first second : List Instance) → offence program ≡ None → has_widths program ≡ true → turns_after (program_walk program) + length all ≤ 65536 → all ≡ instances_of program

@@ -4,8 +4,10 @@ use Rattle.std.specs.List.{range_with_len}
 use Rattle.pr_lang.specs.declared.trees.Program.{Program}
 use Rattle.pr_scope_names.specs.declared.streams.Instance.{Instance}
 use Rattle.pr_scope.specs.Walk.{program_walk, turns_after}
+use Rattle.pr_flat.specs.declared.equations.Operand.{Operand}
 use Rattle.pr_flat.specs.Forms.{Stream}
 use Rattle.pr_flat.specs.Shape.{shapes_of}
+use Rattle.pr_flat.specs.Widths.{AreWidths, operand_width}
 use Rattle.pr_lang_meaning.specs.Streams.{Bound, Streams}
 use Rattle.pr_lang_meaning.specs.Programs as meant
 use Rattle.pr_lang_meaning.specs.Programs.{out}
@@ -31,12 +33,16 @@ pub record HasStreams (program : Program) (xs : List (List ℕ)) (outputs stream
 abbrev pub columns_of : ℕ → List Stream → List Stream → List (List ℕ)
 columns_of count outputs streams = map (λ n. numbers_at n outputs ++ numbers_at n streams) (range_with_len 0 count)
 
--- these rows are those, with so many columns
-pub record HasColumns (program : Program) (count : ℕ) (xs rows : List (List ℕ)) : Type 0 where
+abbrev pub width_of : Stream → ℕ
+width_of s = s.form.width
+
+-- these rows are those, with a column for each operand, which is as wide as its stream in all widths of the equations
+pub record HasColumns (program : Program) (operands : List Operand) (xs rows : List (List ℕ)) : Type 0 where
   pub outputs : List Stream
   pub streams : List Stream
   pub has : HasStreams program xs outputs streams
-  pub all : length outputs + length streams ≡ count
+  pub all : length outputs + length streams ≡ length operands
+  pub wide : (widths : List ℕ) → AreWidths (equations_of program).equations widths → map (operand_width widths) operands ≡ map width_of (outputs ++ streams)
   pub are : rows ≡ columns_of (length xs) outputs streams
 
 -- a program that keeps the rules of scope, with its equations: they are those of a given program, and its outputs are the
@@ -46,7 +52,7 @@ pub record Shows (program : Program) (p : Probed) : Type 0 where
   pub same : (equations_of p.scoped.program).equations ≡ (equations_of program).equations
   pub equations : shapes_of p.flat.equations.items ≡ (equations_of p.scoped.program).equations
   pub outputs : p.flat.outputs.items ≡ (equations_of p.scoped.program).outputs
-  pub columns : (xs : List (List ℕ)) → HasColumns program (length p.flat.outputs.items) xs (out p.scoped.program xs)
+  pub columns : (xs : List (List ℕ)) → HasColumns program p.flat.outputs.items xs (out p.scoped.program xs)
 
 -- the program has more instances than turns are left
 abbrev pub IsTooLong : Program → ProbeFault → Type 0

@@ -18,11 +18,18 @@ fn words_of(alloc: Global, line: &str) -> Result<Vec<String>, AllocError> {
     Ok(words)
 }
 
-/// A shelf with this text in the file `p`.
+/// A file of this name with this text.
+fn file_of(alloc: Global, name: &str, text: &str) -> Result<(String, Vec<u8>), AllocError> {
+    let name = String::from_str(alloc, name)?;
+    Ok((name, Vec::from_slice(alloc, text.as_bytes())?))
+}
+
+/// A shelf with this text in the file `p`. What stands behind a line of three hyphens is in the file `s`.
 fn shelf_of(alloc: Global, text: &str) -> Result<SureShelf, AllocError> {
+    let (program, samples) = text.split_once("\n---\n").unwrap_or((text, ""));
     let mut files = Vec::new(alloc);
-    let name = String::from_str(alloc, "p")?;
-    files.push((name, Vec::from_slice(alloc, text.as_bytes())?))?;
+    files.push(file_of(alloc, "p", program)?)?;
+    files.push(file_of(alloc, "s", samples)?)?;
     Ok(SureShelf::make(files))
 }
 
@@ -88,7 +95,7 @@ fn check(
 }
 
 /// Makes the calls of a table, and checks what comes of each. A case is `$` with the words of a call, the text in the file
-/// `p` where it is another than this one, and behind `=` the answer.
+/// `p` (and `s`) where it is another than this one, and behind `=` the answer.
 pub(crate) fn check_calls<'a>(
     rt: &impl Abort,
     alloc: Global,

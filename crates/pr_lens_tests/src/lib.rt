@@ -19,6 +19,8 @@ mod scope;
 #[cfg(test)]
 mod shown;
 #[cfg(test)]
+mod streams;
+#[cfg(test)]
 mod syntax;
 #[cfg(test)]
 mod widths;

@@ -2,12 +2,13 @@
 use Rattle.std.proofs.Common.{◌≡◌, Option, Some, None, inl, inr, sym, subst}
 use Rattle.std.specs.Prelude.{IfSome}
 use Rattle.pr_tool_answers.specs.declared.answers.Answer.{Answer}
+use Rattle.pr_lens_signals.specs.Calls.{Call}
 use Rattle.pr_lens_tool.specs.declared.outcomes.Outcome.{Outcome}
 use Rattle.pr_lens_tool.specs.declared.outcomes.Outcome.TheVariants.{Plain, Usage}
 use Rattle.pr_lens_tool.specs.Orders.{Asked}
 use Rattle.pr_lens_tool.specs.declared.outcomes.Reply.{Reply}
 use Rattle.pr_lens_tool.specs.Replies.{HasLine, line_for}
-use Rattle.pr_lens_tool.specs.Calls.{Call, IsCalled, IsFollowed, EndsWith, Helps}
+use Rattle.pr_lens_tool.specs.Calls.{IsCalled, IsFollowed, EndsWith, Helps}
 
 module _ (c : Call) (result : Outcome) (asked : Option Asked) where
   pub called_followed : (order : Asked) → asked ≡ Some order → IsFollowed order c result → IsCalled asked c result

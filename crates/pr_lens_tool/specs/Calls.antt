@@ -1,42 +1,22 @@
 -- What a call reads and writes, and what it comes to.
 use Rattle.std.specs.Prelude.{◌≡◌, ◌⊎◌, ℕ, List, Option, Some, None}
 use Rattle.pr_edge.specs.Files.{Told}
-use Rattle.pr_edge.specs.Tape.{Tape}
 use Rattle.pr_tool_answers.specs.declared.answers.Answer.{Answer}
+use Rattle.pr_lens_signals.specs.Calls.{Call}
 use Rattle.pr_lens_tool.specs.declared.orders.Task.{Task}
-use Rattle.pr_lens_tool.specs.declared.orders.Task.TheVariants.{Program, Log}
+use Rattle.pr_lens_tool.specs.declared.orders.Task.TheVariants.{Program, Log, Signals}
 use Rattle.pr_lens_tool.specs.declared.outcomes.Outcome.{Outcome}
 use Rattle.pr_lens_tool.specs.declared.outcomes.Outcome.TheVariants.{Plain, Usage}
 use Rattle.pr_lens_tool.specs.Orders.{Asked}
 use Rattle.pr_lens_tool.specs.Outcomes.{IsWritten, help_text}
 use Rattle.pr_lens_tool.specs.Programs.{IsToldOf, IsUntold}
 use Rattle.pr_lens_tool.specs.Logs.{IsDrawing, IsNoLog}
-
--- the files that are told, the counts of faults of the shelf before and after, what the sink tells before and after, and the
--- counts of faults of the sink
-pub record Call : Type 0 where
-  pub told : Told
-  pub reads_before : ℕ
-  pub reads_now : ℕ
-  pub old : Tape
-  pub new : Tape
-  pub writes_before : ℕ
-  pub writes_now : ℕ
-
-abbrev pub call : Told → ℕ → ℕ → Tape → Tape → ℕ → ℕ → Call
-call told reads_before reads_now old new writes_before writes_now = record {
-  told = told;
-  reads_before = reads_before;
-  reads_now = reads_now;
-  old = old;
-  new = new;
-  writes_before = writes_before;
-  writes_now = writes_now;
-}
+use Rattle.pr_lens_tool.specs.Streams.{TellsStreams}
 
 -- ---- what is made for an order
 abbrev pub IsMadeFor : Task → Told → Asked → Outcome → List ℕ → Type 0
 IsMadeFor (Program question) told order outcome written = IsToldOf question told order outcome written
+IsMadeFor Signals told order outcome written = ⊥
 IsMadeFor (Log drawing) told order outcome written = (outcome ≡ Plain Answer.Ok) × IsDrawing drawing told order.file written
 
 abbrev pub IsMade : Told → Asked → Outcome → List ℕ → Type 0
@@ -50,6 +30,7 @@ IsPlain P outcome = ⊥
 -- why nothing is
 abbrev pub IsUnmadeFor : Task → Told → Asked → ℕ → ℕ → Outcome → Type 0
 IsUnmadeFor (Program question) told order before now outcome = IsPlain (IsUntold told order before now) outcome
+IsUnmadeFor Signals told order before now outcome = ⊥
 IsUnmadeFor (Log drawing) told order before now outcome = IsNoLog told order.file before now outcome
 
 abbrev pub IsUnmade : Told → Asked → ℕ → ℕ → Outcome → Type 0
@@ -68,8 +49,13 @@ pub record IsSilent (order : Asked) (c : Call) (result : Outcome) : Type 0 where
   pub unmade : IsUnmade c.told order c.reads_before c.reads_now result
   pub same : c.new ≡ c.old
 
+-- streams are asked for, and this comes of it
+pub record Streams (order : Asked) (c : Call) (result : Outcome) : Type 0 where
+  pub task : order.task ≡ Signals
+  pub told : TellsStreams order c result
+
 abbrev pub IsFollowed : Asked → Call → Outcome → Type 0
-IsFollowed order c result = Writes order c result ⊎ IsSilent order c result
+IsFollowed order c result = Streams order c result ⊎ (Writes order c result ⊎ IsSilent order c result)
 
 -- this, with nothing written
 pub record EndsWith (outcome : Outcome) (c : Call) (result : Outcome) : Type 0 where

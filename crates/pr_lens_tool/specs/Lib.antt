@@ -4,4 +4,5 @@ pub mod Outcomes
 pub mod Programs
 pub mod Replies
 pub mod Logs
+pub mod Streams
 pub mod Calls

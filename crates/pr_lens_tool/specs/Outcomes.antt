@@ -7,13 +7,14 @@ use Rattle.pr_tool_answers.specs.declared.answers.Answer.{Answer}
 use Rattle.pr_tool_answers.specs.Statuses as answers
 use Rattle.pr_tool.specs.Notes.{note_of}
 use Rattle.pr_lens_tool.specs.declared.outcomes.Outcome.{Outcome}
-use Rattle.pr_lens_tool.specs.declared.outcomes.Outcome.TheVariants.{Plain, Explained, Usage, BadLog, NoCycle, LongLog}
+use Rattle.pr_lens_tool.specs.declared.outcomes.Outcome.TheVariants.{Plain, Explained, Streamed, Usage, BadLog, NoCycle, LongLog}
 use Rattle.pr_lens_tool.specs.declared.outcomes.Reply.{Reply}
 
 -- the status with which the process ends
 abbrev pub status_of : Outcome → ℕ
 status_of (Plain answer) = answers.status_of answer
 status_of (Explained answer) = answers.status_of answer
+status_of (Streamed answer) = answers.status_of answer
 status_of Usage = 2
 status_of (BadLog line) = 15
 status_of NoCycle = 15
@@ -26,7 +27,8 @@ bad_log_line line = codes "bad log: line " ++ decimal line ++ codes "\n"
 abbrev pub line_by : Reply → Outcome → List ℕ
 line_by reply (Plain answer) = note_of reply.bounds answer
 line_by reply (Explained answer) = []
-line_by reply Usage = codes "usage: pipelens TASK FILE [--fabric F] [--narrow] [--samples N] [--json]; pipelens --help says more\n"
+line_by reply (Streamed answer) = note_of reply.bounds answer
+line_by reply Usage = codes "usage: pipelens TASK FILE [SAMPLES] [--fabric F] [--narrow] [--samples N] [--json] [--csv]; pipelens --help says more\n"
 line_by reply (BadLog line) = bad_log_line line
 line_by reply NoCycle = codes "bad log: no cycle\n"
 line_by reply LongLog = codes "limit: log-bytes 16777216\n"
@@ -46,12 +48,14 @@ line_of reply = line_or (own_line reply) reply.line
 -- the help
 unfoldable pub help_text : List ℕ
 help_text =
-    codes "pipelens looks at programs and runs of piperench\n\nusage: pipelens TASK FILE [--fabric F] [--narrow] [--samples N] [--json]\n\n"
+    codes "pipelens looks at programs and runs of piperench\n\nusage: pipelens TASK FILE [SAMPLES] [--fabric F] [--narrow] [--samples N] [--json] [--csv]\n\n"
     ++ codes "  why PROGRAM    where and why a program is refused, and what to do\n"
     ++ codes "  cost PROGRAM   equations, units and stages, and cycles by stripes\n"
     ++ codes "  graph PROGRAM  the units by stage with their wires, for Graphviz\n"
     ++ codes "  wave LOG       the log of `piperench trace` as a waveform (VCD)\n"
-    ++ codes "  chart LOG      the log of `piperench trace` as a picture (SVG)\n\n"
+    ++ codes "  chart LOG      the log of `piperench trace` as a picture (SVG)\n"
+    ++ codes "  signals PROGRAM SAMPLES --csv\n"
+    ++ codes "                 what every named stream is at every sample, as lines of numbers\n\n"
     ++ codes "  --fabric F     base has 16 columns and 8 registers, wide 32 and 16; base without it\n"
     ++ codes "  --narrow       leaves out what no output shows\n"
     ++ codes "  --samples N    how long the run is whose cycles `cost` tells; 1000 without it\n"

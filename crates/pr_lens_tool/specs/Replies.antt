@@ -1,11 +1,11 @@
 -- What is told of an answer to an order, with the name of the file.
-use Rattle.std.specs.Prelude.{◌≡◌, ℕ, Bool, List, [], ◌++◌, codes, if◌then◌else◌, Option, Some, None, option_and_then, IfSome}
+use Rattle.std.specs.Prelude.{◌≡◌, ℕ, Bool, List, [], ◌++◌, codes, if◌then◌else◌, Option, Some, None, option_and_then, option_map, IfSome}
 use Rattle.pr_base.specs.declared.caps.Cap.{Cap}
 use Rattle.pr_base.specs.declared.fabrics.Fabric.{Fabric}
 use Rattle.pr_tool_answers.specs.declared.answers.Answer.{Answer}
 use Rattle.pr_tool.specs.Notes.{note_of}
 use Rattle.pr_lens_tool.specs.declared.outcomes.Outcome.{Outcome}
-use Rattle.pr_lens_tool.specs.declared.outcomes.Outcome.TheVariants.{Plain}
+use Rattle.pr_lens_tool.specs.declared.outcomes.Outcome.TheVariants.{Plain, Streamed}
 use Rattle.pr_lens_tool.specs.declared.outcomes.Reply.{Reply}
 use Rattle.pr_lens_tool.specs.Orders.{Asked}
 use Rattle.pr_lens_tool.specs.Programs.{bounds_for}
@@ -42,6 +42,7 @@ answer_line asked answer = None
 
 abbrev pub line_for : Asked → Outcome → Option (List ℕ)
 line_for asked (Plain answer) = answer_line asked answer
+line_for asked (Streamed Answer.ReadFault) = option_map fault_line asked.second
 line_for asked outcome = None
 
 -- a line that a reply has in place of the outcome's own is the one for what was asked

@@ -4,9 +4,9 @@ ghost use Rattle.std.specs.Prelude.{◌≡◌, IfOk, IsErrOf, Some, None, true, 
 ghost use Rattle.clap.specs.Words.{app_of, rule_of, found_of};
 ghost use Rattle.pr_tool_words.specs.Lawful.{is_true};
 ghost use Rattle.pr_tool_words.specs.Shape.{place, option_or, flag};
-ghost use Rattle.pr_lens_tool.specs.Orders.{app, asked_in, asked_of, asked_by};
+ghost use Rattle.pr_lens_tool.specs.Orders.{app, asked_in, asked_of, asked_by, fit, is_fit};
 
-use crate::orders::{Order, fabric_named, task_named};
+use crate::orders::{Order, Task, fabric_named, task_named};
 use clap::error::ErrorKind;
 use clap::{Arg, ArgAction, ArgMatches, Command};
 use pr_tool_words::number_in;
@@ -43,12 +43,12 @@ const FABRIC: &str = "base";
 /// The samples of a run where no number is given.
 const SAMPLES: &str = "1000";
 
-/// A place for a word.
-fn place<'a>(alloc: Global, name: &'a str) -> Arg<'a>
-    ensures rule { rule_of result ≡ place name.entry.now true }
+/// A place for a word, which has to be there or not.
+fn place<'a>(alloc: Global, name: &'a str, required: bool) -> Arg<'a>
+    ensures rule { rule_of result ≡ place name.entry.now required }
     ensures local { result.global ≡ false }
 {
-    Arg::new(alloc, name).required(true)
+    Arg::new(alloc, name).required(required)
 }
 
 /// An option with a value, and the value where it is not given.
@@ -71,12 +71,14 @@ fn flag<'a>(alloc: Global, name: &'a str) -> Arg<'a>
 fn command<'a>(alloc: Global) -> Result<Command<'a>, AllocError>
     ensures { IfOk result (λ c. app_of c ≡ app) }
 {
-    let task = Command::new(alloc, "pipelens").arg(place(alloc, "task"))?;
-    let file = task.arg(place(alloc, "file"))?;
-    let fabric = file.arg(option_or(alloc, "fabric", FABRIC))?;
+    let task = Command::new(alloc, "pipelens").arg(place(alloc, "task", true))?;
+    let file = task.arg(place(alloc, "file", true))?;
+    let second = file.arg(place(alloc, "second", false))?;
+    let fabric = second.arg(option_or(alloc, "fabric", FABRIC))?;
     let narrow = fabric.arg(flag(alloc, "narrow"))?;
     let samples = narrow.arg(option_or(alloc, "samples", SAMPLES))?;
-    samples.arg(flag(alloc, "json"))
+    let json = samples.arg(flag(alloc, "json"))?;
+    json.arg(flag(alloc, "csv"))
 }
 
 /// Whether the value of an option without one is `true`.
@@ -89,6 +91,27 @@ fn is_true(value: Option<&str>) -> bool
     }
 }
 
+/// Whether a task is asked for with the files and the form that it needs.
+fn is_fit(task: Task, second: Option<&str>, csv: bool) -> bool
+    ensures { result ≡ is_fit task (option_map (λ s. s.now) second.entry) csv }
+{
+    match task {
+        Task::Signals => second.is_some() && csv,
+        Task::Program(_) => second.is_none(),
+        Task::Log(_) => second.is_none(),
+    }
+}
+
+/// An order, where it is asked for with the files and the form that it needs.
+fn fit<'a>(order: Order<'a>) -> Option<Order<'a>>
+    ensures { option_map asked_in result ≡ fit (asked_in order.entry) }
+{
+    if is_fit(order.task, order.second, order.csv) {
+        return Some(order);
+    }
+    None
+}
+
 /// The order among the matches, where its words are lawful.
 fn found<'a>(matches: &ArgMatches<'a>) -> Option<Order<'a>>
     ensures { option_map asked_in result ≡ asked_of (found_of matches.now) }
@@ -97,13 +120,15 @@ fn found<'a>(matches: &ArgMatches<'a>) -> Option<Order<'a>>
     let file = matches.get_str("file")?;
     let fabric = fabric_named(matches.get_str("fabric")?)?;
     let samples = number_in(matches.get_str("samples")?, 0, u32::MAX)?;
-    Some(Order {
+    fit(Order {
         task,
         file,
+        second: matches.get_str("second"),
         fabric,
         narrowed: is_true(matches.get_str("narrow")),
         samples,
         json: is_true(matches.get_str("json")),
+        csv: is_true(matches.get_str("csv")),
     })
 }
 

@@ -1,13 +1,15 @@
 //! The call.
 
-ghost use Rattle.std.specs.Prelude.{◌≡◌, ◌≤◌, IfOk, IfErr};
+ghost use Rattle.std.specs.Prelude.{◌≡◌, ◌≢◌, ◌≤◌, ◌↔◌, IfOk, IfErr, IsTrue};
 ghost use Rattle.pr_tool_answers.specs.declared.answers.Answer.{Answer};
+ghost use Rattle.pr_lens_signals.specs.Calls.{call};
+ghost use Rattle.pr_lens_tool.specs.declared.orders.Task.TheVariants.{Signals};
 ghost use Rattle.pr_lens_tool.specs.declared.outcomes.Outcome.TheVariants.{Plain};
 ghost use Rattle.pr_lens_tool.specs.Orders.{asked_in, asked_by};
 ghost use Rattle.pr_lens_tool.specs.Outcomes.{IsWritten};
 ghost use Rattle.pr_lens_tool.specs.Programs.{IsToldOf, IsUntold};
 ghost use Rattle.pr_lens_tool.specs.Replies.{HasLine};
-ghost use Rattle.pr_lens_tool.specs.Calls.{call, IsMade, IsUnmade, IsFollowed, IsCalled};
+ghost use Rattle.pr_lens_tool.specs.Calls.{IsMade, IsUnmade, IsFollowed, IsCalled};
 
 use crate::asking::{OrderFault, read_order};
 use crate::logs::of_log;
@@ -15,6 +17,7 @@ use crate::orders::{Order, Question, Task};
 use crate::outcomes::{Outcome, Output, Reply};
 use crate::programs::of_program;
 use crate::replies::{bare, reply_of};
+use crate::signals::of_samples;
 use pr_base::{Cap, Fabric};
 use pr_edge::{Shelf, Sink, write_all};
 use pr_tool::Answer;
@@ -25,13 +28,15 @@ use std::alloc::Global;
 const HELP: &[u8] = b"\
 pipelens looks at programs and runs of piperench
 
-usage: pipelens TASK FILE [--fabric F] [--narrow] [--samples N] [--json]
+usage: pipelens TASK FILE [SAMPLES] [--fabric F] [--narrow] [--samples N] [--json] [--csv]
 
   why PROGRAM    where and why a program is refused, and what to do
   cost PROGRAM   equations, units and stages, and cycles by stripes
   graph PROGRAM  the units by stage with their wires, for Graphviz
   wave LOG       the log of `piperench trace` as a waveform (VCD)
   chart LOG      the log of `piperench trace` as a picture (SVG)
+  signals PROGRAM SAMPLES --csv
+                 what every named stream is at every sample, as lines of numbers
 
   --fabric F     base has 16 columns and 8 registers, wide 32 and 16; base without it
   --narrow       leaves out what no output shows
@@ -63,6 +68,7 @@ fn of_file<S: Shelf>(
 
 /// What is asked for, made whole; else what the call comes to.
 fn made<S: Shelf>(alloc: Global, order: &Order, shelf: &mut S) -> Result<Output, Outcome>
+    requires { order.now.task ≢ Signals }
     ensures made { IfOk result (λ o. IsMade (S.told shelf.old) (asked_in order.now) o.outcome o.text.items) }
     ensures unmade { IfErr result
         (IsUnmade (S.told shelf.old) (asked_in order.now) (S.faults shelf.old) (S.faults shelf.new)) }
@@ -75,6 +81,7 @@ fn made<S: Shelf>(alloc: Global, order: &Order, shelf: &mut S) -> Result<Output,
             Err(answer) => Err(Outcome::Plain(answer)),
         },
         Task::Log(drawing) => of_log(alloc, drawing, shelf, order.file),
+        Task::Signals => unreachable!(),
     }
 }
 
@@ -90,6 +97,13 @@ fn written<K: Sink>(out: &mut K, text: &[u8], outcome: Outcome) -> Outcome
     }
 }
 
+/// Whether what is asked for is written while samples are read.
+fn is_streamed(task: Task) -> bool
+    ensures { IsTrue result ↔ (task ≡ Signals) }
+{
+    matches!(task, Task::Signals)
+}
+
 /// Does what is asked for, and says what it comes to.
 fn follow<S: Shelf, K: Sink>(alloc: Global, order: &Order, shelf: &mut S, out: &mut K) -> Outcome
     ensures followed { IsFollowed (asked_in order.now) (call
@@ -99,6 +113,9 @@ fn follow<S: Shelf, K: Sink>(alloc: Global, order: &Order, shelf: &mut S, out: &
     ensures shelf_later { S.faults shelf.old ≤ S.faults shelf.new }
     ensures out_later { K.faults out.old ≤ K.faults out.new }
 {
+    if is_streamed(order.task) {
+        return of_samples(alloc, order, shelf, out);
+    }
     match made(alloc, order, shelf) {
         Ok(output) => written(out, &output.text, output.outcome),
         Err(outcome) => outcome,
@@ -107,7 +124,7 @@ fn follow<S: Shelf, K: Sink>(alloc: Global, order: &Order, shelf: &mut S, out: &
 
 /// Does what the words ask for, the program's name first among them, and says what it comes to.
 ///
-/// What is written is made whole before its first byte is written.
+/// What is written is made whole before its first byte is written, but streams are written as samples come.
 pub fn pipelens<S: Shelf, K: Sink>(
     alloc: Global,
     words: &[String],

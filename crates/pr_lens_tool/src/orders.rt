@@ -33,6 +33,8 @@ pub enum Task {
     Program(Question),
     /// It is a log.
     Log(Drawing),
+    /// It is a program, and its streams are told on the samples of a second file.
+    Signals,
 }
 
 /// What the words of a command line ask for.
@@ -41,6 +43,8 @@ pub struct Order<'a> {
     pub task: Task,
     /// The name of the file.
     pub file: &'a str,
+    /// The name of the second file, where there is one.
+    pub second: Option<&'a str>,
     /// The fabric that a program is compiled for.
     pub fabric: Fabric,
     /// Whether its equations are narrowed.
@@ -49,6 +53,8 @@ pub struct Order<'a> {
     pub samples: u32,
     /// Whether findings are told as JSON.
     pub json: bool,
+    /// Whether streams are told as lines of numbers.
+    pub csv: bool,
 }
 
 /// The task of this name.
@@ -61,6 +67,7 @@ pub fn task_named(name: &str) -> Option<Task>
         "graph" => Some(Task::Program(Question::Graph)),
         "wave" => Some(Task::Log(Drawing::Wave)),
         "chart" => Some(Task::Log(Drawing::Chart)),
+        "signals" => Some(Task::Signals),
         _ => None,
     }
 }

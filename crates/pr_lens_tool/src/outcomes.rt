@@ -17,6 +17,8 @@ pub enum Outcome {
     Plain(Answer),
     /// The same, and what was written explains it.
     Explained(Answer),
+    /// As `piperench` answers, of samples on which streams are told.
+    Streamed(Answer),
     /// The words are no lawful command line.
     Usage,
     /// The line of a log, counted from 1, is none.
@@ -46,7 +48,7 @@ pub struct Reply {
 
 /// The line for words that are no lawful command line.
 const USAGE: &str =
-    "usage: pipelens TASK FILE [--fabric F] [--narrow] [--samples N] [--json]; pipelens --help says more\n";
+    "usage: pipelens TASK FILE [SAMPLES] [--fabric F] [--narrow] [--samples N] [--json] [--csv]; pipelens --help says more\n";
 
 /// The line for a log without a cycle.
 const NO_CYCLE: &str = "bad log: no cycle\n";
@@ -61,6 +63,7 @@ impl Outcome {
     {
         match self {
             Outcome::Plain(answer) | Outcome::Explained(answer) => answer.status(),
+            Outcome::Streamed(answer) => answer.status(),
             Outcome::Usage => 2,
             Outcome::BadLog { .. } | Outcome::NoCycle => 15,
             Outcome::LongLog => 6,
@@ -111,7 +114,9 @@ impl Reply {
         ensures later { E.faults note.old ≤ E.faults note.new }
     {
         match self.outcome {
-            Outcome::Plain(answer) => put_note(note, &self.bounds, &answer),
+            Outcome::Plain(answer) | Outcome::Streamed(answer) => {
+                put_note(note, &self.bounds, &answer);
+            }
             Outcome::Explained(_) => {}
             Outcome::Usage => put_bytes(note, USAGE.as_bytes()),
             Outcome::BadLog { line } => {

@@ -20,7 +20,7 @@ use pr_tool::{Answer, Bounds, note_line};
 use std::alloc::{AllocError, Global};
 
 /// The answer that a fault of a text is.
-fn answer_of(fault: &CompileFault) -> Answer
+pub fn answer_of(fault: &CompileFault) -> Answer
     ensures { result ≡ compile_answer fault.now }
 {
     match *fault {

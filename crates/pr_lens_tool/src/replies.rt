@@ -82,6 +82,16 @@ fn answer_line(alloc: Global, order: &Order, answer: Answer) -> Result<Option<Ve
     }
 }
 
+/// The line for a second file that cannot be read, where there is one and memory does not want.
+fn second_line(alloc: Global, order: &Order) -> Option<Vec<u8>>
+    ensures { IfSome result (λ line. option_map fault_line (asked_in order.now).second ≡ Some line.items) }
+{
+    match fault_line(alloc, order.second?) {
+        Ok(line) => Some(line),
+        Err(_) => None,
+    }
+}
+
 /// The line of an outcome, where it tells more than the outcome's own and memory does not want.
 fn line_for(alloc: Global, order: &Order, outcome: Outcome) -> Option<Vec<u8>>
     ensures { IfSome result (λ line. line_for (asked_in order.now) outcome ≡ Some line.items) }
@@ -91,6 +101,7 @@ fn line_for(alloc: Global, order: &Order, outcome: Outcome) -> Option<Vec<u8>>
             Ok(line) => line,
             Err(_) => None,
         },
+        Outcome::Streamed(Answer::ReadFault) => second_line(alloc, order),
         _ => None,
     }
 }

@@ -1,5 +1,6 @@
 use Rattle.std.proofs.Common.{◌≡◌, ◌∙◌, ◌≤◌, ℕ, List, length, sym, ap, subst, arith}
 use Rattle.pr_lang.specs.declared.trees.Program.{Program}
+use Rattle.pr_flat.specs.declared.equations.Operand.{Operand}
 use Rattle.pr_flat.specs.Shape.{EquationShape}
 use Rattle.pr_lang_meaning.specs.Programs.{out}
 use Rattle.pr_expand_spec.specs.Programs.{equations_of}
@@ -26,11 +27,11 @@ returns-clause-shows c =
     let program = c.args.scoped.program in
     let flat = c.in_ok-flat.flat in
     let probed = c.in_ok-probed.probed in
-    let count : length flat.outputs.items ≡ length (equations_of probed).outputs = ap length c.in_ok-flat.ensures.outputs ∙ ap (λ (p : Program). length (equations_of p).outputs) c.in_ok-scoped.ensures in
+    let operands : flat.outputs.items ≡ (equations_of probed).outputs = c.in_ok-flat.ensures.outputs ∙ ap (λ (p : Program). (equations_of p).outputs) c.in_ok-scoped.ensures in
     record {
       instances = c.in_ok-instances.ensures;
       same = ap (λ (p : Program). (equations_of p).equations) c.in_ok-scoped.ensures ∙ s.same;
       equations = c.in_ok-flat.ensures.equations;
       outputs = c.in_ok-flat.ensures.outputs;
-      columns = λ xs. subst (λ (p : Program). HasColumns program (length flat.outputs.items) xs (out p xs)) (sym c.in_ok-scoped.ensures) (subst (λ (n : ℕ). HasColumns program n xs (out probed xs)) (sym count) (s.columns xs));
+      columns = λ xs. subst (λ (p : Program). HasColumns program flat.outputs.items xs (out p xs)) (sym c.in_ok-scoped.ensures) (subst (λ (os : List Operand). HasColumns program os xs (out probed xs)) (sym operands) (s.columns xs));
     }

@@ -9,7 +9,9 @@ unfolding app
 returns c =
     let task = c.in_ok-task.ensures.shape c.place.ensures.local ∙ ap₂ with_rule c.new.ensures.app c.place.ensures.rule in
     let file = c.in_ok-file.ensures.shape c.place-2.ensures.local ∙ ap₂ with_rule task c.place-2.ensures.rule in
-    let fabric = c.in_ok-fabric.ensures.shape c.option_or.ensures.local ∙ ap₂ with_rule file c.option_or.ensures.rule in
+    let second = c.in_ok-second.ensures.shape c.place-3.ensures.local ∙ ap₂ with_rule file c.place-3.ensures.rule in
+    let fabric = c.in_ok-fabric.ensures.shape c.option_or.ensures.local ∙ ap₂ with_rule second c.option_or.ensures.rule in
     let narrow = c.in_ok-narrow.ensures.shape c.flag.ensures.local ∙ ap₂ with_rule fabric c.flag.ensures.rule in
     let samples = c.in_ok-samples.ensures.shape c.option_or-2.ensures.local ∙ ap₂ with_rule narrow c.option_or-2.ensures.rule in
-    IfOk-weaker c.arg-6.result _ _ (λ r h. h.shape c.flag-2.ensures.local ∙ ap₂ with_rule samples c.flag-2.ensures.rule) c.arg-6.ensures
+    let json = c.in_ok-json.ensures.shape c.flag-2.ensures.local ∙ ap₂ with_rule samples c.flag-2.ensures.rule in
+    IfOk-weaker c.arg-8.result _ _ (λ r h. h.shape c.flag-3.ensures.local ∙ ap₂ with_rule json c.flag-3.ensures.rule) c.arg-8.ensures

@@ -1,0 +1,168 @@
+-- Samples that a feed gave, and the lines that are put of them.
+use Rattle.std.proofs.Common.{◌≡◌, ◌≢◌, ◌+◌, ◌-◌, ℕ, List, [], ◌∷◌, ◌++◌, drop, length, map, reverse, take, None, Some, Option, IfSome, append-nil, refl, sym, ap, ◌∙◌, subst}
+use Rattle.std.proofs.lemmas.Grind.{flat_map-append}
+use Rattle.std.proofs.lemmas.List.{map-append, take_rest}
+use Rattle.pr_edge.specs.Files.{Told, OfFile}
+use Rattle.pr_edge.specs.Tape.{Tape, Appends, AppendsFront}
+use Rattle.pr_flat.specs.declared.equations.Operand.{Operand}
+use Rattle.pr_flat.specs.Shape.{EquationShape}
+use Rattle.pr_flat.specs.Values.{row_of, rows_of}
+use Rattle.pr_lang.specs.declared.trees.Program.{Program}
+use Rattle.pr_lang_meaning.specs.Programs.{out}
+use Rattle.pr_samples.specs.declared.tails.Tail.{Tail}
+use Rattle.pr_samples.specs.declared.feed.Feed.{Feed}
+use Rattle.pr_samples.specs.declared.feed.Got.{Got}
+use Rattle.pr_samples.specs.Feed.{name_of, given_of, fed, SameFile, StandsFor, Begins, IsSeen, ReadsOn, IsGiven, Gives}
+use Rattle.pr_samples.specs.Got.{given_by}
+use Rattle.pr_samples.proofs.ResultLemmas.{put_front}
+use Rattle.pr_source.specs.declared.evaluator.Evaluator.{Evaluator}
+use Rattle.pr_source.specs.Outputs.{given, given_all}
+use Rattle.pr_source.specs.Standing.{Stands}
+use Rattle.pr_source.proofs.Latest.{rows_of-more}
+use Rattle.pr_tool_modes.proofs.SampleLemmas.{HasGiven, given_more, done_all}
+use Rattle.pr_lens_signals.specs.Texts.{cut_lines, numbers_line}
+use Rattle.pr_lens_signals.specs.Reading.{HasBegun, HasEnded, IsLongFeed}
+
+-- a feed that began as this one has given these samples, and the evaluator was given them
+pub record HasTaken (told : Told) (equations : List EquationShape) (widths : List ℕ) (first f : Feed) (v : Evaluator) : Type 0 where
+  pub samples : List (List ℕ)
+  pub reads : ReadsOn told [] first f (λ file. HasGiven first f file samples)
+  pub stands : Stands equations widths samples v
+
+abbrev pub lines_of : ℕ → List EquationShape → List Operand → List ℕ → List (List ℕ) → List ℕ
+lines_of front equations outputs widths samples = cut_lines front (given_all equations outputs widths samples)
+
+-- and their lines are put
+pub record HasPut (told : Told) (equations : List EquationShape) (outputs : List Operand) (widths : List ℕ) (front : ℕ) (first f : Feed) (v : Evaluator) (Put : List ℕ → Type 0) : Type 0 where
+  pub taken : HasTaken told equations widths first f v
+  pub text : Put (lines_of front equations outputs widths taken.samples)
+
+-- ---- before the first sample
+any_some : (o : Option (List ℕ)) (P : List ℕ → Type 0) → ((file : List ℕ) → P file) → IfSome o P
+any_some None P all = tt
+any_some (Some file) P all = all file
+
+any_file : (told : Told) (name : List ℕ) (P : List ℕ → Type 0) → ((file : List ℕ) → P file) → OfFile told name P
+any_file None name P all = tt
+any_file (Some files) name P all = any_some (files name) P all
+
+-- no sample was given
+reads_none : (told : Told) (inputs : List ℕ) (f : Feed) → IsLongFeed inputs f → ReadsOn told [] f f (λ file. HasGiven f f file [])
+reads_none told inputs f long =
+    let begins : (file : List ℕ) → Begins f.tail [] file = λ file. record { rest = file; whole = refl; end = λ ended. (let no : Tail.Open ≡ Tail.Ended = sym long.fresh.bytes.1 ∙ ended in cc) } in
+    record {
+      bytes = [];
+      seen = record { count = sym long.fresh.bytes.0; file = any_file told (name_of f) (Begins f.tail []) begins };
+      began = λ file begun. begun;
+      holds = λ file begun. record { stands = long.fresh.stands file; samples = sym (ap (λ (n : ℕ). take n (fed f file).samples) long.fresh.samples) };
+    }
+
+pub put_nothing : (told : Told) (equations : List EquationShape) (outputs : List Operand) (widths inputs : List ℕ) (front : ℕ) (f : Feed) (v : Evaluator) (Put : List ℕ → Type 0) → IsLongFeed inputs f → Stands equations widths [] v → Put []
+    → HasPut told equations outputs widths front f f v Put
+put_nothing told equations outputs widths inputs front f v Put long stands none =
+    record { taken = record { samples = []; reads = reads_none told inputs f long; stands = stands }; text = none }
+
+pub begun_nothing : (told : Told) (program : Program) (inputs : List ℕ) (front : ℕ) (f : Feed) (Put : List ℕ → Type 0) → IsLongFeed inputs f → Put (cut_lines front (out program [])) → HasBegun told program front f f Put
+begun_nothing told program inputs front f Put long none =
+    let reads = reads_none told inputs f long in
+    record {
+      samples = [];
+      reads = record {
+        bytes = reads.bytes;
+        seen = reads.seen;
+        began = reads.began;
+        holds = λ file begins. (given_of f, (reads.holds file begins).samples);
+      };
+      text = none;
+    }
+
+-- ---- one sample more
+cut-more : (front : ℕ) (rows : List (List ℕ)) (row : List ℕ) → cut_lines front (rows ++ row ∷ []) ≡ cut_lines front rows ++ numbers_line (drop front row)
+cut-more front rows row =
+    let line : List ℕ → List ℕ = λ r. numbers_line (drop front r) in
+    flat_map-append line rows (row ∷ []) ∙ ap (λ (t : List ℕ). cut_lines front rows ++ t) (append-nil (line row))
+
+lines-more : (front : ℕ) (equations : List EquationShape) (outputs : List Operand) (widths : List ℕ) (samples : List (List ℕ)) (numbers row : List ℕ) → row ≡ given equations outputs (row_of equations widths (reverse (rows_of equations widths samples)) numbers)
+    → lines_of front equations outputs widths (samples ++ numbers ∷ []) ≡ lines_of front equations outputs widths samples ++ numbers_line (drop front row)
+lines-more front equations outputs widths samples numbers row is =
+    let rows = rows_of equations widths samples in
+    let last = row_of equations widths (reverse rows) numbers in
+    let all : given_all equations outputs widths (samples ++ numbers ∷ []) ≡ given_all equations outputs widths samples ++ row ∷ [] =
+    ap (map (given equations outputs)) (rows_of-more equations widths samples numbers) ∙ (map-append (given equations outputs) rows (last ∷ []) ∙ ap (λ (r : List ℕ). map (given equations outputs) rows ++ r ∷ []) (sym is)) in
+    ap (cut_lines front) all ∙ cut-more front (given_all equations outputs widths samples) row
+
+pub put_more : (told : Told) (equations : List EquationShape) (outputs : List Operand) (widths : List ℕ) (front : ℕ) (first f f' : Feed) (v v' : Evaluator) (numbers row : List ℕ) (Put Put' : List ℕ → Type 0)
+    → (has : HasPut told equations outputs widths front first f v Put) → SameFile first f' → given_of f' ≡ given_of f + 1
+    → ((bytes : List ℕ) → IsSeen told bytes f → ReadsOn told bytes f f' (λ file. StandsFor f file → IsGiven f' (given_of f) numbers file))
+    → Stands equations widths (has.taken.samples ++ numbers ∷ []) v' → row ≡ given equations outputs (row_of equations widths (reverse (rows_of equations widths has.taken.samples)) numbers)
+    → ((text : List ℕ) → Put text → Put' (text ++ numbers_line (drop front row))) → HasPut told equations outputs widths front first f' v' Put'
+put_more told equations outputs widths front first f f' v v' numbers row Put Put' has same count next stands is put =
+    let taken = has.taken in
+    let on = next taken.reads.bytes taken.reads.seen in
+    record {
+      taken = record {
+        samples = taken.samples ++ numbers ∷ [];
+        reads = record {
+          bytes = on.bytes;
+          seen = on.seen;
+          began = λ file begins. taken.reads.began file (on.began file begins);
+          holds = λ file begins.
+              (let before = taken.reads.holds file (on.began file begins) in
+              given_more first f f' file taken.samples numbers same count before (on.holds file begins before.stands));
+        };
+        stands = stands;
+      };
+      text = subst Put' (sym (lines-more front equations outputs widths taken.samples numbers row is)) (put (lines_of front equations outputs widths taken.samples) has.text);
+    }
+
+-- a row without its front
+pub row-rest : (row : List ℕ) (k front : ℕ) → k ≡ front → take (length row - k) (drop k row) ≡ drop front row
+row-rest row k front is = take_rest row k ∙ ap (λ (n : ℕ). drop n row) is
+
+-- ---- no sample more
+module _ (told : Told) (program : Program) (equations : List EquationShape) (outputs : List Operand) (widths : List ℕ) (front : ℕ) (first f : Feed) (v : Evaluator) (Put : List ℕ → Type 0)
+    (has : HasPut told equations outputs widths front first f v Put) (means : given_all equations outputs widths has.taken.samples ≡ out program has.taken.samples) where
+  text-means : Put (cut_lines front (out program has.taken.samples))
+  text-means = subst (λ (rows : List (List ℕ)). Put (cut_lines front rows)) means has.text
+
+  -- the feed answered with the end of the samples
+  pub put_ended : (f' : Feed) (numbers : List ℕ) (end : Got) → SameFile first f' → given_of f' ≡ given_of f + given_by end
+      → ((bytes : List ℕ) → IsSeen told bytes f → ReadsOn told bytes f f' (λ file. StandsFor f file → Gives end (given_of f) f' numbers file)) → end ≢ Got.Sample → end ≢ Got.ReadFault → HasEnded told program front first f' end Put
+  put_ended f' numbers end same count next other no_fault = record {
+    samples = has.taken.samples;
+    reads = done_all told first f f' has.taken.samples numbers end has.taken.reads same count next other no_fault;
+    text = text-means;
+  }
+
+  -- the feed was asked in vain
+  pub put_faulted : (f' : Feed) (Holds : List ℕ → Type 0) → ((bytes : List ℕ) → IsSeen told bytes f → ReadsOn told bytes f f' Holds) → HasBegun told program front first f' Put
+  put_faulted f' Holds next =
+      let on = next has.taken.reads.bytes has.taken.reads.seen in
+      record {
+        samples = has.taken.samples;
+        reads = record {
+          bytes = on.bytes;
+          seen = on.seen;
+          began = λ file begins. has.taken.reads.began file (on.began file begins);
+          holds = λ file begins. (given_of f, (has.taken.reads.holds file (on.began file begins)).samples);
+        };
+        text = text-means;
+      }
+
+  -- the last line was not written whole
+  pub put_broken : HasBegun told program front first f Put
+  put_broken = record {
+    samples = has.taken.samples;
+    reads = record {
+      bytes = has.taken.reads.bytes;
+      seen = has.taken.reads.seen;
+      began = has.taken.reads.began;
+      holds = λ file begins. (given_of f, (has.taken.reads.holds file begins).samples);
+    };
+    text = text-means;
+  }
+
+-- ---- first bytes of two pieces
+pub front_more : (old now new : Tape) (text line : List ℕ) → Appends old now text → AppendsFront now new line → AppendsFront old new (text ++ line)
+front_more old now new text line done front =
+    put_front old now new line [] (text ++ line) (record { written = text; done = done; whole = ap (λ (xs : List ℕ). text ++ xs) (append-nil line) }) front

@@ -1,0 +1,187 @@
+-- What is written of a program that shows its instances, as the streams of a program's names.
+use Rattle.std.proofs.Common.{◌≡◌, ◌≢◌, ◌+◌, ◌≤◌, ◌^◌, ℕ, List, [], ◌∷◌, ◌++◌, drop, length, map, take, None, Some, refl, sym, ap, ap₂, ◌∙◌, subst, arith, inl, inr}
+use Rattle.std.specs.List.{flat_map, range_with_len}
+use Rattle.std.proofs.lemmas.List.{length-map}
+use Rattle.std.proofs.Math.Seq.{drop-append_seam}
+use Rattle.pr_edge.specs.Files.{Told, IsMissing, HasReadCause}
+use Rattle.pr_edge.specs.Tape.{Tape, Appends, AppendsFront}
+use Rattle.pr_edge.proofs.Appending.{Appends-append}
+use Rattle.pr_flat.specs.declared.equations.Operand.{Operand}
+use Rattle.pr_flat.specs.Forms.{Stream}
+use Rattle.pr_flat.specs.Values.{input_widths}
+use Rattle.pr_flat.specs.Widths.{AreWidths}
+use Rattle.pr_lang.specs.declared.trees.Program.{Program}
+use Rattle.pr_lang_meaning.specs.Programs.{out}
+use Rattle.pr_expand_spec.specs.Programs.{equations_of}
+use Rattle.pr_scope.specs.Walk.{inputs_after, offence, start}
+use Rattle.pr_scope_facts.proofs.Inputs.{inputs-of-equations}
+use Rattle.pr_scope_facts.proofs.InvertedItems.{inputs-walked, program-inverted}
+use Rattle.pr_probe.specs.Instances.{instances_of}
+use Rattle.pr_probe.specs.Probes.{numbers_at}
+use Rattle.pr_run.proofs.Lines.{nothing_appended}
+use Rattle.pr_samples.specs.declared.feed.Feed.{Feed}
+use Rattle.pr_samples.specs.declared.feed.Got.{Got}
+use Rattle.pr_samples.specs.Fed.{Fed, Ending, End, BadSample, Limit, fed_of}
+use Rattle.pr_samples.specs.Feed.{name_of, fed, Begins}
+use Rattle.pr_samples.proofs.ResultLemmas.{put_front}
+use Rattle.pr_samples.proofs.SeenLemmas.{begins_itself, both_of}
+use Rattle.pr_tool_answers.specs.declared.answers.Answer.{Answer}
+use Rattle.pr_tool_modes.specs.Evaluations.{EndsBy, answer_by}
+use Rattle.pr_tool_modes.specs.Programs.{inputs_of}
+use Rattle.pr_tool_modes.specs.Samples.{fed_at_most, fed_in}
+use Rattle.pr_tool_modes.proofs.FileLemmas.{rose_earlier}
+use Rattle.pr_tool_modes.proofs.SampleLemmas.{some_file}
+use Rattle.pr_lens_probe.specs.Shown.{HasColumns, Shows}
+use Rattle.pr_lens_signals.specs.declared.probing.Showing.{Showing}
+use Rattle.pr_lens_signals.specs.Calls.{call}
+use Rattle.pr_lens_signals.specs.Texts.{cut_lines, names_line, numbers_line}
+use Rattle.pr_lens_signals.specs.Reading.{front_of, HasBegun, HasEnded, IsLongFeed, IsReady, IsShowing, IsWriteCause}
+use Rattle.pr_lens_signals.specs.Signals.{AreFirst, IsBegun, IsShown, IsSignals, IsUnshown, IsWhole}
+use Rattle.pr_lens_signals.proofs.RowLemmas.{begun_nothing, front_more}
+
+-- ---- inputs
+inputs-made : (program : Program) → offence program ≡ None → inputs_of program ≡ input_widths (equations_of program).equations
+inputs-made program none =
+    let walk = program-inverted program none in
+    ap inputs_after walk.walk ∙ (inputs-walked 0 program.items.items start walk.last walk.all ∙ sym (inputs-of-equations program none))
+
+long-fed : (widths : List ℕ) (f : Feed) (file : List ℕ) → IsLongFeed widths f → fed f file ≡ fed_in widths file
+unfolding fed_at_most
+long-fed widths f file is =
+    ap (λ (ws : List ℕ). fed_of ws f.limit f.most file) is.inputs ∙ (ap (λ (n : ℕ). fed_of widths n f.most file) is.limit ∙ ap (λ (n : ℕ). fed_of widths (2 ^ 44) n file) is.most)
+
+-- ---- pieces
+front-longer : (old new : Tape) (text more : List ℕ) → AppendsFront old new text → AppendsFront old new (text ++ more)
+front-longer old new text more front = put_front old old new text more (text ++ more) (record { written = []; done = nothing_appended old; whole = refl }) front
+
+-- ---- columns
+cut-columns : (front : ℕ) (outputs streams : List Stream) (ns : List ℕ) → length outputs ≡ front
+    → cut_lines front (map (λ n. numbers_at n outputs ++ numbers_at n streams) ns) ≡ flat_map numbers_line (map (λ n. numbers_at n streams) ns)
+cut-columns front outputs streams [] fits = refl
+cut-columns front outputs streams (n ∷ ns) fits =
+    let long : length (numbers_at n outputs) ≡ front = length-map outputs _ ∙ fits in
+    let cut : drop front (numbers_at n outputs ++ numbers_at n streams) ≡ numbers_at n streams =
+    ap (λ (k : ℕ). drop k (numbers_at n outputs ++ numbers_at n streams)) (sym long) ∙ drop-append_seam (numbers_at n outputs) (numbers_at n streams) in
+    ap₂ (λ (a b : List ℕ). numbers_line a ++ b) cut (cut-columns front outputs streams ns fits)
+
+counted : (program : Program) (operands : List Operand) (xs rows : List (List ℕ)) (has : HasColumns program operands xs rows) → (instances : ℕ) → length (instances_of program) ≡ instances → length has.outputs + instances ≡ length operands
+counted program operands xs rows has instances is =
+    let streams : length has.streams ≡ length (instances_of program) = sym (length-map has.streams Some) ∙ (sym (ap length has.has.each) ∙ length-map (instances_of program) _) in
+    omega (arith, has.all, streams, is)
+
+pub showing-ready : (program : Program) (s : Showing) → Shows program s.probed → AreWidths (equations_of program).equations s.widths → IsReady s
+showing-ready program s shows widths = record {
+  flat = record { equations = shows.equations; outputs = shows.outputs };
+  widths = subst (λ es. AreWidths es s.widths) (sym shows.same) widths;
+  front = (let all = counted program _ [] _ (shows.columns []) (length s.probed.instances.items) (sym (ap length shows.instances)) in omega (arith, all, s.probed.flat.outputs.ok.0, s.probed.instances.ok.0));
+}
+
+module _ (program : Program) (s : Showing) (lawful : offence program ≡ None) (is : IsShowing program s) where
+  inputs-same : inputs_of s.probed.scoped.program ≡ inputs_of program
+  inputs-same = inputs-made s.probed.scoped.program s.probed.scoped.lawful ∙ (ap input_widths is.shows.same ∙ sym (inputs-made program lawful))
+
+  signals-are : (xs : List (List ℕ)) → IsSignals program xs (names_line s.probed.instances.items ++ cut_lines (front_of s) (out s.probed.scoped.program xs))
+  signals-are xs =
+      let has = is.shows.columns xs in
+      let all = counted program _ xs _ has (length s.probed.instances.items) (sym (ap length is.shows.instances)) in
+      let fits : length has.outputs ≡ front_of s = omega (arith, all, s.probed.flat.outputs.ok.0, s.probed.instances.ok.0) in
+      record {
+        outputs = has.outputs;
+        streams = has.streams;
+        has = has.has;
+        is = ap₂ (λ names (t : List ℕ). names_line names ++ t) is.shows.instances (ap (cut_lines (front_of s)) has.are ∙ cut-columns (front_of s) has.outputs has.streams (range_with_len 0 (length xs)) fits);
+      }
+
+  module _ (told : Told) (name : List ℕ) (first now : Feed) (long : IsLongFeed (inputs_of s.probed.scoped.program) first) (named : name_of now ≡ name) where
+    fed-is : (file : List ℕ) → fed first file ≡ fed_in (inputs_of program) file
+    fed-is file = long-fed (inputs_of s.probed.scoped.program) first file long ∙ ap (λ (ws : List ℕ). fed_in ws file) inputs-same
+
+    whole : (old mid new : Tape) (end : Got) (ending : Ending) → Appends old mid (names_line s.probed.instances.items) → HasEnded told s.probed.scoped.program (front_of s) first now end (Appends mid new)
+        → (IsMissing told name → ⊥) → ((e : Ending) → EndsBy end e → e ≡ ending) → IsWhole told name program ending old new
+    whole old mid new end ending names has there by =
+        let read = some_file told name now.tail has.reads.bytes (rw named at has.reads.seen.file) there in
+        let all = has.reads.holds read.file read.begins in
+        let text = names_line s.probed.instances.items ++ cut_lines (front_of s) (out s.probed.scoped.program has.samples) in
+        let samples : has.samples ≡ (fed_in (inputs_of program) read.file).samples = all.all ∙ ap (λ (k : Fed). k.samples) (fed-is read.file) in
+        record {
+          file = read.file;
+          is = read.text;
+          ends = sym (ap (λ (k : Fed). k.ending) (fed-is read.file)) ∙ by _ all.ends;
+          text = text;
+          signals = subst (λ (xs : List (List ℕ)). IsSignals program xs text) samples (signals-are has.samples);
+          written = Appends-append old mid new _ _ names has.text;
+        }
+
+    first-is : (samples : List (List ℕ)) (file : List ℕ) → ((k : ℕ) × (samples ≡ take k (fed first file).samples)) → AreFirst (inputs_of program) samples file
+    first-is samples file front = (front.0, front.1 ∙ ap (λ (k : Fed). take front.0 k.samples) (fed-is file))
+
+    begun : (P Put : List ℕ → Type 0) → ((text : List ℕ) → P text → Put (names_line s.probed.instances.items ++ text)) → HasBegun told s.probed.scoped.program (front_of s) first now P → IsBegun told name program Put
+    begun P Put step has =
+        let bytes = has.reads.bytes in
+        let file = rw named at has.reads.seen.file in
+        record {
+          samples = has.samples;
+          first = record {
+            bytes = bytes;
+            holds = first-is has.samples bytes (has.reads.holds bytes (begins_itself now.tail bytes));
+            own = both_of told name (Begins now.tail bytes) (Begins now.tail bytes) (AreFirst (inputs_of program) has.samples) (λ f h g. first-is has.samples f (has.reads.holds f h)) file file;
+          };
+          text = names_line s.probed.instances.items ++ cut_lines (front_of s) (out s.probed.scoped.program has.samples);
+          signals = signals-are has.samples;
+          put = step _ has.text;
+        }
+
+    module _ (old new : Tape) (rb rn wb wn : ℕ) where
+      -- all samples were read
+      pub shown-ended : (mid : Tape) (end : Got) → Appends old mid (names_line s.probed.instances.items) → HasEnded told s.probed.scoped.program (front_of s) first now end (Appends mid new) → (IsMissing told name → ⊥) → end ≢ Got.ReadFault
+          → IsShown name program (call told rb rn old new wb wn) (answer_by end)
+      shown-ended mid Got.Sample names has there no_fault = absurd (has.reads.holds has.reads.bytes (begins_itself now.tail has.reads.bytes)).ends
+      shown-ended mid Got.End names has there no_fault = whole old mid new Got.End End names has there (λ e h. h)
+      shown-ended mid (Got.BadSample line) names has there no_fault = whole old mid new (Got.BadSample line) (BadSample line) names has there (λ e h. h)
+      shown-ended mid Got.ReadFault names has there no_fault = absurd (no_fault refl)
+      shown-ended mid (Got.Limit which) names has there no_fault = inr (whole old mid new (Got.Limit which) (Limit which) names has there (λ e h. h))
+
+      -- a read failed
+      pub shown-faulted : (mid : Tape) → Appends old mid (names_line s.probed.instances.items) → HasBegun told s.probed.scoped.program (front_of s) first now (Appends mid new) → HasReadCause told name rb rn
+          → IsShown name program (call told rb rn old new wb wn) Answer.ReadFault
+      shown-faulted mid names has cause = (cause, begun (Appends mid new) (Appends old new) (λ text h. Appends-append old mid new _ text names h) has)
+
+      -- the samples came to an end
+      pub shown-read : (mid : Tape) (end : Got) → Appends old mid (names_line s.probed.instances.items) → (end ≢ Got.ReadFault → HasEnded told s.probed.scoped.program (front_of s) first now end (Appends mid new))
+          → (end ≢ Got.ReadFault → IsMissing told name → ⊥) → (end ≡ Got.ReadFault → HasReadCause told name rb rn) → (end ≡ Got.ReadFault → HasBegun told s.probed.scoped.program (front_of s) first now (Appends mid new))
+          → IsShown name program (call told rb rn old new wb wn) (answer_by end)
+      shown-read mid Got.ReadFault names ended there cause begins = shown-faulted mid names (begins refl) (cause refl)
+      shown-read mid Got.Sample names ended there cause begins = shown-ended mid Got.Sample names (ended (λ e. cc)) (there (λ e. cc)) (λ e. cc)
+      shown-read mid Got.End names ended there cause begins = shown-ended mid Got.End names (ended (λ e. cc)) (there (λ e. cc)) (λ e. cc)
+      shown-read mid (Got.BadSample line) names ended there cause begins = shown-ended mid (Got.BadSample line) names (ended (λ e. cc)) (there (λ e. cc)) (λ e. cc)
+      shown-read mid (Got.Limit which) names ended there cause begins = shown-ended mid (Got.Limit which) names (ended (λ e. cc)) (there (λ e. cc)) (λ e. cc)
+
+      cut : (answer : Answer) → IsBegun told name program (AppendsFront old new) → IsWriteCause wb wn answer → IsShown name program (call told rb rn old new wb wn) answer
+      cut Answer.WriteFault has cause = (cause, has)
+      cut Answer.Memory has cause = inr has
+      cut answer has cause = absurd cause
+
+      -- a line of numbers was not written whole
+      pub shown-cut : (mid : Tape) (answer : Answer) → Appends old mid (names_line s.probed.instances.items) → HasBegun told s.probed.scoped.program (front_of s) first now (AppendsFront mid new) → IsWriteCause wb wn answer
+          → IsShown name program (call told rb rn old new wb wn) answer
+      shown-cut mid answer names has cause = cut answer (begun (AppendsFront mid new) (AppendsFront old new) (λ text h. front_more old mid new _ text names h) has) cause
+
+  -- the line of names was not
+  pub shown-nameless : (told : Told) (name : List ℕ) (first : Feed) (long : IsLongFeed (inputs_of s.probed.scoped.program) first) (named : name_of first ≡ name) (old new : Tape) (rb rn wb wn : ℕ) (answer : Answer)
+      → AppendsFront old new (names_line s.probed.instances.items) → IsWriteCause wb wn answer → IsShown name program (call told rb rn old new wb wn) answer
+  shown-nameless told name first long named old new rb rn wb wn answer names cause =
+      let put : List ℕ → Type 0 = λ text. AppendsFront old new (names_line s.probed.instances.items ++ text) in
+      let has = begun_nothing told s.probed.scoped.program (inputs_of s.probed.scoped.program) (front_of s) first put long (front-longer old new (names_line s.probed.instances.items) _ names) in
+      cut told name first first long named old new rb rn wb wn answer (begun told name first first long named put (AppendsFront old new) (λ text h. h) has) cause
+
+-- a cause of a later write is one of both together
+pub write-earlier : (a b n : ℕ) (answer : Answer) → a ≤ b → IsWriteCause b n answer → IsWriteCause a n answer
+write-earlier a b n Answer.WriteFault h cause = rose_earlier a b n h cause
+write-earlier a b n Answer.Memory h cause = tt
+write-earlier a b n answer h cause = absurd cause
+
+-- nothing is shown
+pub shown-never : (name : List ℕ) (program : Program) (told : Told) (rb rn wb wn : ℕ) (tape : Tape) (answer : Answer) → IsUnshown program answer → IsShown name program (call told rb rn tape tape wb wn) answer
+shown-never name program told rb rn wb wn tape (Answer.Limit which) is = inl (is.0, is.1, refl)
+shown-never name program told rb rn wb wn tape Answer.Memory is = inl refl
+shown-never name program told rb rn wb wn tape answer is = absurd is

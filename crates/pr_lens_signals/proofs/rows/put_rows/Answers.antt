@@ -1,0 +1,158 @@
+use Rattle.std.proofs.Common.{◌≡◌, ◌++◌, ℕ, List, length, refl, sym, ap, subst, ◌∙◌, arith}
+use Rattle.pr_edge.specs.Files.{Told}
+use Rattle.pr_edge.specs.Tape.{Appends, AppendsFront}
+use Rattle.pr_edge.proofs.Appending.{Appends-append}
+use Rattle.pr_flat.specs.Shape.{EquationShape, shapes_of}
+use Rattle.pr_flat.specs.Values.{input_widths}
+use Rattle.pr_flat.specs.Widths.{AreWidths}
+use Rattle.pr_run.proofs.Lines.{nothing_appended}
+use Rattle.pr_samples.specs.declared.feed.Got.{Got}
+use Rattle.pr_samples.specs.Feed.{name_of, given_of, widths_of, StandsFor, IsSeen, ReadsOn, IsGiven, Gives}
+use Rattle.pr_scope_facts.proofs.Inputs.{inputs-of-equations}
+use Rattle.pr_scope_facts.proofs.InvertedItems.{inputs-scoped}
+use Rattle.pr_source_laws.proofs.Meaning.{rows_mean}
+use Rattle.pr_tool_modes.specs.Programs.{inputs_of}
+use Rattle.pr_tool_modes.proofs.FileLemmas.{cause_earlier}
+use Rattle.pr_tool_modes.proofs.SampleLemmas.{lawful_next, same_later}
+use Rattle.pr_lens_signals.specs.Reading.{front_of}
+use Rattle.pr_lens_signals.specs.Texts.{numbers_line}
+use Rattle.pr_lens_signals.proofs.RowLemmas.{front_more, put_broken, put_ended, put_faulted, put_more, put_nothing, row-rest}
+use Rattle.pr_lens_signals.proofs.rows.put_rows.Goals as goal
+
+pub samples-init : goal.samples-init
+samples-init g c =
+    let showing = c.args.showing.now in
+    let tape = g.K.Sink.told c.args.out.now in
+    record {
+      put = put_nothing (g.S.Shelf.told c.args.shelf.now) (shapes_of showing.probed.flat.equations.items) showing.probed.flat.outputs.items showing.widths (inputs_of showing.probed.scoped.program) (front_of showing) c.args.work.now.feed c.args.work.now.evaluator
+          (Appends tape tape) c.requires.feed (c.requires.evaluator showing.widths) (nothing_appended tape);
+      there = λ missing. c.requires.feed.fresh.bytes;
+      sample = c.requires.sample;
+      row = c.requires.row;
+      file = record { name = refl; widths = refl; limit = refl; most = refl };
+      later = omega arith;
+      same = refl;
+      others = λ q other. refl;
+      out_later = omega arith;
+    }
+
+pub next-requires : goal.next-requires
+next-requires g c =
+    let scoped = c.args.showing.now.probed.scoped in
+    omega (arith, c.samples.invariant.sample, scoped.inputs.ok.0, ap length scoped.declared, ap length (c.samples.invariant.file.widths ∙ c.requires.feed.inputs))
+
+pub next-requires-in-Sample-clause-widths : goal.next-requires-in-Sample-clause-widths
+next-requires-in-Sample-clause-widths g c = subst (λ (es : List EquationShape). AreWidths es c.args.showing.now.widths) (sym c.requires.ready.flat.equations) c.requires.ready.widths
+
+-- the sample is that of some file
+pub next-requires-in-Sample-clause-sample : goal.next-requires-in-Sample-clause-sample
+next-requires-in-Sample-clause-sample g c =
+    let f = c.samples.work.feed in
+    let f' = c.next.new.self in
+    let scoped = c.args.showing.now.probed.scoped in
+    let equations = shapes_of c.args.showing.now.probed.flat.equations.items in
+    let taken = c.samples.invariant.put.taken in
+    let seen = subst (λ (t : Told). (bytes : List ℕ) → IsSeen t bytes f → ReadsOn t bytes f f' (λ file. StandsFor f file → IsGiven f' (given_of f) c.next.new.into file)) c.samples.invariant.same c.in-Sample.ensures.seen in
+    let inputs : widths_of f' ≡ input_widths equations =
+    c.next.ensures.file.widths ∙ (c.samples.invariant.file.widths ∙ (c.requires.feed.inputs
+    ∙ (sym scoped.declared ∙ (inputs-scoped scoped ∙ (sym (inputs-of-equations scoped.program scoped.lawful) ∙ sym (ap input_widths c.requires.ready.flat.equations)))))) in
+    lawful_next (g.S.Shelf.told c.args.shelf.now) (input_widths equations) c.args.work.now.feed f f' taken.samples c.next.new.into taken.reads seen inputs
+
+pub next-requires-in-Sample-clause-stands : goal.next-requires-in-Sample-clause-stands
+next-requires-in-Sample-clause-stands g c = let taken = c.samples.invariant.put.taken in record { samples = taken.samples; stands = taken.stands }
+
+pub samples-preserved : goal.samples-preserved
+samples-preserved g c =
+    let f = c.samples.work.feed in
+    let f' = c.next.new.self in
+    let told = g.S.Shelf.told c.args.shelf.now in
+    let put = c.samples.invariant.put in
+    let flat = c.args.showing.now.probed.flat in
+    let same = same_later c.args.work.now.feed f f' c.samples.invariant.file c.next.ensures.file in
+    let seen = subst (λ (t : Told). (bytes : List ℕ) → IsSeen t bytes f → ReadsOn t bytes f f' (λ file. StandsFor f file → IsGiven f' (given_of f) c.next.new.into file)) c.samples.invariant.same c.in-Sample.ensures.seen in
+    record {
+      put = put_more told (shapes_of flat.equations.items) flat.outputs.items c.args.showing.now.widths (front_of c.args.showing.now) c.args.work.now.feed f f' _ _ c.next.new.into c.next-in-Sample.new.into _
+          (Appends (g.K.Sink.told c.args.out.now) (g.K.Sink.told c.put_row.new.out)) put same c.in-Sample.ensures.given seen
+          (c.next-in-Sample.ensures.stands put.taken.samples put.taken.stands) (c.next-in-Sample.ensures.given put.taken.samples put.taken.stands)
+          (λ text done. subst (λ (r : List ℕ). Appends (g.K.Sink.told c.args.out.now) (g.K.Sink.told c.put_row.new.out) (text ++ numbers_line r)) (row-rest c.next-in-Sample.new.into _ (front_of c.args.showing.now) (omega (arith, c.len.ensures, c.len-2.ensures)))
+          (Appends-append _ _ _ text _ done c.in-Ok.ensures.all));
+      there = λ missing.
+          absurd (let no : Got.Sample ≡ Got.ReadFault = sym c.in-Sample.is ∙ c.next.ensures.missing (rw (← c.samples.invariant.file.name, ← c.samples.invariant.same) at missing) (c.samples.invariant.there missing) in cc);
+      sample = c.next.auto.into ∙ c.samples.invariant.sample;
+      row = c.next-in-Sample.auto.into ∙ c.samples.invariant.row;
+      file = same;
+      later = omega (arith, c.samples.invariant.later, c.next.ensures.later);
+      same = c.next.ensures.same ∙ c.samples.invariant.same;
+      others = λ q other. c.next.ensures.others q (rw c.samples.invariant.file.name other) ∙ c.samples.invariant.others q other;
+      out_later = omega (arith, c.samples.invariant.out_later, c.put_row.ensures.later);
+    }
+
+pub returns-in_default-clause-ended : goal.returns-in_default-clause-ended
+returns-in_default-clause-ended g c = λ no_fault.
+    let f = c.samples.work.feed in
+    let f' = c.next.new.self in
+    let put = c.samples.invariant.put in
+    let showing = c.args.showing.now in
+    let scoped = showing.probed.scoped in
+    let flat = showing.probed.flat in
+    let same = same_later c.args.work.now.feed f f' c.samples.invariant.file c.next.ensures.file in
+    let seen = subst (λ (t : Told). (bytes : List ℕ) → IsSeen t bytes f → ReadsOn t bytes f f' (λ file. StandsFor f file → Gives c.next.result (given_of f) f' c.next.new.into file)) c.samples.invariant.same c.next.ensures.seen in
+    let means = rows_mean scoped.program flat showing.widths put.taken.samples (record {
+      lawful = scoped.lawful;
+      equations = c.requires.ready.flat.equations;
+      outputs = c.requires.ready.flat.outputs;
+      wide = subst (λ (es : List EquationShape). AreWidths es showing.widths) (sym c.requires.ready.flat.equations) c.requires.ready.widths;
+      rows = put.taken.stands.lawful;
+    }) in
+    put_ended (g.S.Shelf.told c.args.shelf.now) scoped.program (shapes_of flat.equations.items) flat.outputs.items showing.widths (front_of showing) c.args.work.now.feed f c.samples.work.evaluator _ put means f' c.next.new.into c.next.result same
+    c.next.ensures.given seen c.in_default.not-Sample no_fault
+
+pub returns-in_default-clause-begun : goal.returns-in_default-clause-begun
+returns-in_default-clause-begun g c = λ fault.
+    let f = c.samples.work.feed in
+    let f' = c.next.new.self in
+    let put = c.samples.invariant.put in
+    let showing = c.args.showing.now in
+    let scoped = showing.probed.scoped in
+    let flat = showing.probed.flat in
+    let seen = subst (λ (t : Told). (bytes : List ℕ) → IsSeen t bytes f → ReadsOn t bytes f f' (λ file. StandsFor f file → Gives c.next.result (given_of f) f' c.next.new.into file)) c.samples.invariant.same c.next.ensures.seen in
+    let means = rows_mean scoped.program flat showing.widths put.taken.samples (record {
+      lawful = scoped.lawful;
+      equations = c.requires.ready.flat.equations;
+      outputs = c.requires.ready.flat.outputs;
+      wide = subst (λ (es : List EquationShape). AreWidths es showing.widths) (sym c.requires.ready.flat.equations) c.requires.ready.widths;
+      rows = put.taken.stands.lawful;
+    }) in
+    put_faulted (g.S.Shelf.told c.args.shelf.now) scoped.program (shapes_of flat.equations.items) flat.outputs.items showing.widths (front_of showing) c.args.work.now.feed f c.samples.work.evaluator _ put means f' _ seen
+
+pub returns-in_default-clause-there : goal.returns-in_default-clause-there
+returns-in_default-clause-there g c = λ no_fault missing. no_fault (c.next.ensures.missing (rw (← c.samples.invariant.file.name, ← c.samples.invariant.same) at missing) (c.samples.invariant.there missing))
+
+pub returns-in_default-clause-read : goal.returns-in_default-clause-read
+returns-in_default-clause-read g c = λ fault.
+    cause_earlier (g.S.Shelf.told c.args.shelf.now) (name_of c.args.work.now.feed) _ _ _ c.samples.invariant.later (rw (c.samples.invariant.file.name, c.samples.invariant.same) at (c.next.ensures.cause fault))
+
+pub returns-in-Err-clause-cut : goal.returns-in-Err-clause-cut
+returns-in-Err-clause-cut g c =
+    let f = c.samples.work.feed in
+    let f' = c.next.new.self in
+    let told = g.S.Shelf.told c.args.shelf.now in
+    let put = c.samples.invariant.put in
+    let showing = c.args.showing.now in
+    let scoped = showing.probed.scoped in
+    let flat = showing.probed.flat in
+    let same = same_later c.args.work.now.feed f f' c.samples.invariant.file c.next.ensures.file in
+    let seen = subst (λ (t : Told). (bytes : List ℕ) → IsSeen t bytes f → ReadsOn t bytes f f' (λ file. StandsFor f file → IsGiven f' (given_of f) c.next.new.into file)) c.samples.invariant.same c.in-Sample.ensures.seen in
+    let broken = put_more told (shapes_of flat.equations.items) flat.outputs.items showing.widths (front_of showing) c.args.work.now.feed f f' _ _ c.next.new.into c.next-in-Sample.new.into _
+    (AppendsFront (g.K.Sink.told c.args.out.now) (g.K.Sink.told c.put_row.new.out)) put same c.in-Sample.ensures.given seen
+    (c.next-in-Sample.ensures.stands put.taken.samples put.taken.stands) (c.next-in-Sample.ensures.given put.taken.samples put.taken.stands)
+    (λ text done. subst (λ (r : List ℕ). AppendsFront (g.K.Sink.told c.args.out.now) (g.K.Sink.told c.put_row.new.out) (text ++ numbers_line r)) (row-rest c.next-in-Sample.new.into _ (front_of showing) (omega (arith, c.len.ensures, c.len-2.ensures)))
+    (front_more _ _ _ text _ done c.in-Err.ensures.front)) in
+    let means = rows_mean scoped.program flat showing.widths broken.taken.samples (record {
+      lawful = scoped.lawful;
+      equations = c.requires.ready.flat.equations;
+      outputs = c.requires.ready.flat.outputs;
+      wide = subst (λ (es : List EquationShape). AreWidths es showing.widths) (sym c.requires.ready.flat.equations) c.requires.ready.widths;
+      rows = broken.taken.stands.lawful;
+    }) in
+    put_broken told scoped.program (shapes_of flat.equations.items) flat.outputs.items showing.widths (front_of showing) c.args.work.now.feed f' _ _ broken means

@@ -1,0 +1,26 @@
+use Rattle.std.proofs.Common.{◌≡◌, ◌≢◌, ◌≤◌, ◌-◌, ℕ, List, length}
+use Rattle.std.specs.Prelude.{vec_len}
+use Rattle.pr_edge.specs.Files.{IsMissing}
+use Rattle.pr_edge.specs.Tape.{Appends}
+use Rattle.pr_flat.specs.Shape.{shapes_of}
+use Rattle.pr_samples.specs.Feed.{name_of, given_of, most_of, reads_nothing, SameFile}
+use Rattle.pr_lens_signals.specs.Reading.{front_of}
+use Rattle.pr_lens_signals.proofs.RowLemmas.{HasPut}
+use Rattle.pr_lens_signals.proofs.rows.put_rows.Given as goal
+
+abbrev pub invariant-samples : goal.invariant-samples
+invariant-samples g l = record {
+  put : HasPut (g.S.Shelf.told l.initial.shelf) (shapes_of l.showing.probed.flat.equations.items) l.showing.probed.flat.outputs.items l.showing.widths (front_of l.showing) l.initial.work.feed l.work.feed l.work.evaluator
+      (Appends (g.K.Sink.told l.initial.out) (g.K.Sink.told l.out));
+  there : IsMissing (g.S.Shelf.told l.initial.shelf) (name_of l.initial.work.feed) → reads_nothing l.work.feed;
+  sample : length l.sample ≡ vec_len l.showing.probed.scoped.inputs;
+  row : length l.row ≡ vec_len l.showing.probed.flat.outputs;
+  file : SameFile l.initial.work.feed l.work.feed;
+  later : g.S.Shelf.faults l.initial.shelf ≤ g.S.Shelf.faults l.shelf;
+  same : g.S.Shelf.told l.shelf ≡ g.S.Shelf.told l.initial.shelf;
+  others : (q : List ℕ) → q ≢ name_of l.initial.work.feed → g.S.Shelf.reach l.shelf q ≡ g.S.Shelf.reach l.initial.shelf q;
+  out_later : g.K.Sink.faults l.initial.out ≤ g.K.Sink.faults l.out;
+}
+
+abbrev pub decreases-samples : goal.decreases-samples
+decreases-samples g l = most_of l.work.feed - given_of l.work.feed

@@ -1,0 +1,29 @@
+use Rattle.std.proofs.Common.{refl, inl, ◌∙◌, sym, subst}
+use Rattle.pr_tool_answers.specs.declared.answers.Answer.{Answer}
+use Rattle.pr_lens_signals.specs.Calls.{call}
+use Rattle.pr_lens_signals.specs.Signals.{IsShown}
+use Rattle.pr_lens_signals.proofs.SignalLemmas.{shown-cut, shown-nameless, shown-read, write-earlier}
+use Rattle.pr_lens_signals.proofs.streams.show.Goals as goal
+
+pub returns-in-Err-clause-shown : goal.returns-in-Err-clause-shown
+returns-in-Err-clause-shown g c = λ program lawful is. inl refl
+
+pub returns-in-Err-put_header-clause-shown : goal.returns-in-Err-put_header-clause-shown
+returns-in-Err-put_header-clause-shown g c = λ program lawful is.
+    shown-nameless program c.args.showing.now lawful is (g.S.Shelf.told c.args.shelf.now) c.args.samples.now c.in-Ok.start.work.feed c.in-Ok.ensures.feed c.in-Ok.ensures.name _ _ _ _ _ _ c.in-Err-put_header.answer
+    (rw c.deref.ensures.value at c.in-Err-put_header.ensures.front) c.in-Err-put_header.ensures.cause
+
+pub returns-in-Ok-put_rows-clause-shown : goal.returns-in-Ok-put_rows-clause-shown
+returns-in-Ok-put_rows-clause-shown g c = λ program lawful is.
+    let told = g.S.Shelf.told c.args.shelf.now in
+    let name = c.in-Ok.ensures.name in
+    let k = call told (g.S.Shelf.faults c.args.shelf.now) (g.S.Shelf.faults c.put_rows.new.shelf) (g.K.Sink.told c.args.out.now) (g.K.Sink.told c.put_rows.new.out) (g.K.Sink.faults c.args.out.now) (g.K.Sink.faults c.put_rows.new.out) in
+    subst (λ (a : Answer). IsShown c.args.samples.now program k a) (sym c.answer_of.ensures)
+    (shown-read program c.args.showing.now lawful is told c.args.samples.now c.in-Ok.start.work.feed c.put_rows.new.work.feed c.in-Ok.ensures.feed (c.put_rows.ensures.file.name ∙ name) _ _ _ _ _ _ (g.K.Sink.told c.put_header.new.out) c.in-Ok-put_rows.end
+    (rw c.deref.ensures.value at c.in-Ok-put_header.ensures.all) c.in-Ok-put_rows.ensures.ended (λ other missing. c.in-Ok-put_rows.ensures.there other (rw (← name) at missing)) (λ fault. rw name at (c.in-Ok-put_rows.ensures.read fault)) c.in-Ok-put_rows.ensures.begun)
+
+pub returns-clause-shown : goal.returns-clause-shown
+returns-clause-shown g c = λ program lawful is.
+    shown-cut program c.args.showing.now lawful is (g.S.Shelf.told c.args.shelf.now) c.args.samples.now c.in-Ok.start.work.feed c.put_rows.new.work.feed c.in-Ok.ensures.feed (c.put_rows.ensures.file.name ∙ c.in-Ok.ensures.name) _ _ _ _ _ _ (g.K.Sink.told c.put_header.new.out)
+    c.in-Err-put_rows.answer (rw c.deref.ensures.value at c.in-Ok-put_header.ensures.all) c.in-Err-put_rows.ensures.cut
+    (write-earlier _ _ _ c.in-Err-put_rows.answer c.put_header.ensures.later c.in-Err-put_rows.ensures.cause)

@@ -1,0 +1,62 @@
+-- Lines that are written while samples are read.
+use Rattle.std.specs.Prelude.{◌≡◌, ◌-◌, ◌^◌, ◌≤◌, ⊤, ℕ, List, [], take, vec_len}
+use Rattle.pr_edge.specs.Count.{Rose}
+use Rattle.pr_edge.specs.Files.{Told}
+use Rattle.pr_lang.specs.declared.trees.Program.{Program}
+use Rattle.pr_lang_meaning.specs.Programs.{out}
+use Rattle.pr_flat.specs.Widths.{AreWidths}
+use Rattle.pr_expand_spec.specs.Programs.{equations_of}
+use Rattle.pr_compile_front.specs.Passed.{HasEquations}
+use Rattle.pr_run.specs.Setting.{IsFresh}
+use Rattle.pr_samples.specs.declared.feed.Feed.{Feed}
+use Rattle.pr_samples.specs.declared.feed.Got.{Got}
+use Rattle.pr_samples.specs.Feed.{widths_of, limit_of, most_of, fed, ReadsOn}
+use Rattle.pr_tool_answers.specs.declared.answers.Answer.{Answer}
+use Rattle.pr_tool_modes.specs.Evaluations.{AreAll}
+use Rattle.pr_lens_probe.specs.Shown.{Shows}
+use Rattle.pr_lens_signals.specs.Texts.{cut_lines}
+use Rattle.pr_lens_signals.specs.declared.probing.Showing.{Showing}
+
+-- a program with the same equations as this one shows its instances behind so many outputs, and these are the widths
+pub record IsShowing (program : Program) (s : Showing) : Type 0 where
+  pub shows : Shows program s.probed
+  pub widths : AreWidths (equations_of program).equations s.widths
+
+-- how many outputs stand before the instances
+abbrev pub front_of : Showing → ℕ
+front_of s = vec_len s.probed.flat.outputs - vec_len s.probed.instances
+
+-- its equations, their widths, and no more instances than outputs
+pub record IsReady (s : Showing) : Type 0 where
+  pub flat : HasEquations s.probed.scoped.program s.probed.flat
+  pub widths : AreWidths (equations_of s.probed.scoped.program).equations s.widths
+  pub front : vec_len s.probed.instances ≤ vec_len s.probed.flat.outputs
+
+-- a feed that was not asked yet, with inputs of these widths, over a file of any length
+pub record IsLongFeed (widths : List ℕ) (feed : Feed) : Type 0 where
+  pub fresh : IsFresh feed
+  pub inputs : widths_of feed ≡ widths
+  pub limit : limit_of feed ≡ 2 ^ 44
+  pub most : most_of feed ≡ 2 ^ 40
+
+-- these are the first samples that such a feed gives of a file
+abbrev pub AreFirst : Feed → List ℕ → List (List ℕ) → Type 0
+AreFirst feed file samples = (k : ℕ) × (samples ≡ take k (fed feed file).samples)
+
+-- a feed was read to its end, and the lines on all samples of each file that begins so are put
+pub record HasEnded (told : Told) (program : Program) (front : ℕ) (first now : Feed) (end : Got) (Put : List ℕ → Type 0) : Type 0 where
+  pub samples : List (List ℕ)
+  pub reads : ReadsOn told [] first now (λ file. AreAll first file samples end)
+  pub text : Put (cut_lines front (out program samples))
+
+-- a feed was read so far, and the lines on these first samples of each file that begins so are put
+pub record HasBegun (told : Told) (program : Program) (front : ℕ) (first now : Feed) (Put : List ℕ → Type 0) : Type 0 where
+  pub samples : List (List ℕ)
+  pub reads : ReadsOn told [] first now (λ file. AreFirst first file samples)
+  pub text : Put (cut_lines front (out program samples))
+
+-- why a line was not written whole
+abbrev pub IsWriteCause : ℕ → ℕ → Answer → Type 0
+IsWriteCause before now Answer.WriteFault = Rose before now
+IsWriteCause before now Answer.Memory = ⊤
+IsWriteCause before now answer = ⊥

@@ -1,0 +1,60 @@
+//! What the streams of a program are on the samples of a file.
+
+ghost use Rattle.std.specs.Prelude.{◌≡◌, ◌≤◌, IfErr, IfOk};
+ghost use Rattle.pr_tool_modes.specs.Programs.{IsLoaded, IsNotLoaded};
+ghost use Rattle.pr_lens_signals.specs.Calls.{call};
+ghost use Rattle.pr_lens_tool.specs.Orders.{asked_in};
+ghost use Rattle.pr_lens_tool.specs.Streams.{TellsStreams};
+
+use crate::orders::Order;
+use crate::outcomes::Outcome;
+use crate::programs::answer_of;
+use pr_base::Cap;
+use pr_compile::CompileFault;
+use pr_compile_front::{Front, read_program};
+use pr_edge::{Shelf, Sink};
+use pr_lens_signals::signals;
+use pr_tool::Answer;
+use pr_tool_modes::read_file;
+use std::alloc::Global;
+
+/// Reads the program of a file, with its equations and their widths.
+fn load<S: Shelf>(alloc: Global, shelf: &mut S, name: &str) -> Result<Front, Answer>
+    ensures loaded { IfOk result (λ f. IsLoaded (S.told shelf.old) name.now f) }
+    ensures refused { IfErr result
+        (IsNotLoaded (S.told shelf.old) name.now (S.faults shelf.old) (S.faults shelf.new)) }
+    ensures later { S.faults shelf.old ≤ S.faults shelf.new }
+    ensures same { S.told shelf.new ≡ S.told shelf.old }
+{
+    let most = Cap::MOST_PROGRAM_BYTES;
+    let text = read_file(alloc, shelf, name, most, Cap::ProgramBytes)?;
+    match read_program(alloc, &text) {
+        Ok(front) => Ok(front),
+        Err(fault) => Err(answer_of(&CompileFault::from(fault))),
+    }
+}
+
+/// Writes what every named stream of the program of a file is at every sample of another, and says what it comes to.
+pub fn of_samples<S: Shelf, K: Sink>(
+    alloc: Global,
+    order: &Order,
+    shelf: &mut S,
+    out: &mut K,
+) -> Outcome
+    ensures told { TellsStreams (asked_in order.now) (call
+        (S.told shelf.old) (S.faults shelf.old) (S.faults shelf.new)
+        (K.told out.old) (K.told out.new) (K.faults out.old) (K.faults out.new)) result }
+    ensures same { S.told shelf.new ≡ S.told shelf.old }
+    ensures later { S.faults shelf.old ≤ S.faults shelf.new }
+    ensures out_later { K.faults out.old ≤ K.faults out.new }
+{
+    let samples = match order.second {
+        Some(samples) => samples,
+        None => return Outcome::Usage,
+    };
+    let front = match load(alloc, shelf, order.file) {
+        Ok(front) => front,
+        Err(answer) => return Outcome::Plain(answer),
+    };
+    Outcome::Streamed(signals(alloc, front, samples, shelf, out))
+}
