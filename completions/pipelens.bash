@@ -13,6 +13,7 @@ _pipelens() {
         --help
         --json
         --narrow
+        --no-warnings
         --samples
     '
     # (a word is cut at `=`)

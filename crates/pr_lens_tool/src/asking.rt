@@ -76,7 +76,8 @@ fn command<'a>(alloc: Global) -> Result<Command<'a>, AllocError>
     let fabric = file.arg(option_or(alloc, "fabric", FABRIC))?;
     let narrow = fabric.arg(flag(alloc, "narrow"))?;
     let samples = narrow.arg(option_or(alloc, "samples", SAMPLES))?;
-    samples.arg(flag(alloc, "json"))
+    let json = samples.arg(flag(alloc, "json"))?;
+    json.arg(flag(alloc, "no-warnings"))
 }
 
 /// Whether the value of an option without one is `true`.
@@ -104,6 +105,7 @@ fn found<'a>(matches: &ArgMatches<'a>) -> Option<Order<'a>>
         narrowed: is_true(matches.get_str("narrow")),
         samples,
         json: is_true(matches.get_str("json")),
+        warnings: !is_true(matches.get_str("no-warnings")),
     })
 }
 

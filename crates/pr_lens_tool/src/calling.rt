@@ -25,9 +25,9 @@ use std::alloc::Global;
 const HELP: &[u8] = b"\
 pipelens looks at programs and runs of piperench
 
-usage: pipelens TASK FILE [--fabric F] [--narrow] [--samples N] [--json]
+usage: pipelens TASK FILE [--fabric F] [--narrow] [--samples N] [--json] [--no-warnings]
 
-  why PROGRAM    where and why a program is refused, and what to do
+  why PROGRAM    where and why a program is refused, or what to look at again
   cost PROGRAM   equations, units and stages, and cycles by stripes
   graph PROGRAM  the units by stage with their wires, for Graphviz
   wave LOG       the log of `piperench trace` as a waveform (VCD)
@@ -37,6 +37,7 @@ usage: pipelens TASK FILE [--fabric F] [--narrow] [--samples N] [--json]
   --narrow       leaves out what no output shows
   --samples N    how long the run is whose cycles `cost` tells; 1000 without it
   --json         `why` tells each finding as a line of JSON
+  --no-warnings  `why` points out nothing in a program that is accepted
 ";
 
 /// What is asked of the program of a file; else the answer to it.

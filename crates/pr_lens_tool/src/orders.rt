@@ -49,6 +49,8 @@ pub struct Order<'a> {
     pub samples: u32,
     /// Whether findings are told as JSON.
     pub json: bool,
+    /// Whether something is pointed out in programs that are accepted.
+    pub warnings: bool,
 }
 
 /// The task of this name.
