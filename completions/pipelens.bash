@@ -15,6 +15,7 @@ _pipelens() {
         --help
         --json
         --narrow
+        --no-warnings
         --samples
     '
     # (a word is cut at `=`)

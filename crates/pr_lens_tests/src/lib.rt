@@ -1,5 +1,5 @@
-//! Calls of the companion: refused programs with their explanations, costs, logs and answers, all counted and chosen by
-//! hand. There are tests alone in this crate.
+//! Calls of the companion: refused programs with their explanations, warnings, costs, logs and answers, all counted and
+//! chosen by hand. There are tests alone in this crate.
 #![tactic(auto)]
 
 #[cfg(test)]
@@ -22,5 +22,7 @@ mod shown;
 mod streams;
 #[cfg(test)]
 mod syntax;
+#[cfg(test)]
+mod warnings;
 #[cfg(test)]
 mod widths;

@@ -1,5 +1,6 @@
 pub mod Tasks
 pub mod Orders
+pub mod Accepted
 pub mod Outcomes
 pub mod Programs
 pub mod Replies

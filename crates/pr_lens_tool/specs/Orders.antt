@@ -1,5 +1,5 @@
 -- What the words of a command line ask for.
-use Rattle.std.specs.Prelude.{◌&&◌, ℕ, Bool, List, [], ◌∷◌, Option, Some, None, codes, is_none, is_some, map, string_bytes, true, false, String, option_map, option_and_then, if◌then◌else◌}
+use Rattle.std.specs.Prelude.{◌&&◌, ℕ, Bool, not, List, [], ◌∷◌, Option, Some, None, codes, is_none, is_some, map, string_bytes, true, false, String, option_map, option_and_then, if◌then◌else◌}
 use Rattle.std.specs.declared.alloc.Global.{Global}
 use Rattle.clap.specs.Words.{App, first_of, first_value, matches_of, new_app, with_rule}
 use Rattle.clap.specs.Faults.{fault_of}
@@ -13,11 +13,11 @@ use Rattle.pr_lens_tool.specs.declared.orders.Task.{Task}
 use Rattle.pr_lens_tool.specs.declared.orders.Order.{Order}
 use Rattle.pr_lens_tool.specs.Tasks.{task_named}
 
--- pipelens TASK FILE [SECOND] [--fabric F] [--narrow] [--samples N] [--json] [--csv]
+-- pipelens TASK FILE [SECOND] [--fabric F] [--narrow] [--samples N] [--json] [--csv] [--no-warnings]
 unfoldable pub app : App
 app =
-    with_rule (with_rule (with_rule (with_rule (with_rule (with_rule (with_rule (with_rule (new_app (codes "pipelens")) (place (codes "task") true)) (place (codes "file") true))
-    (place (codes "second") false)) (option_or (codes "fabric") (codes "base"))) (flag (codes "narrow"))) (option_or (codes "samples") (codes "1000"))) (flag (codes "json"))) (flag (codes "csv"))
+    with_rule (with_rule (with_rule (with_rule (with_rule (with_rule (with_rule (with_rule (with_rule (new_app (codes "pipelens")) (place (codes "task") true)) (place (codes "file") true))
+    (place (codes "second") false)) (option_or (codes "fabric") (codes "base"))) (flag (codes "narrow"))) (option_or (codes "samples") (codes "1000"))) (flag (codes "json"))) (flag (codes "csv"))) (flag (codes "no-warnings"))
 
 pub record Asked : Type 0 where
   pub task : Task
@@ -28,6 +28,7 @@ pub record Asked : Type 0 where
   pub samples : ℕ
   pub json : Bool
   pub csv : Bool
+  pub warnings : Bool
 
 abbrev pub asked_in : Order → Asked
 asked_in order = record {
@@ -39,6 +40,7 @@ asked_in order = record {
   samples = order.samples;
   json = order.json;
   csv = order.csv;
+  warnings = order.warnings;
 }
 
 -- streams are told of two files, as lines of numbers; all else of one file
@@ -50,8 +52,8 @@ abbrev pub fit : Asked → Option Asked
 fit asked = if is_fit asked.task asked.second asked.csv then Some asked else None
 
 -- by the values of the options and the places, where all are lawful
-abbrev pub asked_from : (task file second fabric narrow samples json csv : Option Text) → Option Asked
-asked_from task file second fabric narrow samples json csv =
+abbrev pub asked_from : (task file second fabric narrow samples json csv no_warnings : Option Text) → Option Asked
+asked_from task file second fabric narrow samples json csv no_warnings =
     option_and_then fit (option_and_then (λ t. option_and_then (λ f. option_and_then (λ b. option_map (λ n. record {
       task = t;
       file = f;
@@ -61,17 +63,18 @@ asked_from task file second fabric narrow samples json csv =
       samples = n;
       json = is_true json;
       csv = is_true csv;
+      warnings = not (is_true no_warnings);
     }) (option_and_then (number_in 0 4294967295) samples)) (option_and_then fabric_named fabric)) file) (option_and_then task_named task))
 
 abbrev pub asked_of : Found → Option Asked
 asked_of f = asked_from
     (first_value f (codes "task")) (first_value f (codes "file")) (first_value f (codes "second")) (first_value f (codes "fabric")) (first_value f (codes "narrow"))
-    (first_value f (codes "samples")) (first_value f (codes "json")) (first_value f (codes "csv"))
+    (first_value f (codes "samples")) (first_value f (codes "json")) (first_value f (codes "csv")) (first_value f (codes "no-warnings"))
 
 abbrev pub asked_rows : List Row → Option Asked
 asked_rows rows = asked_from
     (first_of (codes "task") rows) (first_of (codes "file") rows) (first_of (codes "second") rows) (first_of (codes "fabric") rows) (first_of (codes "narrow") rows)
-    (first_of (codes "samples") rows) (first_of (codes "json") rows) (first_of (codes "csv") rows)
+    (first_of (codes "samples") rows) (first_of (codes "json") rows) (first_of (codes "csv") rows) (first_of (codes "no-warnings") rows)
 
 -- unless the command line has a fault with the words
 abbrev pub asked_without : Kinds → Option Asked → Option Asked

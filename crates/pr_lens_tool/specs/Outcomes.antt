@@ -28,7 +28,7 @@ abbrev pub line_by : Reply → Outcome → List ℕ
 line_by reply (Plain answer) = note_of reply.bounds answer
 line_by reply (Explained answer) = []
 line_by reply (Streamed answer) = note_of reply.bounds answer
-line_by reply Usage = codes "usage: pipelens TASK FILE [SAMPLES] [--fabric F] [--narrow] [--samples N] [--json] [--csv]; pipelens --help says more\n"
+line_by reply Usage = codes "usage: pipelens TASK FILE [SAMPLES] [--fabric F] [--narrow] [--samples N] [--json] [--csv] [--no-warnings]; pipelens --help says more\n"
 line_by reply (BadLog line) = bad_log_line line
 line_by reply NoCycle = codes "bad log: no cycle\n"
 line_by reply LongLog = codes "limit: log-bytes 16777216\n"
@@ -48,8 +48,8 @@ line_of reply = line_or (own_line reply) reply.line
 -- the help
 unfoldable pub help_text : List ℕ
 help_text =
-    codes "pipelens looks at programs and runs of piperench\n\nusage: pipelens TASK FILE [SAMPLES] [--fabric F] [--narrow] [--samples N] [--json] [--csv]\n\n"
-    ++ codes "  why PROGRAM    where and why a program is refused, and what to do\n"
+    codes "pipelens looks at programs and runs of piperench\n\nusage: pipelens TASK FILE [SAMPLES] [--fabric F] [--narrow] [--samples N] [--json] [--csv] [--no-warnings]\n\n"
+    ++ codes "  why PROGRAM    where and why a program is refused, or what to look at again\n"
     ++ codes "  cost PROGRAM   equations, units and stages, and cycles by stripes\n"
     ++ codes "  graph PROGRAM  the units by stage with their wires, for Graphviz\n"
     ++ codes "  wave LOG       the log of `piperench trace` as a waveform (VCD)\n"
@@ -60,6 +60,7 @@ help_text =
     ++ codes "  --narrow       leaves out what no output shows\n"
     ++ codes "  --samples N    how long the run is whose cycles `cost` tells; 1000 without it\n"
     ++ codes "  --json         `why` tells each finding as a line of JSON\n"
+    ++ codes "  --no-warnings  `why` points out nothing in a program that is accepted\n"
 
 -- a text was written whole, and this is the outcome; or a write failed
 pub record IsWhole (old new : Tape) (text : List ℕ) (outcome result : Outcome) : Type 0 where

@@ -1,5 +1,5 @@
 -- What is told of programs, and what is written of them.
-use Rattle.std.specs.Prelude.{◌≡◌, ◌≤◌, ℕ, Bool, not, List, [], codes, if◌then◌else◌, length, Option, Some, None}
+use Rattle.std.specs.Prelude.{◌≡◌, ◌≤◌, ℕ, Bool, not, List, [], length, Option, Some, None}
 use Rattle.pr_base.specs.declared.caps.Cap.{Cap}
 use Rattle.pr_base.specs.declared.fabrics.Fabric.{Fabric}
 use Rattle.pr_base.specs.Fabrics.{columns, registers}
@@ -30,6 +30,7 @@ use Rattle.pr_lens_tool.specs.declared.orders.Question.{Question}
 use Rattle.pr_lens_tool.specs.declared.orders.Question.TheVariants.{Why, Cost, Graph}
 use Rattle.pr_lens_tool.specs.declared.outcomes.Outcome.{Outcome}
 use Rattle.pr_lens_tool.specs.declared.outcomes.Outcome.TheVariants.{Plain, Explained}
+use Rattle.pr_lens_tool.specs.Accepted.{TellsAccepted}
 use Rattle.pr_lens_tool.specs.Orders.{Asked}
 
 -- the limits for programs on a fabric
@@ -59,14 +60,10 @@ pub record IsWhy (N P : ℕ) (order : Asked) (text : List ℕ) (answer : Answer)
   pub answers : answer ≡ compile_answer explanation.fault
   pub told : IsExplanation order text explanation answer written
 
--- nothing as JSON
-abbrev pub accepted_text : Bool → List ℕ
-accepted_text json = if json then [] else codes "accepted\n"
-
--- a text has a configuration, and that is written
+-- a text has a configuration, and that is written, with its warnings
 pub record IsAccepted (N P : ℕ) (order : Asked) (text written : List ℕ) : Type 0 where
   pub has : HasConfiguration N P order.narrowed text
-  pub told : written ≡ accepted_text order.json
+  pub told : TellsAccepted order text written
 
 abbrev pub IsSaid : ℕ → ℕ → Asked → List ℕ → Outcome → List ℕ → Type 0
 IsSaid N P order text (Explained answer) written = IsWhy N P order text answer written

@@ -78,7 +78,8 @@ fn command<'a>(alloc: Global) -> Result<Command<'a>, AllocError>
     let narrow = fabric.arg(flag(alloc, "narrow"))?;
     let samples = narrow.arg(option_or(alloc, "samples", SAMPLES))?;
     let json = samples.arg(flag(alloc, "json"))?;
-    json.arg(flag(alloc, "csv"))
+    let csv = json.arg(flag(alloc, "csv"))?;
+    csv.arg(flag(alloc, "no-warnings"))
 }
 
 /// Whether the value of an option without one is `true`.
@@ -129,6 +130,7 @@ fn found<'a>(matches: &ArgMatches<'a>) -> Option<Order<'a>>
         samples,
         json: is_true(matches.get_str("json")),
         csv: is_true(matches.get_str("csv")),
+        warnings: !is_true(matches.get_str("no-warnings")),
     })
 }
 

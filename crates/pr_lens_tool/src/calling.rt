@@ -28,9 +28,9 @@ use std::alloc::Global;
 const HELP: &[u8] = b"\
 pipelens looks at programs and runs of piperench
 
-usage: pipelens TASK FILE [SAMPLES] [--fabric F] [--narrow] [--samples N] [--json] [--csv]
+usage: pipelens TASK FILE [SAMPLES] [--fabric F] [--narrow] [--samples N] [--json] [--csv] [--no-warnings]
 
-  why PROGRAM    where and why a program is refused, and what to do
+  why PROGRAM    where and why a program is refused, or what to look at again
   cost PROGRAM   equations, units and stages, and cycles by stripes
   graph PROGRAM  the units by stage with their wires, for Graphviz
   wave LOG       the log of `piperench trace` as a waveform (VCD)
@@ -42,6 +42,7 @@ usage: pipelens TASK FILE [SAMPLES] [--fabric F] [--narrow] [--samples N] [--jso
   --narrow       leaves out what no output shows
   --samples N    how long the run is whose cycles `cost` tells; 1000 without it
   --json         `why` tells each finding as a line of JSON
+  --no-warnings  `why` points out nothing in a program that is accepted
 ";
 
 /// What is asked of the program of a file; else the answer to it.

@@ -1,6 +1,7 @@
 //! The companion, over files and sinks: words in, texts for people out.
 #![tactic(auto)]
 
+mod accepted;
 mod asking;
 mod calling;
 mod logs;

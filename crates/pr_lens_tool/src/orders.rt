@@ -55,6 +55,8 @@ pub struct Order<'a> {
     pub json: bool,
     /// Whether streams are told as lines of numbers.
     pub csv: bool,
+    /// Whether something is pointed out in programs that are accepted.
+    pub warnings: bool,
 }
 
 /// The task of this name.

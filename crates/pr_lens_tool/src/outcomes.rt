@@ -48,7 +48,7 @@ pub struct Reply {
 
 /// The line for words that are no lawful command line.
 const USAGE: &str =
-    "usage: pipelens TASK FILE [SAMPLES] [--fabric F] [--narrow] [--samples N] [--json] [--csv]; pipelens --help says more\n";
+    "usage: pipelens TASK FILE [SAMPLES] [--fabric F] [--narrow] [--samples N] [--json] [--csv] [--no-warnings]; pipelens --help says more\n";
 
 /// The line for a log without a cycle.
 const NO_CYCLE: &str = "bad log: no cycle\n";

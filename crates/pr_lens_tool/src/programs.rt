@@ -6,8 +6,9 @@ ghost use Rattle.pr_tool_modes.specs.Programs.{compile_answer, IsUncompiled};
 ghost use Rattle.pr_lens_why.specs.Verdicts.{IsPointing};
 ghost use Rattle.pr_lens_tool.specs.declared.orders.Question.TheVariants.{Why, Cost as AskCost, Graph};
 ghost use Rattle.pr_lens_tool.specs.Orders.{asked_in};
-ghost use Rattle.pr_lens_tool.specs.Programs.{AreSavings, IsExplanation, IsTold, accepted_text, bounds_for};
+ghost use Rattle.pr_lens_tool.specs.Programs.{AreSavings, IsExplanation, IsTold, bounds_for};
 
+use crate::accepted::accepted;
 use crate::orders::{Order, Question};
 use crate::outcomes::{Outcome, Output};
 use pr_base::Fabric;
@@ -72,13 +73,6 @@ fn explained(
     Ok(told)
 }
 
-/// That a program is accepted; nothing as JSON.
-fn accepted_text(json: bool) -> &'static [u8]
-    ensures { result.now ≡ accepted_text json }
-{
-    if json { b"" } else { b"accepted\n" }
-}
-
 /// Why a program is refused, or that it is accepted.
 fn why<const N: usize, const P: usize>(
     alloc: Global,
@@ -95,7 +89,7 @@ fn why<const N: usize, const P: usize>(
 {
     match explain::<N, P>(alloc, text, order.narrowed)? {
         Verdict::Accepted => Ok(Output {
-            text: Vec::from_slice(alloc, accepted_text(order.json))?,
+            text: accepted(alloc, order, text)?,
             outcome: Outcome::Plain(Answer::Ok),
         }),
         Verdict::Refused(explanation) => {

@@ -1,0 +1,4 @@
+mod NeedLemmas
+mod WarningLemmas
+mod FindingLemmas
+mod TextLemmas

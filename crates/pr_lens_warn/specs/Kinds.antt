@@ -1,0 +1,62 @@
+-- Kinds of tokens.
+use Rattle.std.specs.Prelude.{Bool, true, false}
+use Rattle.pr_lang.specs.declared.tokens.Keyword.TheVariants as keyword
+use Rattle.pr_lang.specs.declared.tokens.Kind.{Kind}
+use Rattle.pr_lang.specs.declared.tokens.Kind.TheVariants.{Word, Mark}
+use Rattle.pr_lang.specs.declared.tokens.Symbol.{Symbol}
+use Rattle.pr_lang.specs.declared.tokens.Symbol.TheVariants as symbol
+
+abbrev pub is_const : Kind → Bool
+is_const (Word keyword.Const) = true
+is_const _ = false
+
+-- the name behind this word is assigned, or read from a sample
+abbrev pub assigns : Kind → Bool
+assigns (Word keyword.Input) = true
+assigns (Word keyword.Let) = true
+assigns (Word keyword.Rec) = true
+assigns _ = false
+
+-- what is behind this word is a result: of the program, or of a function
+abbrev pub yields : Kind → Bool
+yields (Word keyword.Output) = true
+yields (Word keyword.Return) = true
+yields _ = false
+
+abbrev pub is_close_round : Kind → Bool
+is_close_round (Mark symbol.CloseRound) = true
+is_close_round _ = false
+
+abbrev pub is_minus : Kind → Bool
+is_minus (Mark symbol.Minus) = true
+is_minus _ = false
+
+-- an expression can begin behind this symbol, and a difference that does so has no operand before
+abbrev pub begins_behind : Symbol → Bool
+begins_behind symbol.Assign = true
+begins_behind symbol.OpenRound = true
+begins_behind symbol.Comma = true
+begins_behind symbol.Ask = true
+begins_behind symbol.Colon = true
+begins_behind symbol.Amp = true
+begins_behind symbol.Bar = true
+begins_behind symbol.Caret = true
+begins_behind symbol.Equal = true
+begins_behind symbol.NotEqual = true
+begins_behind symbol.Less = true
+begins_behind symbol.LessEqual = true
+begins_behind symbol.Greater = true
+begins_behind symbol.GreaterEqual = true
+begins_behind _ = false
+
+abbrev pub begins_sum : Kind → Bool
+begins_sum (Word keyword.By) = true
+begins_sum (Word keyword.Return) = true
+begins_sum (Mark sign) = begins_behind sign
+begins_sum _ = false
+
+-- what stands before this token is an operand of it, before one of a difference
+abbrev pub binds_closer : Kind → Bool
+binds_closer (Mark symbol.Star) = true
+binds_closer (Mark symbol.OpenCurly) = true
+binds_closer _ = false

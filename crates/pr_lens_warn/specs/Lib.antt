@@ -1,0 +1,6 @@
+pub mod Kinds
+pub mod Constants
+pub mod Needs
+pub mod Warnings
+pub mod Texts
+pub mod Findings

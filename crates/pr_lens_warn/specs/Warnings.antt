@@ -1,0 +1,40 @@
+-- What is pointed out in a program, token by token.
+use Rattle.std.specs.Prelude.{ℕ, ◌≡◌, ◌+◌, ◌-◌, ◌&&◌, Bool, not, List, Option, None, Some, length, option_map, filter_map, if◌then◌else◌}
+use Rattle.std.specs.List.{range_with_len}
+use Rattle.pr_lang.specs.declared.tokens.Token.{Token}
+use Rattle.pr_lens_source.specs.declared.sources.Span.{Span}
+use Rattle.pr_lens_warn.specs.declared.remarks.Remark.{Remark}
+use Rattle.pr_lens_warn.specs.declared.remarks.Remark.TheVariants.{Unneeded}
+use Rattle.pr_lens_warn.specs.declared.remarks.Warning.{Warning}
+use Rattle.pr_lens_warn.specs.Constants.{constant_at, is_difference, is_signed_token, negative_of, wrapping_of}
+use Rattle.pr_lens_warn.specs.Needs.{AreNeeded, is_assigned, is_marked}
+
+-- a remark on the tokens from one up to another, this one included
+abbrev pub warning : ℕ → ℕ → Remark → Warning
+warning first last remark = record { remark = remark; first = first; last = last }
+
+-- on `signed` of a token
+abbrev pub signed_warning : List ℕ → List Token → List Span → ℕ → Option Warning
+signed_warning text tokens spans at = option_map (warning at (at + 3)) (negative_of (constant_at text tokens spans (at + 2)))
+
+-- on a difference, by its minus
+abbrev pub difference_warning : List ℕ → List Token → List Span → ℕ → Option Warning
+difference_warning text tokens spans at =
+    option_map (warning (at - 1) (at + 1)) (wrapping_of (constant_at text tokens spans (at - 1)) (constant_at text tokens spans (at + 1)))
+
+-- on a name that is assigned
+abbrev pub name_warning : List Token → List Bool → ℕ → Option Warning
+name_warning tokens needed at = if is_assigned tokens at && not (is_marked needed at) then Some (warning at at Unneeded) else None
+
+-- where these are the marks of needed statements
+unfoldable pub warning_at : List ℕ → List Token → List Span → List Bool → ℕ → Option Warning
+warning_at text tokens spans needed at =
+    if is_signed_token text tokens at then signed_warning text tokens spans at
+    else if is_difference tokens at then difference_warning text tokens spans at
+    else name_warning tokens needed at
+
+-- in the order of the text
+pub record AreWarnings (text : List ℕ) (tokens : List Token) (spans : List Span) (warnings : List Warning) : Type 0 where
+  pub needed : List Bool
+  pub are_needed : AreNeeded text tokens spans needed
+  pub is : warnings ≡ filter_map (warning_at text tokens spans needed) (range_with_len 0 (length tokens))

@@ -1,0 +1,162 @@
+//! Constants that are one number.
+
+ghost use Rattle.std.specs.Prelude.{◌≡◌, ◌+◌, ◌-◌, ◌^◌, ◌<◌, ◌≤◌, length};
+ghost use Rattle.pr_flat.specs.Forms.{number_width};
+ghost use Rattle.pr_lens_rules.specs.Uses.{is_signed};
+ghost use Rattle.pr_lens_source.specs.Introduced.{introduced_before};
+ghost use Rattle.pr_lens_warn.specs.Constants.{constant_at, constant_by, constant_named, is_difference, is_signed_token, negative, negative_of, sole_number, wrapping, wrapping_of};
+
+use crate::kinds::{
+    begins_sum, binds_closer, is_close_round, is_const, is_minus, is_open_round, is_semi,
+};
+use crate::remarks::Remark;
+use pr_base::bits_of;
+use pr_lang::Kind;
+use pr_lens_source::{Source, introduced_before};
+
+/// A number that a semicolon follows.
+fn sole_number(kind: Kind, behind: Kind) -> Option<u64>
+    ensures { result ≡ sole_number kind behind }
+{
+    match kind {
+        Kind::Number(number) => { if is_semi(behind) { Some(number) } else { None } }
+        _ => None,
+    }
+}
+
+/// The number that a name is, where it is introduced at this token as a constant that is one number.
+#[tactic(auto, unfolding(crate::specs::Constants::constant_named))]
+fn constant_named(source: &Source, name: usize) -> Option<u64>
+    requires { name < length source.now.tokens.now + 2 }
+    ensures { result ≡ constant_named source.now.tokens.now name }
+{
+    if is_const(source.kind(name.saturating_sub(1))) {
+        sole_number(source.kind(name + 2), source.kind(name + 3))
+    } else {
+        None
+    }
+}
+
+/// The number that the constant of a name is.
+fn constant_of_name(source: &Source, at: usize) -> Option<u64>
+    requires { at ≤ length source.now.tokens.now + 2 }
+    ensures { result ≡ constant_by source.now.tokens.now
+        (introduced_before source.now.text.now source.now.tokens.now source.now.spans.now at) }
+{
+    match introduced_before(source, at) {
+        None => None,
+        Some(name) => constant_named(source, name),
+    }
+}
+
+/// The number that a token is, or the constant of its name.
+#[tactic(auto, unfolding(crate::specs::Constants::constant_at))]
+pub fn constant_at(source: &Source, at: usize) -> Option<u64>
+    requires { at ≤ length source.now.tokens.now + 2 }
+    ensures { result
+        ≡ constant_at source.now.text.now source.now.tokens.now source.now.spans.now at }
+{
+    match source.kind(at) {
+        Kind::Number(number) => Some(number),
+        Kind::Name => constant_of_name(source, at),
+        _ => None,
+    }
+}
+
+/// The least number of bits that hold a number.
+fn width_of(value: u64) -> u8
+    ensures width { result ≡ number_width value }
+    ensures most { result ≤ 64 }
+    ensures holds { value < 2 ^ result }
+{
+    bits_of(u128::from(value)).get()
+}
+
+/// How far a number is below a power of two.
+fn below_power(width: u8, number: u64) -> u64
+    requires most { width ≤ 64 }
+    requires some { 0 < number }
+    requires holds { number < 2 ^ width }
+    ensures { result ≡ 2 ^ width - number }
+{
+    let whole: u128 = 1 << width;
+    (whole - u128::from(number)) as u64
+}
+
+/// Whether `signed` of one token begins here.
+#[tactic(auto, unfolding(crate::specs::Constants::is_signed_token))]
+pub fn is_signed_token(source: &Source, at: usize) -> bool
+    requires { at < length source.now.tokens.now }
+    ensures { result ≡ is_signed_token source.now.text.now source.now.tokens.now at }
+{
+    source.bytes(at) == b"signed".as_slice()
+        && is_open_round(source.kind(at + 1))
+        && is_close_round(source.kind(at + 3))
+}
+
+/// That a number is negative in its own width.
+#[tactic(auto, unfolding(crate::specs::Constants::negative))]
+fn negative(value: u64) -> Option<Remark>
+    ensures { result ≡ negative value }
+{
+    if value == 0 {
+        return None;
+    }
+    let width = width_of(value);
+    Some(Remark::Negative {
+        value,
+        width,
+        below: below_power(width, value),
+    })
+}
+
+/// That a constant is negative in its own width.
+pub fn negative_of(value: Option<u64>) -> Option<Remark>
+    ensures { result ≡ negative_of value }
+{
+    match value {
+        None => None,
+        Some(value) => negative(value),
+    }
+}
+
+/// Whether this token is the minus of a whole difference of two tokens.
+#[tactic(auto, unfolding(crate::specs::Constants::is_difference))]
+pub fn is_difference(source: &Source, at: usize) -> bool
+    requires { at < length source.now.tokens.now }
+    ensures { result ≡ is_difference source.now.tokens.now at }
+{
+    is_minus(source.kind(at))
+        && begins_sum(source.kind(at.saturating_sub(2)))
+        && !binds_closer(source.kind(at + 2))
+}
+
+/// That the difference of two numbers wraps around.
+#[tactic(auto, unfolding(crate::specs::Constants::wrapping))]
+fn wrapping(one: u64, other: u64) -> Option<Remark>
+    ensures { result ≡ wrapping one other }
+{
+    if one >= other {
+        return None;
+    }
+    let width = width_of(other);
+    let by = other - one;
+    Some(Remark::Wrapping {
+        by,
+        width,
+        left: below_power(width, by),
+    })
+}
+
+/// That the difference of two constants wraps around.
+pub fn wrapping_of(one: Option<u64>, other: Option<u64>) -> Option<Remark>
+    ensures { result ≡ wrapping_of one other }
+{
+    match one {
+        None => None,
+        Some(one) => match other {
+            None => None,
+            Some(other) => wrapping(one, other),
+        },
+    }
+}

@@ -1,0 +1,115 @@
+//! Kinds of tokens.
+
+ghost use Rattle.std.specs.Prelude.{◌≡◌};
+ghost use Rattle.pr_lens_source.specs.Introduced.{is_fn, is_name, is_open_round};
+ghost use Rattle.pr_lens_source.specs.Items.{is_semi};
+ghost use Rattle.pr_lens_warn.specs.Kinds.{assigns, begins_behind, begins_sum, binds_closer, is_close_round, is_const, is_minus, yields};
+
+use pr_lang::{Keyword, Kind, Symbol};
+
+pub fn is_name(kind: Kind) -> bool
+    ensures { result ≡ is_name kind }
+{
+    matches!(kind, Kind::Name)
+}
+
+/// Whether a function begins with this token.
+pub fn is_fn(kind: Kind) -> bool
+    ensures { result ≡ is_fn kind }
+{
+    matches!(kind, Kind::Word(Keyword::Fn))
+}
+
+pub fn is_const(kind: Kind) -> bool
+    ensures { result ≡ is_const kind }
+{
+    matches!(kind, Kind::Word(Keyword::Const))
+}
+
+pub fn is_semi(kind: Kind) -> bool
+    ensures { result ≡ is_semi kind }
+{
+    matches!(kind, Kind::Mark(Symbol::Semi))
+}
+
+pub fn is_minus(kind: Kind) -> bool
+    ensures { result ≡ is_minus kind }
+{
+    matches!(kind, Kind::Mark(Symbol::Minus))
+}
+
+pub fn is_open_round(kind: Kind) -> bool
+    ensures { result ≡ is_open_round kind }
+{
+    matches!(kind, Kind::Mark(Symbol::OpenRound))
+}
+
+pub fn is_close_round(kind: Kind) -> bool
+    ensures { result ≡ is_close_round kind }
+{
+    matches!(kind, Kind::Mark(Symbol::CloseRound))
+}
+
+/// Whether the name behind this word is assigned, or read from a sample.
+pub fn assigns(kind: Kind) -> bool
+    ensures { result ≡ assigns kind }
+{
+    match kind {
+        Kind::Word(keyword) => match keyword {
+            Keyword::Input | Keyword::Let | Keyword::Rec => true,
+            _ => false,
+        },
+        _ => false,
+    }
+}
+
+/// Whether a result stands behind this word.
+pub fn yields(kind: Kind) -> bool
+    ensures { result ≡ yields kind }
+{
+    match kind {
+        Kind::Word(keyword) => match keyword {
+            Keyword::Output | Keyword::Return => true,
+            _ => false,
+        },
+        _ => false,
+    }
+}
+
+/// Whether an expression can begin behind a symbol whose operand is no sum before it.
+fn begins_behind(symbol: Symbol) -> bool
+    ensures { result ≡ begins_behind symbol }
+{
+    match symbol {
+        Symbol::Assign | Symbol::OpenRound | Symbol::Comma => true,
+        Symbol::Ask | Symbol::Colon => true,
+        Symbol::Amp | Symbol::Bar | Symbol::Caret => true,
+        Symbol::Equal | Symbol::NotEqual => true,
+        Symbol::Less | Symbol::LessEqual | Symbol::Greater | Symbol::GreaterEqual => true,
+        _ => false,
+    }
+}
+
+/// Whether a sum begins behind this token.
+pub fn begins_sum(kind: Kind) -> bool
+    ensures { result ≡ begins_sum kind }
+{
+    match kind {
+        Kind::Word(keyword) => match keyword {
+            Keyword::By | Keyword::Return => true,
+            _ => false,
+        },
+        Kind::Mark(symbol) => begins_behind(symbol),
+        _ => false,
+    }
+}
+
+/// Whether what stands before this token is an operand of it, before one of a difference.
+pub fn binds_closer(kind: Kind) -> bool
+    ensures { result ≡ binds_closer kind }
+{
+    matches!(
+        kind,
+        Kind::Mark(Symbol::Star) | Kind::Mark(Symbol::OpenCurly)
+    )
+}

@@ -1,0 +1,16 @@
+//! What a careful reader points out in a program that is accepted all the same.
+//!
+//! What is pointed out is decided on the tokens of the text and its names.
+#![tactic(auto)]
+
+mod constants;
+mod findings;
+mod kinds;
+mod needs;
+mod remarks;
+mod telling;
+mod warnings;
+
+pub use findings::put_warnings;
+pub use remarks::{Remark, Warning};
+pub use warnings::warnings_of;

@@ -1,0 +1,33 @@
+//! Remarks on a program.
+
+/// What is pointed out.
+#[derive(Clone, Copy, PartialEq, Eq, Debug)]
+pub enum Remark {
+    /// `signed` of a constant is negative.
+    Negative {
+        value: u64,
+        width: u8,
+        /// How far it is below 0.
+        below: u64,
+    },
+    /// From a constant a greater one is taken.
+    Wrapping {
+        /// By how much it is greater.
+        by: u64,
+        width: u8,
+        /// What the difference is.
+        left: u64,
+    },
+    /// No result needs a name.
+    Unneeded,
+}
+
+/// A remark on a few tokens.
+#[derive(Clone, Copy, PartialEq, Eq, Debug)]
+pub struct Warning {
+    pub remark: Remark,
+    /// The first token to look at.
+    pub first: usize,
+    /// The last one.
+    pub last: usize,
+}

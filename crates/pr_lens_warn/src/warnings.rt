@@ -1,0 +1,97 @@
+//! What is pointed out in a program.
+
+ghost use Rattle.std.specs.Prelude.{◌≡◌, ◌<◌, IfOk, filter_map, length};
+ghost use Rattle.std.specs.List.{range_with_len};
+ghost use Rattle.pr_lens_warn.specs.Warnings.{AreWarnings, difference_warning, name_warning, signed_warning, warning_at};
+
+use crate::constants::{constant_at, is_difference, is_signed_token, negative_of, wrapping_of};
+use crate::needs::{is_assigned, needed};
+use crate::remarks::{Remark, Warning};
+use pr_lens_source::Source;
+use std::alloc::{AllocError, Global};
+
+/// The warning at `signed` of a token.
+fn signed_warning(source: &Source, at: usize) -> Option<Warning>
+    requires { at < length source.now.tokens.now }
+    ensures { result ≡ signed_warning source.now.text.now source.now.tokens.now source.now.spans.now at }
+{
+    let remark = negative_of(constant_at(source, at + 2))?;
+    Some(Warning {
+        remark,
+        first: at,
+        last: at + 3,
+    })
+}
+
+/// The warning at the minus of a difference.
+fn difference_warning(source: &Source, at: usize) -> Option<Warning>
+    requires { at < length source.now.tokens.now }
+    ensures { result
+        ≡ difference_warning source.now.text.now source.now.tokens.now source.now.spans.now at }
+{
+    let before = at.saturating_sub(1);
+    let remark = wrapping_of(constant_at(source, before), constant_at(source, at + 1))?;
+    Some(Warning {
+        remark,
+        first: before,
+        last: at + 1,
+    })
+}
+
+/// The warning at a name that is assigned, where these marks are those of needed statements.
+fn name_warning(source: &Source, needed: &[bool], at: usize) -> Option<Warning>
+    requires { at < length needed.now }
+    ensures { result ≡ name_warning source.now.tokens.now needed.now at }
+{
+    if !is_assigned(source, at) || needed[at] {
+        return None;
+    }
+    Some(Warning {
+        remark: Remark::Unneeded,
+        first: at,
+        last: at,
+    })
+}
+
+/// The warning at a token.
+#[tactic(auto, unfolding(crate::specs::Warnings::warning_at))]
+fn warning_at(source: &Source, needed: &[bool], at: usize) -> Option<Warning>
+    requires token { at < length source.now.tokens.now }
+    requires mark { at < length needed.now }
+    ensures { result
+        ≡ warning_at source.now.text.now source.now.tokens.now source.now.spans.now needed.now at }
+{
+    if is_signed_token(source, at) {
+        return signed_warning(source, at);
+    }
+    if is_difference(source, at) {
+        return difference_warning(source, at);
+    }
+    name_warning(source, needed, at)
+}
+
+/// The warnings at all tokens, where these marks are those of needed statements.
+fn warnings_by(alloc: Global, source: &Source, needed: &[bool]) -> Result<Vec<Warning>, AllocError>
+    requires { length needed.now ≡ length source.now.tokens.now }
+    ensures { let source = source.now in IfOk result (λ found. found.items ≡ filter_map
+        (warning_at source.text.now source.tokens.now source.spans.now needed.now)
+        (range_with_len 0 (length source.tokens.now))) }
+{
+    let mut found = Vec::new(alloc);
+    for at in 0..needed.len() {
+        if let Some(warning) = warning_at(source, needed, at) {
+            found.push(warning)?;
+        }
+    }
+    Ok(found)
+}
+
+/// What is pointed out in a program, in the order of its text: `signed` of a constant whose highest bit is 1, a
+/// difference of constants that wraps around, and a name that no result needs.
+pub fn warnings_of(alloc: Global, source: &Source) -> Result<Vec<Warning>, AllocError>
+    ensures { let source = source.now in IfOk result (λ found.
+        AreWarnings source.text.now source.tokens.now source.spans.now found.items) }
+{
+    let needed = needed(alloc, source)?;
+    warnings_by(alloc, source, &needed)
+}
