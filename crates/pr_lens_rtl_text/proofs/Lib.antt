@@ -1,0 +1,9 @@
+pub mod WalkLemmas
+pub mod DownLemmas
+pub mod TextLemmas
+pub mod MarkLemmas
+pub mod StageLemmas
+pub mod NameLemmas
+pub mod PortLemmas
+pub mod TapLemmas
+pub mod WholeLemmas

@@ -1,0 +1,6 @@
+pub mod Terms
+pub mod Printed
+pub mod Signs
+pub mod Names
+pub mod Ports
+pub mod Modules
