@@ -1,9 +1,5 @@
-pub mod WalkLemmas
-pub mod DownLemmas
 pub mod TextLemmas
-pub mod MarkLemmas
-pub mod StageLemmas
 pub mod NameLemmas
 pub mod PortLemmas
-pub mod TapLemmas
 pub mod WholeLemmas
+pub mod StageTexts

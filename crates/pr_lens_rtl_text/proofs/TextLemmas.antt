@@ -5,12 +5,12 @@ use Rattle.std.proofs.lemmas.List.{map_more, take_all}
 use Rattle.pr_lens_rtl.specs.declared.vectors.Net.{Net}
 use Rattle.pr_lens_rtl.specs.Verilog.{Expr, Assign}
 use Rattle.pr_lens_rtl.specs.Kept.{is_kept, kept_of}
-use Rattle.pr_lens_rtl_text.specs.declared.terms.Atom.{Atom}
-use Rattle.pr_lens_rtl_text.specs.declared.terms.Sign.{Sign}
-use Rattle.pr_lens_rtl_text.specs.declared.terms.Change.{Change}
-use Rattle.pr_lens_rtl_text.specs.declared.terms.Line.{Line}
+use Rattle.pr_lens_rtl_terms.specs.declared.terms.Atom.{Atom}
+use Rattle.pr_lens_rtl_terms.specs.declared.terms.Sign.{Sign}
+use Rattle.pr_lens_rtl_terms.specs.declared.terms.Change.{Change}
+use Rattle.pr_lens_rtl_terms.specs.declared.terms.Line.{Line}
 use Rattle.pr_lens_rtl_text.specs.declared.lines.Way.{Way}
-use Rattle.pr_lens_rtl_text.specs.Terms.{assign_of, assigns_of, atom_expr, change_expr, flag_expr, two_expr}
+use Rattle.pr_lens_rtl_terms.specs.Terms.{assign_of, assigns_of, atom_expr, change_expr, flag_expr, two_expr}
 use Rattle.pr_lens_rtl_text.specs.Printed.{expr_text, kept_text, line_text, lines_text, net_text}
 use Rattle.pr_lens_rtl_text.specs.Signs.{between_text, sign_text}
 

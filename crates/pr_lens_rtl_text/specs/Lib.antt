@@ -1,4 +1,3 @@
-pub mod Terms
 pub mod Printed
 pub mod Signs
 pub mod Names

@@ -1,6 +1,6 @@
 -- Operators between two texts.
 use Rattle.std.specs.Prelude.{ℕ, Bool, List, ◌++◌, codes}
-use Rattle.pr_lens_rtl_text.specs.declared.terms.Sign.{Sign}
+use Rattle.pr_lens_rtl_terms.specs.declared.terms.Sign.{Sign}
 use Rattle.pr_lens_rtl_text.specs.Printed.{open_text, close_text}
 
 abbrev pub sign_text : Sign → List ℕ

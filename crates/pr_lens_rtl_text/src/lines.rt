@@ -2,13 +2,12 @@
 
 ghost use Rattle.std.specs.Prelude.{◌≡◌, ◌-◌, ◌++◌, ◌∷◌, [], true, false, codes, decimal, OnOk};
 ghost use Rattle.pr_lens_rtl.specs.Verilog.{Expr, part_width, width};
-ghost use Rattle.pr_lens_rtl_text.specs.Terms.{assign_of, assigns_of, atom_expr, change_expr, factor_expr, flag_expr, form_expr, term_expr};
+ghost use Rattle.pr_lens_rtl_terms.specs.Terms.{assign_of, assigns_of, atom_expr, change_expr, factor_expr, flag_expr, form_expr, term_expr};
 ghost use Rattle.pr_lens_rtl_text.specs.Printed.{bit_text, close_text, declared_text, expr_text, is_port, kept_text, line_text, net_text, open_text, part_text, range_text, wire_text};
 ghost use Rattle.pr_lens_rtl_text.specs.Signs.{sign_text, between_text};
 
-use crate::marks::is_kept;
-use crate::terms::{Atom, Change, Factor, Form, Line, Sign, Term};
 use pr_lens_rtl::{Net, Part};
+use pr_lens_rtl_terms::{Atom, Change, Factor, Form, Line, Sign, Term, is_kept};
 use pr_lens_text::{put, put_counted, put_number};
 use std::alloc::AllocError;
 

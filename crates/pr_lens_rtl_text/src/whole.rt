@@ -10,14 +10,14 @@ ghost use Rattle.pr_lens_rtl_text.specs.Printed.{kept_text};
 ghost use Rattle.pr_lens_rtl_text.specs.Ports.{ports_text};
 ghost use Rattle.pr_lens_rtl_text.specs.Modules.{head_text, ports_by, rtl_text};
 
-use crate::edges::{hand_lines, last_stage, tap_lines};
 use crate::lines::{Way, put_lines};
-use crate::marks::marks_of;
 use crate::names::{Side, port_names};
 use crate::ports::{Port, ports_of, put_ports, put_side_lines};
-use crate::stages::{stage_registers, stage_wires};
 use pr_conf::{Configuration, Output, Stage};
 use pr_lang::Program;
+use pr_lens_rtl_terms::{
+    hand_lines, last_stage, marks_of, stage_registers, stage_wires, tap_lines,
+};
 use pr_lens_text::put;
 use std::alloc::{AllocError, Global};
 

@@ -1,6 +1,6 @@
 use Rattle.std.proofs.Common.{◌++◌, ◌∙◌, ap, sym, append-nil}
 use Rattle.std.proofs.lemmas.Result.{on_ok_weaker}
-use Rattle.pr_lens_rtl_text.specs.Terms.{assign_of}
+use Rattle.pr_lens_rtl_terms.specs.Terms.{assign_of}
 use Rattle.pr_lens_rtl_text.proofs.TextLemmas.{text_no, text_yes}
 use Rattle.pr_lens_rtl_text.proofs.lines.put_kept.Goals as goal
 

@@ -1,5 +1,5 @@
 use Rattle.std.proofs.Common.{◌≡◌, ◌++◌, take}
-use Rattle.pr_lens_rtl_text.specs.Terms.{assigns_of}
+use Rattle.pr_lens_rtl_terms.specs.Terms.{assigns_of}
 use Rattle.pr_lens_rtl_text.specs.Printed.{kept_text}
 use Rattle.pr_lens_rtl_text.proofs.lines.put_lines.Given as goal
 

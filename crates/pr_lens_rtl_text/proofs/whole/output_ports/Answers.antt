@@ -8,7 +8,7 @@ use Rattle.pr_lens_rtl_text.specs.declared.names.Side.{Side}
 use Rattle.pr_lens_rtl_text.specs.Names.{names_in, port_name}
 use Rattle.pr_lens_rtl_text.specs.Ports.{zipped}
 use Rattle.pr_lens_rtl_text.proofs.PortLemmas.{zipped_few}
-use Rattle.pr_lens_rtl_text.proofs.TapLemmas.{few_outputs, same_widths}
+use Rattle.pr_lens_rtl_terms.proofs.TapLemmas.{few_outputs, same_widths}
 use Rattle.pr_lens_rtl_text.proofs.whole.output_ports.Goals as goal
 
 pub returns-clause-ports : goal.returns-clause-ports

@@ -2,8 +2,8 @@ use Rattle.std.proofs.Common.{arith, map, refl}
 use Rattle.pr_conf.specs.Configuration.{pes_of}
 use Rattle.pr_lens_rtl.specs.Module.{stage_registers, stages_registers}
 use Rattle.pr_lens_rtl_text.specs.Printed.{kept_text}
-use Rattle.pr_lens_rtl_text.proofs.StageLemmas.{registers_walk}
-use Rattle.pr_lens_rtl_text.proofs.WalkLemmas.{walk_done, walk_more}
+use Rattle.pr_lens_rtl_text.proofs.StageTexts.{registers_walk}
+use Rattle.pr_lens_rtl_terms.proofs.WalkLemmas.{walk_done, walk_more}
 use Rattle.pr_lens_rtl_text.proofs.whole.put_registers.Goals as goal
 
 pub loop-number-preserved : goal.loop-number-preserved

@@ -3,8 +3,8 @@ use Rattle.pr_conf.specs.Configuration.{pes_of}
 use Rattle.pr_lens_rtl.specs.Module.{pes_wires, stages_wires}
 use Rattle.pr_lens_rtl_text.specs.declared.lines.Way.{Way}
 use Rattle.pr_lens_rtl_text.specs.Printed.{kept_text}
-use Rattle.pr_lens_rtl_text.proofs.StageLemmas.{wires_walk}
-use Rattle.pr_lens_rtl_text.proofs.WalkLemmas.{walk_done, walk_more}
+use Rattle.pr_lens_rtl_text.proofs.StageTexts.{wires_walk}
+use Rattle.pr_lens_rtl_terms.proofs.WalkLemmas.{walk_done, walk_more}
 use Rattle.pr_lens_rtl_text.proofs.whole.put_stages.Goals as goal
 
 pub loop-number-preserved : goal.loop-number-preserved
