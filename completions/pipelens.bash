@@ -5,6 +5,7 @@ _pipelens() {
         chart
         cost
         graph
+        rtl
         wave
         why
     '
@@ -12,6 +13,7 @@ _pipelens() {
         --fabric
         --help
         --json
+        --name
         --narrow
         --samples
     '
@@ -21,7 +23,7 @@ _pipelens() {
     COMPREPLY=()
     case $before in
     --fabric) mapfile -t COMPREPLY < <(compgen -W 'base wide' -- "$word") && return ;;
-    --samples) return ;;
+    --name | --samples) return ;;
     esac
     case $word in
     -*) mapfile -t COMPREPLY < <(compgen -W "$options" -- "$word") && return ;;

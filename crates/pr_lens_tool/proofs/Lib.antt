@@ -2,3 +2,4 @@ mod OrderLemmas
 mod CallLemmas
 mod ProgramLemmas
 mod LogLemmas
+mod ModuleLemmas

@@ -1,6 +1,7 @@
 pub mod Tasks
 pub mod Orders
 pub mod Outcomes
+pub mod Modules
 pub mod Programs
 pub mod Replies
 pub mod Logs

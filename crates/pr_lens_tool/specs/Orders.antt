@@ -11,13 +11,13 @@ use Rattle.pr_tool_words.specs.Lawful.{Text, fabric_named, is_true, number_in}
 use Rattle.pr_tool_words.specs.Shape.{place, option_or, flag}
 use Rattle.pr_lens_tool.specs.declared.orders.Task.{Task}
 use Rattle.pr_lens_tool.specs.declared.orders.Order.{Order}
-use Rattle.pr_lens_tool.specs.Tasks.{task_named}
+use Rattle.pr_lens_tool.specs.Tasks.{module_named, task_named}
 
--- pipelens TASK FILE [--fabric F] [--narrow] [--samples N] [--json]
+-- pipelens TASK FILE [--fabric F] [--narrow] [--samples N] [--json] [--name MODULE]
 unfoldable pub app : App
 app =
-    with_rule (with_rule (with_rule (with_rule (with_rule (with_rule (new_app (codes "pipelens")) (place (codes "task") true)) (place (codes "file") true))
-    (option_or (codes "fabric") (codes "base"))) (flag (codes "narrow"))) (option_or (codes "samples") (codes "1000"))) (flag (codes "json"))
+    with_rule (with_rule (with_rule (with_rule (with_rule (with_rule (with_rule (new_app (codes "pipelens")) (place (codes "task") true)) (place (codes "file") true))
+    (option_or (codes "fabric") (codes "base"))) (flag (codes "narrow"))) (option_or (codes "samples") (codes "1000"))) (flag (codes "json"))) (option_or (codes "name") (codes "pipeline"))
 
 pub record Asked : Type 0 where
   pub task : Task
@@ -26,31 +26,33 @@ pub record Asked : Type 0 where
   pub narrowed : Bool
   pub samples : ℕ
   pub json : Bool
+  pub name : Text
 
 abbrev pub asked_in : Order → Asked
-asked_in order = record { task = order.task; file = order.file.now; fabric = order.fabric; narrowed = order.narrowed; samples = order.samples; json = order.json }
+asked_in order = record { task = order.task; file = order.file.now; fabric = order.fabric; narrowed = order.narrowed; samples = order.samples; json = order.json; name = order.name.now }
 
 -- by the values of the options and the places, where all are lawful
-abbrev pub asked_from : (task file fabric narrow samples json : Option Text) → Option Asked
-asked_from task file fabric narrow samples json =
-    option_and_then (λ t. option_and_then (λ f. option_and_then (λ b. option_map (λ n. record {
+abbrev pub asked_from : (task file fabric narrow samples json name : Option Text) → Option Asked
+asked_from task file fabric narrow samples json name =
+    option_and_then (λ t. option_and_then (λ f. option_and_then (λ b. option_and_then (λ n. option_map (λ m. record {
       task = t;
       file = f;
       fabric = b;
       narrowed = is_true narrow;
       samples = n;
       json = is_true json;
-    }) (option_and_then (number_in 0 4294967295) samples)) (option_and_then fabric_named fabric)) file) (option_and_then task_named task)
+      name = m;
+    }) (option_and_then module_named name)) (option_and_then (number_in 0 4294967295) samples)) (option_and_then fabric_named fabric)) file) (option_and_then task_named task)
 
 abbrev pub asked_of : Found → Option Asked
 asked_of f = asked_from
     (first_value f (codes "task")) (first_value f (codes "file")) (first_value f (codes "fabric")) (first_value f (codes "narrow"))
-    (first_value f (codes "samples")) (first_value f (codes "json"))
+    (first_value f (codes "samples")) (first_value f (codes "json")) (first_value f (codes "name"))
 
 abbrev pub asked_rows : List Row → Option Asked
 asked_rows rows = asked_from
     (first_of (codes "task") rows) (first_of (codes "file") rows) (first_of (codes "fabric") rows) (first_of (codes "narrow") rows)
-    (first_of (codes "samples") rows) (first_of (codes "json") rows)
+    (first_of (codes "samples") rows) (first_of (codes "json") rows) (first_of (codes "name") rows)
 
 -- unless the command line has a fault with the words
 abbrev pub asked_without : Kinds → Option Asked → Option Asked

@@ -25,11 +25,12 @@ use std::alloc::Global;
 const HELP: &[u8] = b"\
 pipelens looks at programs and runs of piperench
 
-usage: pipelens TASK FILE [--fabric F] [--narrow] [--samples N] [--json]
+usage: pipelens TASK FILE [--fabric F] [--narrow] [--samples N] [--json] [--name MODULE]
 
   why PROGRAM    where and why a program is refused, and what to do
   cost PROGRAM   equations, units and stages, and cycles by stripes
   graph PROGRAM  the units by stage with their wires, for Graphviz
+  rtl PROGRAM    its stages as a module in Verilog
   wave LOG       the log of `piperench trace` as a waveform (VCD)
   chart LOG      the log of `piperench trace` as a picture (SVG)
 
@@ -37,6 +38,7 @@ usage: pipelens TASK FILE [--fabric F] [--narrow] [--samples N] [--json]
   --narrow       leaves out what no output shows
   --samples N    how long the run is whose cycles `cost` tells; 1000 without it
   --json         `why` tells each finding as a line of JSON
+  --name MODULE  how the module of `rtl` is named; pipeline without it
 ";
 
 /// What is asked of the program of a file; else the answer to it.

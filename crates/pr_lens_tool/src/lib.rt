@@ -8,6 +8,7 @@ mod orders;
 mod outcomes;
 mod programs;
 mod replies;
+mod rtl;
 
 pub use asking::{OrderFault, read_order};
 pub use calling::pipelens;

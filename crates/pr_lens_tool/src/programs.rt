@@ -10,6 +10,7 @@ ghost use Rattle.pr_lens_tool.specs.Programs.{AreSavings, IsExplanation, IsTold,
 
 use crate::orders::{Order, Question};
 use crate::outcomes::{Outcome, Output};
+use crate::rtl::rtl_of;
 use pr_base::Fabric;
 use pr_compile::CompileFault;
 use pr_lens_cost::{Savings, cost_of, put_cost};
@@ -20,7 +21,7 @@ use pr_tool::{Answer, Bounds, note_line};
 use std::alloc::{AllocError, Global};
 
 /// The answer that a fault of a text is.
-fn answer_of(fault: &CompileFault) -> Answer
+pub fn answer_of(fault: &CompileFault) -> Answer
     ensures { result ≡ compile_answer fault.now }
 {
     match *fault {
@@ -203,5 +204,6 @@ pub fn of_program<const N: usize, const P: usize>(
         Question::Why => why::<N, P>(alloc, order, text),
         Question::Cost => cost::<N, P>(alloc, order, text),
         Question::Graph => units::<N, P>(alloc, order, text),
+        Question::Rtl => rtl_of::<N, P>(alloc, order, text),
     }
 }

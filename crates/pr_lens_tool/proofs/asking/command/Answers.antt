@@ -12,4 +12,5 @@ returns c =
     let fabric = c.in_ok-fabric.ensures.shape c.option_or.ensures.local ∙ ap₂ with_rule file c.option_or.ensures.rule in
     let narrow = c.in_ok-narrow.ensures.shape c.flag.ensures.local ∙ ap₂ with_rule fabric c.flag.ensures.rule in
     let samples = c.in_ok-samples.ensures.shape c.option_or-2.ensures.local ∙ ap₂ with_rule narrow c.option_or-2.ensures.rule in
-    IfOk-weaker c.arg-6.result _ _ (λ r h. h.shape c.flag-2.ensures.local ∙ ap₂ with_rule samples c.flag-2.ensures.rule) c.arg-6.ensures
+    let json = c.in_ok-json.ensures.shape c.flag-2.ensures.local ∙ ap₂ with_rule samples c.flag-2.ensures.rule in
+    IfOk-weaker c.arg-7.result _ _ (λ r h. h.shape c.option_or-3.ensures.local ∙ ap₂ with_rule json c.option_or-3.ensures.rule) c.arg-7.ensures
