@@ -6,6 +6,7 @@ _pipelens() {
         cost
         graph
         signals
+        rtl
         wave
         why
     '
@@ -14,6 +15,7 @@ _pipelens() {
         --fabric
         --help
         --json
+        --name
         --narrow
         --no-warnings
         --samples
@@ -24,7 +26,7 @@ _pipelens() {
     COMPREPLY=()
     case $before in
     --fabric) mapfile -t COMPREPLY < <(compgen -W 'base wide' -- "$word") && return ;;
-    --samples) return ;;
+    --name | --samples) return ;;
     esac
     case $word in
     -*) mapfile -t COMPREPLY < <(compgen -W "$options" -- "$word") && return ;;

@@ -3,3 +3,4 @@ mod CallLemmas
 mod ProgramLemmas
 mod LogLemmas
 mod StreamLemmas
+mod ModuleLemmas

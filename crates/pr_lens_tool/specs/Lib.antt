@@ -2,6 +2,7 @@ pub mod Tasks
 pub mod Orders
 pub mod Accepted
 pub mod Outcomes
+pub mod Modules
 pub mod Programs
 pub mod Replies
 pub mod Logs

@@ -11,13 +11,13 @@ use Rattle.pr_tool_words.specs.Lawful.{Text, fabric_named, is_true, number_in}
 use Rattle.pr_tool_words.specs.Shape.{place, option_or, flag}
 use Rattle.pr_lens_tool.specs.declared.orders.Task.{Task}
 use Rattle.pr_lens_tool.specs.declared.orders.Order.{Order}
-use Rattle.pr_lens_tool.specs.Tasks.{task_named}
+use Rattle.pr_lens_tool.specs.Tasks.{module_named, task_named}
 
--- pipelens TASK FILE [SECOND] [--fabric F] [--narrow] [--samples N] [--json] [--csv] [--no-warnings]
+-- pipelens TASK FILE [SECOND] [--fabric F] [--narrow] [--samples N] [--json] [--csv] [--no-warnings] [--name MODULE]
 unfoldable pub app : App
 app =
-    with_rule (with_rule (with_rule (with_rule (with_rule (with_rule (with_rule (with_rule (with_rule (new_app (codes "pipelens")) (place (codes "task") true)) (place (codes "file") true))
-    (place (codes "second") false)) (option_or (codes "fabric") (codes "base"))) (flag (codes "narrow"))) (option_or (codes "samples") (codes "1000"))) (flag (codes "json"))) (flag (codes "csv"))) (flag (codes "no-warnings"))
+    with_rule (with_rule (with_rule (with_rule (with_rule (with_rule (with_rule (with_rule (with_rule (with_rule (new_app (codes "pipelens")) (place (codes "task") true)) (place (codes "file") true))
+    (place (codes "second") false)) (option_or (codes "fabric") (codes "base"))) (flag (codes "narrow"))) (option_or (codes "samples") (codes "1000"))) (flag (codes "json"))) (flag (codes "csv"))) (flag (codes "no-warnings"))) (option_or (codes "name") (codes "pipeline"))
 
 pub record Asked : Type 0 where
   pub task : Task
@@ -29,6 +29,7 @@ pub record Asked : Type 0 where
   pub json : Bool
   pub csv : Bool
   pub warnings : Bool
+  pub name : Text
 
 abbrev pub asked_in : Order → Asked
 asked_in order = record {
@@ -41,6 +42,7 @@ asked_in order = record {
   json = order.json;
   csv = order.csv;
   warnings = order.warnings;
+  name = order.name.now;
 }
 
 -- streams are told of two files, as lines of numbers; all else of one file
@@ -52,9 +54,9 @@ abbrev pub fit : Asked → Option Asked
 fit asked = if is_fit asked.task asked.second asked.csv then Some asked else None
 
 -- by the values of the options and the places, where all are lawful
-abbrev pub asked_from : (task file second fabric narrow samples json csv no_warnings : Option Text) → Option Asked
-asked_from task file second fabric narrow samples json csv no_warnings =
-    option_and_then fit (option_and_then (λ t. option_and_then (λ f. option_and_then (λ b. option_map (λ n. record {
+abbrev pub asked_from : (task file second fabric narrow samples json csv no_warnings name : Option Text) → Option Asked
+asked_from task file second fabric narrow samples json csv no_warnings name =
+    option_and_then fit (option_and_then (λ t. option_and_then (λ f. option_and_then (λ b. option_and_then (λ n. option_map (λ m. record {
       task = t;
       file = f;
       second = second;
@@ -64,17 +66,18 @@ asked_from task file second fabric narrow samples json csv no_warnings =
       json = is_true json;
       csv = is_true csv;
       warnings = not (is_true no_warnings);
-    }) (option_and_then (number_in 0 4294967295) samples)) (option_and_then fabric_named fabric)) file) (option_and_then task_named task))
+      name = m;
+    }) (option_and_then module_named name)) (option_and_then (number_in 0 4294967295) samples)) (option_and_then fabric_named fabric)) file) (option_and_then task_named task))
 
 abbrev pub asked_of : Found → Option Asked
 asked_of f = asked_from
     (first_value f (codes "task")) (first_value f (codes "file")) (first_value f (codes "second")) (first_value f (codes "fabric")) (first_value f (codes "narrow"))
-    (first_value f (codes "samples")) (first_value f (codes "json")) (first_value f (codes "csv")) (first_value f (codes "no-warnings"))
+    (first_value f (codes "samples")) (first_value f (codes "json")) (first_value f (codes "csv")) (first_value f (codes "no-warnings")) (first_value f (codes "name"))
 
 abbrev pub asked_rows : List Row → Option Asked
 asked_rows rows = asked_from
     (first_of (codes "task") rows) (first_of (codes "file") rows) (first_of (codes "second") rows) (first_of (codes "fabric") rows) (first_of (codes "narrow") rows)
-    (first_of (codes "samples") rows) (first_of (codes "json") rows) (first_of (codes "csv") rows) (first_of (codes "no-warnings") rows)
+    (first_of (codes "samples") rows) (first_of (codes "json") rows) (first_of (codes "csv") rows) (first_of (codes "no-warnings") rows) (first_of (codes "name") rows)
 
 -- unless the command line has a fault with the words
 abbrev pub asked_without : Kinds → Option Asked → Option Asked

@@ -27,11 +27,12 @@ use Rattle.pr_lens_graph.specs.declared.layouts.Layout.{Layout}
 use Rattle.pr_lens_graph.specs.Graphs.{graph_of}
 use Rattle.pr_lens_graph.specs.Layouts.{IsLayout}
 use Rattle.pr_lens_tool.specs.declared.orders.Question.{Question}
-use Rattle.pr_lens_tool.specs.declared.orders.Question.TheVariants.{Why, Cost, Graph}
+use Rattle.pr_lens_tool.specs.declared.orders.Question.TheVariants.{Why, Cost, Graph, Rtl}
 use Rattle.pr_lens_tool.specs.declared.outcomes.Outcome.{Outcome}
 use Rattle.pr_lens_tool.specs.declared.outcomes.Outcome.TheVariants.{Plain, Explained}
 use Rattle.pr_lens_tool.specs.Accepted.{TellsAccepted}
 use Rattle.pr_lens_tool.specs.Orders.{Asked}
+use Rattle.pr_lens_tool.specs.Modules.{IsModuleOrLong}
 
 -- the limits for programs on a fabric
 abbrev pub bounds_for : Fabric → Bounds
@@ -103,12 +104,13 @@ pub record IsGraphed (N P : ℕ) (narrowed : Bool) (text written : List ℕ) : T
   pub is : IsLayout N P narrowed text layout
   pub told : written ≡ graph_of layout
 
--- ---- all three
+-- ---- all four
 -- what is told of a text that is asked so, and what is written
 abbrev pub IsTold : Question → ℕ → ℕ → Asked → List ℕ → Outcome → List ℕ → Type 0
 IsTold Why N P order text outcome written = IsSaid N P order text outcome written
 IsTold Cost N P order text outcome written = (outcome ≡ Plain Answer.Ok) × IsCosted N P order text written
 IsTold Graph N P order text outcome written = (outcome ≡ Plain Answer.Ok) × IsGraphed N P order.narrowed text written
+IsTold Rtl N P order text outcome written = IsModuleOrLong N P order.narrowed text order.name outcome written
 
 -- the same of the program of a file
 pub record IsToldOf (question : Question) (told : Told) (order : Asked) (outcome : Outcome) (written : List ℕ) : Type 0 where

@@ -4,9 +4,10 @@ ghost use Rattle.std.specs.Prelude.{◌≡◌, IfOk, IsErrOf, Some, None, true, 
 ghost use Rattle.clap.specs.Words.{app_of, rule_of, found_of};
 ghost use Rattle.pr_tool_words.specs.Lawful.{is_true};
 ghost use Rattle.pr_tool_words.specs.Shape.{place, option_or, flag};
+ghost use Rattle.pr_lens_tool.specs.Tasks.{module_named};
 ghost use Rattle.pr_lens_tool.specs.Orders.{app, asked_in, asked_of, asked_by, fit, is_fit};
 
-use crate::orders::{Order, Task, fabric_named, task_named};
+use crate::orders::{Order, Task, fabric_named, is_module_name, task_named};
 use clap::error::ErrorKind;
 use clap::{Arg, ArgAction, ArgMatches, Command};
 use pr_tool_words::number_in;
@@ -42,6 +43,8 @@ impl From<AllocError> for OrderFault {
 const FABRIC: &str = "base";
 /// The samples of a run where no number is given.
 const SAMPLES: &str = "1000";
+/// The name of a module where none is given.
+const NAME: &str = "pipeline";
 
 /// A place for a word, which has to be there or not.
 fn place<'a>(alloc: Global, name: &'a str, required: bool) -> Arg<'a>
@@ -79,7 +82,8 @@ fn command<'a>(alloc: Global) -> Result<Command<'a>, AllocError>
     let samples = narrow.arg(option_or(alloc, "samples", SAMPLES))?;
     let json = samples.arg(flag(alloc, "json"))?;
     let csv = json.arg(flag(alloc, "csv"))?;
-    csv.arg(flag(alloc, "no-warnings"))
+    let warnings = csv.arg(flag(alloc, "no-warnings"))?;
+    warnings.arg(option_or(alloc, "name", NAME))
 }
 
 /// Whether the value of an option without one is `true`.
@@ -113,6 +117,17 @@ fn fit<'a>(order: Order<'a>) -> Option<Order<'a>>
     None
 }
 
+/// The name of a module, where it may have it.
+fn module_named<'a>(name: &'a str) -> Option<&'a str>
+    ensures { option_map (λ s. s.now) result ≡ module_named name.now }
+{
+    if is_module_name(name) {
+        Some(name)
+    } else {
+        None
+    }
+}
+
 /// The order among the matches, where its words are lawful.
 fn found<'a>(matches: &ArgMatches<'a>) -> Option<Order<'a>>
     ensures { option_map asked_in result ≡ asked_of (found_of matches.now) }
@@ -121,6 +136,7 @@ fn found<'a>(matches: &ArgMatches<'a>) -> Option<Order<'a>>
     let file = matches.get_str("file")?;
     let fabric = fabric_named(matches.get_str("fabric")?)?;
     let samples = number_in(matches.get_str("samples")?, 0, u32::MAX)?;
+    let name = module_named(matches.get_str("name")?)?;
     fit(Order {
         task,
         file,
@@ -131,6 +147,7 @@ fn found<'a>(matches: &ArgMatches<'a>) -> Option<Order<'a>>
         json: is_true(matches.get_str("json")),
         csv: is_true(matches.get_str("csv")),
         warnings: !is_true(matches.get_str("no-warnings")),
+        name,
     })
 }
 

@@ -28,11 +28,12 @@ use std::alloc::Global;
 const HELP: &[u8] = b"\
 pipelens looks at programs and runs of piperench
 
-usage: pipelens TASK FILE [SAMPLES] [--fabric F] [--narrow] [--samples N] [--json] [--csv] [--no-warnings]
+usage: pipelens TASK FILE [SAMPLES] [--fabric F] [--narrow] [--samples N] [--json] [--csv] [--no-warnings] [--name MODULE]
 
   why PROGRAM    where and why a program is refused, or what to look at again
   cost PROGRAM   equations, units and stages, and cycles by stripes
   graph PROGRAM  the units by stage with their wires, for Graphviz
+  rtl PROGRAM    its stages as a module in Verilog
   wave LOG       the log of `piperench trace` as a waveform (VCD)
   chart LOG      the log of `piperench trace` as a picture (SVG)
   signals PROGRAM SAMPLES --csv
@@ -43,6 +44,7 @@ usage: pipelens TASK FILE [SAMPLES] [--fabric F] [--narrow] [--samples N] [--jso
   --samples N    how long the run is whose cycles `cost` tells; 1000 without it
   --json         `why` tells each finding as a line of JSON
   --no-warnings  `why` points out nothing in a program that is accepted
+  --name MODULE  how the module of `rtl` is named; pipeline without it
 ";
 
 /// What is asked of the program of a file; else the answer to it.

@@ -9,6 +9,7 @@ mod orders;
 mod outcomes;
 mod programs;
 mod replies;
+mod rtl;
 mod signals;
 
 pub use asking::{OrderFault, read_order};

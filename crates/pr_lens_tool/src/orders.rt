@@ -2,7 +2,7 @@
 
 ghost use Rattle.std.specs.Prelude.{◌≡◌};
 ghost use Rattle.pr_tool_words.specs.Lawful.{fabric_named};
-ghost use Rattle.pr_lens_tool.specs.Tasks.{task_named};
+ghost use Rattle.pr_lens_tool.specs.Tasks.{are_name_bytes, is_module_name, is_name_byte, task_named};
 
 use pr_base::Fabric;
 
@@ -15,6 +15,8 @@ pub enum Question {
     Cost,
     /// Its units by stage, with their wires.
     Graph,
+    /// Its stages as a module in Verilog.
+    Rtl,
 }
 
 /// How a log is drawn.
@@ -57,6 +59,8 @@ pub struct Order<'a> {
     pub csv: bool,
     /// Whether something is pointed out in programs that are accepted.
     pub warnings: bool,
+    /// The name of a module.
+    pub name: &'a str,
 }
 
 /// The task of this name.
@@ -67,6 +71,7 @@ pub fn task_named(name: &str) -> Option<Task>
         "why" => Some(Task::Program(Question::Why)),
         "cost" => Some(Task::Program(Question::Cost)),
         "graph" => Some(Task::Program(Question::Graph)),
+        "rtl" => Some(Task::Program(Question::Rtl)),
         "wave" => Some(Task::Log(Drawing::Wave)),
         "chart" => Some(Task::Log(Drawing::Chart)),
         "signals" => Some(Task::Signals),
@@ -82,5 +87,35 @@ pub fn fabric_named(name: &str) -> Option<Fabric>
         "base" => Some(Fabric::Base),
         "wide" => Some(Fabric::Wide),
         _ => None,
+    }
+}
+
+/// Whether a byte may stand in the name of a module.
+fn is_name_byte(byte: u8) -> bool
+    ensures { result ≡ is_name_byte byte }
+{
+    matches!(byte, b'A'..=b'Z' | b'a'..=b'z' | b'0'..=b'9' | b'_')
+}
+
+/// Whether all of these bytes may stand in the name of a module.
+fn are_name_bytes(bytes: &[u8]) -> bool
+    ensures { result ≡ are_name_bytes bytes.now }
+{
+    for byte in bytes {
+        if !is_name_byte(*byte) {
+            return false;
+        }
+    }
+    true
+}
+
+/// Whether a module may have this name: a letter or an underscore, then such or digits.
+pub fn is_module_name(name: &str) -> bool
+    ensures { result ≡ is_module_name name.now }
+{
+    let bytes = name.as_bytes();
+    match bytes.first() {
+        None => false,
+        Some(first) => !first.is_ascii_digit() && are_name_bytes(bytes),
     }
 }

@@ -27,6 +27,8 @@ pub enum Outcome {
     NoCycle,
     /// A log has too many bytes.
     LongLog,
+    /// A module has too many bytes.
+    LongModule,
 }
 
 /// A text that is made whole, and what the call comes to where it is written.
@@ -48,13 +50,16 @@ pub struct Reply {
 
 /// The line for words that are no lawful command line.
 const USAGE: &str =
-    "usage: pipelens TASK FILE [SAMPLES] [--fabric F] [--narrow] [--samples N] [--json] [--csv] [--no-warnings]; pipelens --help says more\n";
+    "usage: pipelens TASK FILE [SAMPLES] [--fabric F] [--narrow] [--samples N] [--json] [--csv] [--no-warnings] [--name MODULE]; pipelens --help says more\n";
 
 /// The line for a log without a cycle.
 const NO_CYCLE: &str = "bad log: no cycle\n";
 
 /// The line for a log with too many bytes.
 const LONG: &str = "limit: log-bytes 16777216\n";
+
+/// The line for a module with too many bytes.
+const LONG_MODULE: &str = "limit: module-bytes 16777216\n";
 
 impl Outcome {
     /// The status with which a process ends.
@@ -66,7 +71,7 @@ impl Outcome {
             Outcome::Streamed(answer) => answer.status(),
             Outcome::Usage => 2,
             Outcome::BadLog { .. } | Outcome::NoCycle => 15,
-            Outcome::LongLog => 6,
+            Outcome::LongLog | Outcome::LongModule => 6,
         }
     }
 }
@@ -125,6 +130,7 @@ impl Reply {
             }
             Outcome::NoCycle => put_bytes(note, NO_CYCLE.as_bytes()),
             Outcome::LongLog => put_bytes(note, LONG.as_bytes()),
+            Outcome::LongModule => put_bytes(note, LONG_MODULE.as_bytes()),
         }
     }
 }

@@ -11,6 +11,7 @@ ghost use Rattle.pr_lens_tool.specs.Programs.{AreSavings, IsExplanation, IsTold,
 use crate::accepted::accepted;
 use crate::orders::{Order, Question};
 use crate::outcomes::{Outcome, Output};
+use crate::rtl::rtl_of;
 use pr_base::Fabric;
 use pr_compile::CompileFault;
 use pr_lens_cost::{Savings, cost_of, put_cost};
@@ -197,5 +198,6 @@ pub fn of_program<const N: usize, const P: usize>(
         Question::Why => why::<N, P>(alloc, order, text),
         Question::Cost => cost::<N, P>(alloc, order, text),
         Question::Graph => units::<N, P>(alloc, order, text),
+        Question::Rtl => rtl_of::<N, P>(alloc, order, text),
     }
 }

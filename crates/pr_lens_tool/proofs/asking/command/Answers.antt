@@ -15,4 +15,5 @@ returns c =
     let samples = c.in_ok-samples.ensures.shape c.option_or-2.ensures.local ∙ ap₂ with_rule narrow c.option_or-2.ensures.rule in
     let json = c.in_ok-json.ensures.shape c.flag-2.ensures.local ∙ ap₂ with_rule samples c.flag-2.ensures.rule in
     let csv = c.in_ok-csv.ensures.shape c.flag-3.ensures.local ∙ ap₂ with_rule json c.flag-3.ensures.rule in
-    IfOk-weaker c.arg-9.result _ _ (λ r h. h.shape c.flag-4.ensures.local ∙ ap₂ with_rule csv c.flag-4.ensures.rule) c.arg-9.ensures
+    let warnings = c.in_ok-warnings.ensures.shape c.flag-4.ensures.local ∙ ap₂ with_rule csv c.flag-4.ensures.rule in
+    IfOk-weaker c.arg-10.result _ _ (λ r h. h.shape c.option_or-3.ensures.local ∙ ap₂ with_rule warnings c.option_or-3.ensures.rule) c.arg-10.ensures

@@ -15,3 +15,6 @@ returns-in-LongLog-clause-gains g c = rw c.in-LongLog.is (rw c.as_bytes-in-LongL
 
 pub returns-in-NoCycle-clause-gains : goal.returns-in-NoCycle-clause-gains
 returns-in-NoCycle-clause-gains g c = rw c.in-NoCycle.is (rw c.as_bytes-in-NoCycle.ensures.value at c.put_bytes-in-NoCycle.ensures.gains)
+
+pub returns-in-LongModule-clause-gains : goal.returns-in-LongModule-clause-gains
+returns-in-LongModule-clause-gains g c = rw c.in-LongModule.is (rw c.as_bytes-in-LongModule.ensures.value at c.put_bytes-in-LongModule.ensures.gains)

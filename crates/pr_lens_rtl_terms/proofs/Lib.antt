@@ -1,0 +1,5 @@
+pub mod WalkLemmas
+pub mod DownLemmas
+pub mod MarkLemmas
+pub mod StageLemmas
+pub mod TapLemmas

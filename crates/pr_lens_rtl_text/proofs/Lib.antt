@@ -1,0 +1,5 @@
+pub mod TextLemmas
+pub mod NameLemmas
+pub mod PortLemmas
+pub mod WholeLemmas
+pub mod StageTexts

@@ -1,0 +1,24 @@
+-- The parts of the whole text.
+use Rattle.std.proofs.Common.{◌≡◌, ◌++◌, ◌∙◌, ℕ, Bool, List, [], sym, ap, append_assoc}
+use Rattle.pr_lens_rtl.specs.Verilog.{Assign}
+use Rattle.pr_lens_rtl_text.specs.declared.lines.Way.{Way}
+use Rattle.pr_lens_rtl_text.specs.Printed.{kept_text}
+use Rattle.pr_lens_rtl_text.proofs.TextLemmas.{text_both}
+
+pub three_kept : (way : Way) (marks : List Bool) (t : List ℕ) (xs ys zs : List Assign) {t1 t2 t3 : List ℕ} → t1 ≡ t ++ kept_text way marks xs → t2 ≡ t1 ++ kept_text way marks ys → t3 ≡ t2 ++ kept_text way marks zs
+    → t3 ≡ t ++ kept_text way marks (xs ++ (ys ++ zs))
+three_kept way marks t xs ys zs {t1} {t2} {t3} e f g =
+    g
+    ∙ ap (λ q. q ++ kept_text way marks zs) (f ∙ ap (λ q. q ++ kept_text way marks ys) e ∙ append_assoc t (kept_text way marks xs) (kept_text way marks ys))
+    ∙ append_assoc t (kept_text way marks xs ++ kept_text way marks ys) (kept_text way marks zs)
+    ∙ ap (λ q. t ++ q)
+    (append_assoc (kept_text way marks xs) (kept_text way marks ys) (kept_text way marks zs)
+    ∙ ap (λ q. kept_text way marks xs ++ q) (sym (text_both way marks ys zs))
+    ∙ sym (text_both way marks xs (ys ++ zs)))
+
+pub eight_pieces : (h s r w o k q e : List ℕ) {t0 t1 t2 t3 t4 t5 t6 t7 t8 : List ℕ} → t0 ≡ [] → t1 ≡ t0 ++ h → t2 ≡ t1 ++ s → t3 ≡ t2 ++ r → t4 ≡ t3 ++ w → t5 ≡ t4 ++ o → t6 ≡ t5 ++ k → t7 ≡ t6 ++ q → t8 ≡ t7 ++ e
+    → t8 ≡ h ++ s ++ r ++ w ++ o ++ k ++ q ++ e
+eight_pieces h s r w o k q e e0 e1 e2 e3 e4 e5 e6 e7 e8 = e8 ∙ ap (λ z. z ++ e) (e7 ∙ ap (λ z. z ++ q) (e6 ∙ ap (λ z. z ++ k) (e5 ∙ ap (λ z. z ++ o) (e4 ∙ ap (λ z. z ++ w) (e3 ∙ ap (λ z. z ++ r) (e2 ∙ ap (λ z. z ++ s) (e1 ∙ ap (λ z. z ++ h) e0)))))))
+
+pub three_pieces : (t a b c : List ℕ) → t ++ a ++ b ++ c ≡ t ++ (a ++ b ++ c)
+three_pieces t a b c = simp append_assoc

@@ -1,0 +1,5 @@
+pub mod Printed
+pub mod Signs
+pub mod Names
+pub mod Ports
+pub mod Modules

@@ -1,0 +1,41 @@
+-- The text of a whole module.
+use Rattle.std.specs.Prelude.{ℕ, List, ◌++◌, codes, map}
+use Rattle.pr_lang.specs.declared.trees.Program.{Program}
+use Rattle.pr_conf.specs.Shape.{Shape}
+use Rattle.pr_conf.specs.Through.{output_widths}
+use Rattle.pr_lens_rtl.specs.Verilog.{Module}
+use Rattle.pr_lens_rtl.specs.Kept.{kept_module}
+use Rattle.pr_lens_rtl_text.specs.declared.lines.Way.{Way}
+use Rattle.pr_lens_rtl_text.specs.declared.names.Side.{Side}
+use Rattle.pr_lens_rtl_text.specs.declared.ports.Port.{Port}
+use Rattle.pr_lens_rtl_text.specs.Names.{names_in, port_name}
+use Rattle.pr_lens_rtl_text.specs.Ports.{ports_text, side_lines, zipped}
+use Rattle.pr_lens_rtl_text.specs.Printed.{lines_text}
+
+-- the most bytes of a text
+abbrev pub most_text_bytes : ℕ
+most_text_bytes = 16777216
+
+-- the ports of a program's inputs or outputs, in the order in which the program has them
+abbrev pub ports_by : Side → Program → List ℕ → List Port
+ports_by side program widths = zipped (map port_name (names_in side program.items.items)) widths
+
+-- the head: the name, and the ports of the handshake. Not every bit of a vector is read, which lint need not tell
+unfoldable pub head_text : List ℕ → List ℕ
+head_text name =
+    codes "/* verilator lint_off UNUSED */\nmodule " ++ name
+    ++ codes "(\n  input clock,\n  input reset,\n  input in_valid,\n  output in_ready,\n  output out_valid,\n  input out_ready"
+
+-- a module of a name, with ports for numbers
+unfoldable pub module_text : List ℕ → List Port → List Port → Module → List ℕ
+module_text name inputs outputs m =
+    head_text name ++ ports_text Side.Input inputs ++ ports_text Side.Output outputs ++ codes "\n);\n"
+    ++ side_lines Side.Input 0 inputs
+    ++ lines_text Way.Declared m.registers ++ lines_text Way.Wire m.wires
+    ++ side_lines Side.Output 0 outputs
+    ++ codes "always @(posedge clock) begin\n" ++ lines_text Way.Clocked m.registers ++ codes "end\nendmodule\n"
+
+-- the module that is written for a program and its configuration
+abbrev pub rtl_text : ℕ → ℕ → List ℕ → Program → Shape → List ℕ
+rtl_text N P name program conf =
+    module_text name (ports_by Side.Input program conf.inputs) (ports_by Side.Output program (output_widths conf)) (kept_module N P conf)

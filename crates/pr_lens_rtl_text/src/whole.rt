@@ -1,0 +1,193 @@
+//! The whole text.
+
+ghost use Rattle.std.specs.Prelude.{◌≡◌, ◌≤◌, ◌++◌, IfOk, OnOk, codes, length, map};
+ghost use Rattle.pr_conf.specs.Configuration.{pes_of, shape_of};
+ghost use Rattle.pr_conf.specs.Through.{output_widths};
+ghost use Rattle.pr_lens_rtl.specs.Module.{module_of, stages_registers, stages_wires};
+ghost use Rattle.pr_lens_rtl_text.specs.declared.lines.Way.{Way};
+ghost use Rattle.pr_lens_rtl_text.specs.declared.names.Side.{Side};
+ghost use Rattle.pr_lens_rtl_text.specs.Printed.{kept_text};
+ghost use Rattle.pr_lens_rtl_text.specs.Ports.{ports_text};
+ghost use Rattle.pr_lens_rtl_text.specs.Modules.{head_text, ports_by, rtl_text};
+
+use crate::lines::{Way, put_lines};
+use crate::names::{Side, port_names};
+use crate::ports::{Port, ports_of, put_ports, put_side_lines};
+use pr_conf::{Configuration, Output, Stage};
+use pr_lang::Program;
+use pr_lens_rtl_terms::{
+    hand_lines, last_stage, marks_of, stage_registers, stage_wires, tap_lines,
+};
+use pr_lens_text::put;
+use std::alloc::{AllocError, Global};
+
+/// Adds the lines of the registers of stages, which are counted from 0.
+fn put_registers<const N: usize>(
+    alloc: Global,
+    text: &mut Vec<u8>,
+    marks: &[bool],
+    way: Way,
+    registers: u32,
+    stages: &[Stage<N>],
+) -> Result<(), AllocError>
+    requires columns { N ≤ 64 }
+    requires registers { registers ≤ 16 }
+    requires few { length stages.now ≤ 32768 }
+    ensures { OnOk result (text.new.items
+        ≡ text.old.items ++ kept_text way marks.now (stages_registers N registers 0 (map pes_of stages.now))) }
+{
+    for number in 0..stages.len() {
+        let pes = stages[number].pes.as_slice();
+        let lines = stage_registers(alloc, N as u32, registers, number as u32, pes)?;
+        put_lines(text, marks, way, &lines)?;
+    }
+    Ok(())
+}
+
+/// Adds the lines of the wires of stages, which are counted from 0.
+fn put_stages<const N: usize>(
+    alloc: Global,
+    text: &mut Vec<u8>,
+    marks: &[bool],
+    stages: &[Stage<N>],
+) -> Result<(), AllocError>
+    requires columns { N ≤ 64 }
+    requires few { length stages.now ≤ 32768 }
+    ensures { OnOk result (text.new.items
+        ≡ text.old.items ++ kept_text Way.Wire marks.now (stages_wires N 0 (map pes_of stages.now))) }
+{
+    for number in 0..stages.len() {
+        let pes = stages[number].pes.as_slice();
+        let lines = stage_wires(alloc, N as u32, number as u32, pes)?;
+        put_lines(text, marks, Way::Wire, &lines)?;
+    }
+    Ok(())
+}
+
+/// Adds the lines of the registers of a configuration.
+fn put_all_registers<const N: usize, const P: usize>(
+    alloc: Global,
+    text: &mut Vec<u8>,
+    marks: &[bool],
+    way: Way,
+    conf: &Configuration<N, P>,
+) -> Result<(), AllocError>
+    ensures { OnOk result (text.new.items
+        ≡ text.old.items ++ kept_text way marks.now (module_of N P (shape_of conf.now)).registers) }
+{
+    put_registers::<N>(alloc, text, marks, way, P as u32, &conf.stages)
+}
+
+/// Adds the lines of the wires of a configuration.
+fn put_all_wires<const N: usize, const P: usize>(
+    alloc: Global,
+    text: &mut Vec<u8>,
+    marks: &[bool],
+    conf: &Configuration<N, P>,
+) -> Result<(), AllocError>
+    ensures { OnOk result (text.new.items
+        ≡ text.old.items ++ kept_text Way.Wire marks.now (module_of N P (shape_of conf.now)).wires) }
+{
+    let taps = tap_lines::<N, P>(alloc, conf)?;
+    put_stages::<N>(alloc, text, marks, &conf.stages)?;
+    put_lines(
+        text,
+        marks,
+        Way::Wire,
+        &hand_lines(last_stage::<N, P>(conf)),
+    )?;
+    put_lines(text, marks, Way::Wire, &taps)
+}
+
+/// The widths of outputs.
+fn widths_of(alloc: Global, outputs: &[Output]) -> Result<Vec<u8>, AllocError>
+    ensures { IfOk result (λ widths. widths.items ≡ map (λ o. o.width) outputs.now) }
+{
+    let mut widths = Vec::new(alloc);
+    for output in outputs {
+        widths.push(output.width)?;
+    }
+    Ok(widths)
+}
+
+/// The ports of a program's inputs.
+fn input_ports<const N: usize, const P: usize>(
+    alloc: Global,
+    program: &Program,
+    conf: &Configuration<N, P>,
+) -> Result<Vec<Port>, AllocError>
+    ensures ports { IfOk result (λ ports.
+        ports.items ≡ ports_by Side.Input program.now (shape_of conf.now).inputs) }
+    ensures few { IfOk result (λ ports. length ports.items ≤ 64) }
+{
+    let names = port_names(alloc, Side::Input, &program.items)?;
+    ports_of(alloc, &names, &conf.inputs)
+}
+
+/// The ports of a program's outputs.
+fn output_ports<const N: usize, const P: usize>(
+    alloc: Global,
+    program: &Program,
+    conf: &Configuration<N, P>,
+) -> Result<Vec<Port>, AllocError>
+    ensures ports { IfOk result (λ ports.
+        ports.items ≡ ports_by Side.Output program.now (output_widths (shape_of conf.now))) }
+    ensures few { IfOk result (λ ports. length ports.items ≤ 64) }
+{
+    let names = port_names(alloc, Side::Output, &program.items)?;
+    let widths = widths_of(alloc, &conf.outputs)?;
+    ports_of(alloc, &names, &widths)
+}
+
+/// Adds the head of a module.
+fn put_head(text: &mut Vec<u8>, name: &str) -> Result<(), AllocError>
+    ensures { OnOk result (text.new.items ≡ text.old.items ++ head_text name.now) }
+{
+    put(text, "/* verilator lint_off UNUSED */\nmodule ")?;
+    put(text, name)?;
+    put(
+        text,
+        "(\n  input clock,\n  input reset,\n  input in_valid,\n  output in_ready,\n  output out_valid,\n  input out_ready",
+    )?;
+    Ok(())
+}
+
+/// Adds the head of a module with its ports.
+fn put_heading(
+    text: &mut Vec<u8>,
+    name: &str,
+    inputs: &[Port],
+    outputs: &[Port],
+) -> Result<(), AllocError>
+    ensures { OnOk result (text.new.items ≡ text.old.items ++ (head_text name.now
+        ++ ports_text Side.Input inputs.now ++ ports_text Side.Output outputs.now ++ codes "\n);\n")) }
+{
+    put_head(text, name)?;
+    put_ports(text, Side::Input, inputs)?;
+    put_ports(text, Side::Output, outputs)?;
+    put(text, "\n);\n")
+}
+
+/// The module of a program and its configuration, with this name.
+pub fn rtl<const N: usize, const P: usize>(
+    alloc: Global,
+    name: &str,
+    program: &Program,
+    conf: &Configuration<N, P>,
+) -> Result<Vec<u8>, AllocError>
+    ensures { IfOk result (λ text. text.items ≡ rtl_text N P name.now program.now (shape_of conf.now)) }
+{
+    let inputs = input_ports::<N, P>(alloc, program, conf)?;
+    let outputs = output_ports::<N, P>(alloc, program, conf)?;
+    let marks = marks_of::<N, P>(alloc, conf)?;
+    let mut text = Vec::new(alloc);
+    put_heading(&mut text, name, &inputs, &outputs)?;
+    put_side_lines(&mut text, Side::Input, &inputs)?;
+    put_all_registers::<N, P>(alloc, &mut text, &marks, Way::Declared, conf)?;
+    put_all_wires::<N, P>(alloc, &mut text, &marks, conf)?;
+    put_side_lines(&mut text, Side::Output, &outputs)?;
+    put(&mut text, "always @(posedge clock) begin\n")?;
+    put_all_registers::<N, P>(alloc, &mut text, &marks, Way::Clocked, conf)?;
+    put(&mut text, "end\nendmodule\n")?;
+    Ok(text)
+}
