@@ -2,7 +2,6 @@
 use Rattle.std.proofs.Common.{◌≡◌, ◌≤◌, ℕ, List, Some, subst}
 use Rattle.pr_edge.specs.Files.{Told}
 use Rattle.pr_edge.specs.Tape.{Tape}
-use Rattle.pr_compile_front.specs.declared.faults.FrontFault.TheVariants as front
 use Rattle.pr_compile_front.specs.declared.fronts.Front.{Front}
 use Rattle.pr_lang.specs.declared.trees.Program.{Program}
 use Rattle.pr_tool_answers.specs.declared.answers.Answer.{Answer}

@@ -1,5 +1,5 @@
-use Rattle.std.proofs.Common.{ℕ, List, ap}
-use Rattle.std.specs.Prelude.{Bor, option_map}
+use Rattle.std.proofs.Common.{Bor, ℕ, List, ap}
+use Rattle.std.specs.Prelude.{option_map}
 use Rattle.pr_lens_tool.specs.Orders.{asked_in}
 use Rattle.pr_lens_tool.proofs.StreamLemmas.{has_streams}
 use Rattle.pr_lens_tool.proofs.signals.of_samples.Goals as goal
