@@ -8,7 +8,7 @@ import re
 import select
 import subprocess
 import tempfile
-from collections.abc import Iterable, Iterator, Sequence
+from collections.abc import Callable, Iterable, Iterator, Sequence
 
 from ._find import executable
 from ._refused import Refused
@@ -126,14 +126,23 @@ class Call:
         self.stop()
 
 
+def pipe(
+    name: str, words: Sequence[str], folder: str | None, pieces: Iterable[bytes], take: Callable[[bytes], object]
+) -> tuple[int, str]:
+    """Calls a program to its end, and gives ``take`` what it writes, as it comes: its status and its note."""
+    with Call(name, words, folder) as running:
+        for data in running.exchange(pieces):
+            take(data)
+        return running.end()
+
+
 def call(
     name: str, words: Sequence[str], folder: str | None = None, pieces: Iterable[bytes] = ()
 ) -> tuple[int, str, bytes]:
-    """Calls a program to its end: its status, the last line of its standard error, and what it wrote."""
-    with Call(name, words, folder) as running:
-        written = b"".join(running.exchange(pieces))
-        status, note = running.end()
-    return status, note, written
+    """Calls a program to its end: its status, its note, and what it wrote."""
+    written: list[bytes] = []
+    status, note = pipe(name, words, folder, pieces, written.append)
+    return status, note, b"".join(written)
 
 
 def failure(name: str, status: int, note: str) -> Exception:

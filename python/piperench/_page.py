@@ -13,7 +13,8 @@ from . import plot, signals
 from ._program import Program
 from ._refused import Finding, Refused
 from ._reports import Cost
-from ._streams import Streams, numbers, streams_of, table_of
+from ._results import streams_of
+from ._streams import Streams, numbers, table_of
 
 #: How many rows are shown, and how many samples the schedule is drawn for.
 ROWS, SCHEDULED = 20, 48

@@ -5,17 +5,19 @@ from __future__ import annotations
 import os
 import re
 import tempfile
-from collections.abc import Iterable, Iterator, Sequence
+from collections.abc import Callable, Iterable, Iterator, Sequence
 from contextlib import contextmanager
 from functools import cached_property
 from pathlib import Path
 from typing import Any
 
 from . import _reports as reports
-from ._call import WAIT, Call, call, failure
+from ._call import WAIT, Call, call, failure, pipe
 from ._refused import Finding, Place, Refused
 from ._reports import Cost, Trace
-from ._streams import Port, Streams, counted_pieces, pieces_of, rows_of, streams_of
+from ._results import Results, rows_of, streams_of
+from ._samples import counted_pieces, pieces_of
+from ._streams import Port, Streams
 
 #: What `signed` takes: the names of the signed inputs and outputs, or True for all of them.
 Signed = bool | Iterable[str]
@@ -119,8 +121,9 @@ class Program:
 
     def trace(self, samples: Any, *, stripes: int | None = None, stall: str | None = None) -> Trace:
         """The results of the samples, and the log of each cycle."""
-        status, note, written = self._sampled("trace", samples, self._machine(stripes), stall)
-        trace = Trace(written.decode(), self.outputs)
+        written: list[bytes] = []
+        status, note = self._sampled("trace", samples, self._machine(stripes), stall, written.append)
+        trace = Trace(b"".join(written).decode(), self.outputs)
         if status:
             raise self._failure(status, note, samples, trace.results)
         return trace
@@ -227,10 +230,11 @@ class Program:
 
     def checkpoint(self, samples: Any, *, stripes: int | None = None, stall: str | None = None) -> "Checkpoint":
         """What the program has come to after the samples, and how many they were."""
-        status, note, made = self._sampled("checkpoint", samples, self._machine(stripes), stall)
+        written: list[bytes] = []
+        status, note = self._sampled("checkpoint", samples, self._machine(stripes), stall, written.append)
         if status:
             raise self._failure(status, note, samples, None)
-        return Checkpoint(made, stripes=self.stripes, inputs=self.inputs, outputs=self.outputs)
+        return Checkpoint(b"".join(written), stripes=self.stripes, inputs=self.inputs, outputs=self.outputs)
 
     def _named(self, made: bytes) -> list[Port]:
         widths = reports.widths_of(made)[1]
@@ -264,28 +268,29 @@ class Program:
             return call(name, [*task, "program.dil", *self._options(fabric), *options], folder)
 
     def _sampled(
-        self, mode: str, samples: Any, options: Sequence[str], stall: str | None
-    ) -> tuple[int, str, bytes]:
+        self, mode: str, samples: Any, options: Sequence[str], stall: str | None, take: Callable[[bytes], object]
+    ) -> tuple[int, str]:
         with self._folder(stall) as folder:
             if isinstance(samples, (str, os.PathLike)):
-                return call("piperench", self._words(mode, options, _existing(samples), stall), folder)
+                return pipe("piperench", self._words(mode, options, _existing(samples), stall), folder, (), take)
             pieces = pieces_of(samples, self.inputs)
-            return call("piperench", self._words(mode, options, "/dev/stdin", stall), folder, pieces)
+            return pipe("piperench", self._words(mode, options, "/dev/stdin", stall), folder, pieces, take)
 
     def _streams(self, mode: str, samples: Any, options: Sequence[str], stall: str | None = None) -> Streams:
-        status, note, written = self._sampled(mode, samples, options, stall)
+        results = Results(lambda: self.outputs)
+        status, note = self._sampled(mode, samples, options, stall, results.take)
         if status:
-            raise self._failure(status, note, samples, written)
-        return streams_of(written, self.outputs)
+            raise self._failure(status, note, samples, results)
+        return results.streams()
 
-    def _failure(self, status: int, note: str, samples: Any, written: bytes | Streams | None) -> Exception:
+    def _failure(self, status: int, note: str, samples: Any, results: Results | Streams | None) -> Exception:
         """The exception for an answer: a refusal has the place, and the words of ``pipelens why``."""
         error = failure("piperench", status, note)
         if not isinstance(error, Refused):
             return error
         bad = _BAD_LINE.match(note)
         if bad or status > 6:
-            return _of_samples(error, samples, streams_of(written, self.outputs) if isinstance(written, bytes) else written)
+            return _of_samples(error, samples, results.streams() if isinstance(results, Results) else results)
         try:
             errors = [finding for finding in self.why() if finding.severity == "error"]
         except (OSError, NotImplementedError, ValueError, MemoryError):
@@ -325,7 +330,9 @@ class _Stored:
         """Writes the bytes to a file, which ``piperench`` reads too."""
         Path(path).write_bytes(self.content)
 
-    def _call(self, mode: str, samples: Any, stripes: int | None, stall: str | None) -> tuple[int, str, bytes]:
+    def _call(
+        self, mode: str, samples: Any, stripes: int | None, stall: str | None, take: Callable[[bytes], object]
+    ) -> tuple[int, str]:
         size = self.stripes if stripes is None else _lawful_stripes(stripes)
         with tempfile.TemporaryDirectory(prefix="piperench-") as folder:
             Path(folder, "content").write_bytes(self.content)
@@ -334,19 +341,20 @@ class _Stored:
                 Path(folder, "stall.txt").write_text(stall)
                 options += ["--stall", "stall.txt"]
             if isinstance(samples, (str, os.PathLike)):
-                return call("piperench", [mode, "content", _existing(samples), *options], folder)
+                return pipe("piperench", [mode, "content", _existing(samples), *options], folder, (), take)
             # A damaged file may name no inputs; the program says what is wrong with it before it reads a sample.
             pieces = pieces_of(samples, self.inputs) if self.inputs else []
-            return call("piperench", [mode, "content", "/dev/stdin", *options], folder, pieces)
+            return pipe("piperench", [mode, "content", "/dev/stdin", *options], folder, pieces, take)
 
     def _streams(self, mode: str, samples: Any, stripes: int | None, stall: str | None) -> Streams:
-        status, note, written = self._call(mode, samples, stripes, stall)
+        results = Results(lambda: self.outputs)
+        status, note = self._call(mode, samples, stripes, stall, results.take)
         if status:
             error = failure("piperench", status, note)
             if isinstance(error, Refused) and status != 9:
-                raise _of_samples(error, samples, streams_of(written, self.outputs))
+                raise _of_samples(error, samples, results.streams())
             raise error
-        return streams_of(written, self.outputs)
+        return results.streams()
 
 
 class Configuration(_Stored):
@@ -400,11 +408,12 @@ class Checkpoint(_Stored):
 
     def extend(self, samples: Any, *, stripes: int | None = None, stall: str | None = None) -> "Checkpoint":
         """The checkpoint after further samples."""
-        status, note, made = self._call("extend", samples, stripes, stall)
+        written: list[bytes] = []
+        status, note = self._call("extend", samples, stripes, stall, written.append)
         if status:
             error = failure("piperench", status, note)
             raise _of_samples(error, samples, None) if isinstance(error, Refused) and status != 9 else error
-        return Checkpoint(made, stripes=self.stripes, inputs=self.inputs, outputs=self.outputs)
+        return Checkpoint(b"".join(written), stripes=self.stripes, inputs=self.inputs, outputs=self.outputs)
 
     def __repr__(self) -> str:
         return f"Checkpoint(after {self.samples} samples)"

@@ -11,7 +11,8 @@ from functools import cached_property
 
 from ._call import call, failure
 from ._refused import Finding, Place
-from ._streams import Port, Streams, column_of, streams_of
+from ._results import streams_of
+from ._streams import Port, Streams, column_of
 
 _CHECKPOINT = b"PICK"
 

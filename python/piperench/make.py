@@ -17,7 +17,8 @@ from dataclasses import dataclass, field
 from typing import Any
 
 from ._program import Program
-from ._streams import Port, _columns_of, numbers
+from ._samples import columns_of
+from ._streams import Port, numbers
 
 Rows = list[tuple[int, ...]]
 
@@ -52,7 +53,7 @@ class Made:
     def model(self, samples: Any) -> Rows:
         """The rows that the program is to make of the samples, by plain arithmetic on whole numbers."""
         columns: list[list[int]] = [[] for _ in self.inputs]
-        for part in _columns_of(samples, self.inputs, 1 << 16):
+        for part in columns_of(samples, self.inputs, 1 << 16):
             for column, more in zip(columns, part):
                 column.extend(numbers(more))
         return list(zip(*self.rule(columns)))

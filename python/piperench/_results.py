@@ -1,0 +1,138 @@
+"""Results as numbers: what comes out of a program."""
+
+from __future__ import annotations
+
+import json
+import sys
+from array import array
+from collections.abc import Callable, Iterable, Iterator, Sequence
+from typing import Any
+
+from . import _decimals as decimals
+from ._streams import Port, Streams, column_of, numpy
+
+# How many bytes of results are read at once, so that some are read while the program makes the next ones.
+_PIECE = 1 << 18
+
+_WITH_COMMAS = bytes.maketrans(b" \n", b",,")
+
+
+class Results:
+    """The results of a call. They are taken as they come, and become columns piece by piece.
+
+    ``outputs`` gives the outputs; it is asked when the first results are there, and not where there are none.
+    """
+
+    def __init__(self, outputs: Callable[[], Sequence[Port]]) -> None:
+        self._outputs = outputs
+        self._waiting: list[bytes] = []
+        self._size = 0
+        self._parts: list[list[Any]] = []
+
+    def take(self, data: bytes) -> None:
+        """Takes what comes next."""
+        self._waiting.append(data)
+        self._size += len(data)
+        if self._size >= _PIECE:
+            self._read()
+
+    def streams(self) -> Streams:
+        """The streams of the outputs. A last line without its LF counts for nothing."""
+        self._read()
+        ports = self._outputs()
+        parts = zip(*self._parts) if self._parts else [()] * len(ports)
+        return Streams({port.name: _joined(list(columns), port) for columns, port in zip(parts, ports)})
+
+    def _read(self) -> None:
+        """Makes columns of the lines that are whole."""
+        text = b"".join(self._waiting)
+        end = text.rfind(b"\n") + 1
+        if end:
+            self._parts.append(_columns_of(text[:end], self._outputs()))
+        self._waiting = [text[end:]]
+        self._size = len(text) - end
+
+
+def streams_of(lines: bytes, outputs: Sequence[Port]) -> Streams:
+    """The streams of the outputs, from the lines of results. A last line without its LF counts for nothing."""
+    results = Results(lambda: outputs)
+    results.take(lines)
+    return results.streams()
+
+
+def _columns_of(lines: bytes, ports: Sequence[Port]) -> list[Any]:
+    """A column for each output, from whole lines. It is a list where the output's width is not known."""
+    count = len(ports)
+    widest = max(port.width or 1 << 16 for port in ports)
+    if numpy is not None and widest <= 64:
+        values = decimals.array_of(lines)
+        return [_array_of(values[k::count], port) for k, port in enumerate(ports)]
+    if widest <= 8:
+        octets = decimals.bytes_of(lines)
+        return [_widened(octets[k::count], port) for k, port in enumerate(ports)]
+    # The reader of JSON takes less time than a call of int for each number.
+    values = json.loads(b"[" + lines[:-1].translate(_WITH_COMMAS) + b"]")
+    columns = [signed_values(values[k::count], port) for k, port in enumerate(ports)]
+    return [
+        column if port.width is None else column_of(column, port.width, port.signed) for column, port in zip(columns, ports)
+    ]
+
+
+def _array_of(values: Any, port: Port) -> Any:
+    """Numbers of a port as a column of numpy."""
+    assert port.width is not None
+    if port.width == 64:
+        return values.view(numpy.int64) if port.signed else numpy.ascontiguousarray(values)
+    column = values.view(numpy.int64)
+    return column - ((column >> port.width - 1) << port.width) if port.signed else numpy.ascontiguousarray(column)
+
+
+def _widened(octets: bytes, port: Port) -> Any:
+    """Numbers of a port of at most 8 bits as a column."""
+    assert port.width is not None
+    half = 1 << port.width - 1
+    wide = bytearray(8 * len(octets))
+    low, *above = range(8) if sys.byteorder == "little" else range(7, -1, -1)
+    if not port.signed:
+        wide[low::8] = octets
+    else:
+        wide[low::8] = octets.translate(bytes(n if n < half else (n - 2 * half) % 256 for n in range(256)))
+        signs = octets.translate(bytes(0 if n < half else 255 for n in range(256)))
+        for place in above:
+            wide[place::8] = signs
+    return array("q", wide)
+
+
+def _joined(parts: list[Any], port: Port) -> Any:
+    """A column of all its parts."""
+    if port.width is None:
+        return column_of([value for part in parts for value in part], None, port.signed)
+    if not parts:
+        return column_of([], port.width, port.signed)
+    if len(parts) > 1 and numpy is not None:
+        return numpy.concatenate(parts)
+    first, *others = parts
+    for part in others:
+        first.extend(part)
+    return first
+
+
+def signed_values(values: list[int], port: Port) -> list[int]:
+    """The values that numbers of a port stand for."""
+    if not port.signed:
+        return values
+    if port.width is None:
+        raise ValueError(f"the width of {port.name} is not known, so it has no signed numbers")
+    half = 1 << port.width - 1
+    return [(value ^ half) - half for value in values]
+
+
+def rows_of(lines: Iterable[bytes], outputs: Sequence[Port]) -> Iterator[tuple[int, ...]]:
+    """The row of each line of results."""
+    if len(outputs) == 1 and not outputs[0].signed:
+        for line in lines:
+            yield (int(line),)
+        return
+    halves = [1 << port.width - 1 if port.signed and port.width else 0 for port in outputs]
+    for line in lines:
+        yield tuple([(int(word) ^ half) - half for word, half in zip(line.split(), halves)])

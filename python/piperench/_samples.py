@@ -1,0 +1,160 @@
+"""Samples as text: what goes into a program."""
+
+from __future__ import annotations
+
+import operator
+from array import array
+from collections.abc import Iterable, Iterator, Mapping, Sequence
+from itertools import islice
+from typing import Any
+
+from . import _decimals as decimals
+from ._streams import Port, Streams, numbers, numpy
+
+#: How many samples are written in one piece.
+CHUNK = 1 << 16
+
+# What is cut into parts of the same kind. So is an array of numpy.
+_CUT = (list, tuple, range, bytes, bytearray)
+
+
+def pieces_of(samples: Any, inputs: Sequence[Port]) -> Iterator[bytes]:
+    """The lines of samples, in pieces."""
+    return (text for _, text in counted_pieces(samples, inputs, CHUNK))
+
+
+def counted_pieces(samples: Any, inputs: Sequence[Port], chunk: int) -> Iterator[tuple[int, bytes]]:
+    """The lines of samples, in pieces of at most ``chunk`` samples, with the number of samples in each."""
+    done = 0
+    for columns in columns_of(samples, inputs, chunk):
+        yield len(columns[0]), _text_of(columns, inputs, done)
+        done += len(columns[0])
+
+
+def columns_of(samples: Any, inputs: Sequence[Port], chunk: int) -> Iterator[list[Any]]:
+    """A column for each input, of at most ``chunk`` samples at a time."""
+    if isinstance(samples, (Mapping, Streams)):
+        yield from _chunks_of_mapping(samples, inputs, chunk)
+        return
+    for part in _chunks(samples, chunk):
+        if not hasattr(part[0], "__len__"):
+            columns = [part]
+        elif _is_array(part):
+            columns = list(part.T)
+        else:
+            columns = _taken_apart(part, len(inputs))
+        if len(columns) != len(inputs):
+            raise ValueError(f"a sample has {len(inputs)} numbers, one for each of {', '.join(p.name for p in inputs)}")
+        yield columns
+
+
+def _taken_apart(rows: Sequence[Sequence[Any]], count: int) -> list[list[Any]]:
+    """The columns of rows of so many numbers, and none where a row has another number of them."""
+    if count == 2:
+        try:
+            # Taking a pair apart tests its length, and that is faster than a test before.
+            return [[first for first, _ in rows], [second for _, second in rows]]
+        except ValueError:
+            return []
+    if [*map(len, rows)].count(count) != len(rows):
+        return []
+    return [list(map(operator.itemgetter(place), rows)) for place in range(count)]
+
+
+def _chunks_of_mapping(samples: Mapping[str, Any] | Streams, inputs: Sequence[Port], chunk: int) -> Iterator[list[Any]]:
+    names = [port.name for port in inputs]
+    if set(samples.keys()) != set(names):
+        raise ValueError(f"the inputs are {', '.join(names)}, and the samples are of {', '.join(samples.keys())}")
+    streams = [samples[name] for name in names]
+    if len(set(map(len, streams))) > 1:
+        raise ValueError("the streams of the samples are not equally long")
+    for columns in zip(*(_chunks(stream, chunk) for stream in streams)):
+        yield list(columns)
+
+
+def _chunks(values: Any, chunk: int) -> Iterator[Any]:
+    """The values in parts of at most ``chunk``. Nothing is taken apart as a whole."""
+    if isinstance(values, (str, Mapping)):
+        raise TypeError(f"samples are whole numbers, and not {type(values).__name__}")
+    if isinstance(values, _CUT) or hasattr(values, "tolist"):
+        stays = isinstance(values, _CUT) or _is_array(values)
+        for start in range(0, len(values), chunk):
+            part = values[start : start + chunk]
+            yield part if stays else part.tolist()
+        return
+    source = iter(values)
+    while part := list(islice(source, chunk)):
+        yield part
+
+
+def _is_array(values: Any) -> bool:
+    return numpy is not None and isinstance(values, numpy.ndarray)
+
+
+# The text of a piece
+
+def _text_of(columns: list[Any], inputs: Sequence[Port], done: int) -> bytes:
+    """The lines of these columns, after so many samples, by the fastest way that there is to write them."""
+    pairs = list(zip(columns, inputs))
+    if all(port.width is not None and port.width <= 8 for port in inputs) and not any(map(_is_array, columns)):
+        try:
+            return decimals.lines_of_bytes([_plain_bytes(column, port) for column, port in pairs])
+        except (ValueError, OverflowError):
+            pass  # A number is too large or negative.
+    if numpy is not None:
+        arrays = [_plain_array(numpy.asarray(column), port) for column, port in pairs]
+        if all(map(_is_array, arrays)):
+            return decimals.lines_of_arrays(arrays)
+    return decimals.lines_of([_plain_numbers(column, port, done) for column, port in pairs])
+
+
+def _plain_array(column: Any, port: Port) -> Any:
+    """An array of numpy as the numbers to write, or None where numpy has not all that is asked for."""
+    if column.dtype.kind not in "iu" or column.ndim != 1 or port.signed and (port.width is None or port.width > 64):
+        return None
+    if not port.signed:
+        return column if column.min() >= 0 else None
+    half = 1 << port.width - 1
+    if int(column.min()) < -half or int(column.max()) >= half:
+        return None
+    return column.astype(numpy.int64).view(numpy.uint64) & ((half << 1) - 1)
+
+
+def _plain_bytes(column: Any, port: Port) -> bytes:
+    """Numbers of at most 8 bits as the bytes to write. Raises ValueError or OverflowError where one has more."""
+    assert port.width is not None
+    if not port.signed:
+        return bytes(column)
+    half = 1 << port.width - 1
+    made = array("b", list(column)).tobytes()
+    lawful = array("b", range(-half, half)).tobytes()
+    if made.translate(None, lawful):
+        raise ValueError
+    return made.translate(bytes(n & (half << 1) - 1 for n in range(256)))
+
+
+def _plain_numbers(column: Any, port: Port, done: int) -> list[int]:
+    """Numbers of any size as those to write."""
+    if not port.signed:
+        return _whole_numbers(column)
+    values = numbers(column)
+    if port.width is None:
+        raise ValueError(f"the width of {port.name} is not known, so it has no signed numbers")
+    half = 1 << port.width - 1
+    if -half <= min(values) and max(values) < half:
+        return [value & (half << 1) - 1 for value in values]
+    place = next(k for k, value in enumerate(values) if not -half <= value < half)
+    raise ValueError(
+        f"sample {done + place + 1}: {values[place]} of {port.name} is no signed number of {port.width} bits, "
+        f"which are {-half} to {half - 1}"
+    )
+
+
+def _whole_numbers(column: Any) -> list[int]:
+    """A column as whole numbers. An array is the fastest test whether it has no others."""
+    values = column.tolist() if hasattr(column, "tolist") else list(column)
+    try:
+        array("Q", values)
+    except OverflowError:
+        return numbers(values)
+    return values
