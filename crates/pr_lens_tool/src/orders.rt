@@ -101,12 +101,7 @@ fn is_name_byte(byte: u8) -> bool
 fn are_name_bytes(bytes: &[u8]) -> bool
     ensures { result ≡ are_name_bytes bytes.now }
 {
-    for byte in bytes {
-        if !is_name_byte(*byte) {
-            return false;
-        }
-    }
-    true
+    bytes.iter().all(|&byte| is_name_byte(byte))
 }
 
 /// Whether a module may have this name: a letter or an underscore, then such or digits.
