@@ -99,13 +99,6 @@ x,y
 3,3
 4,4
 ! bad sample: line 4
-$ pipelens signals p q --csv
-= 10
-x,y
-! read fault: q
-$ pipelens signals q s --csv
-= 10
-! read fault: q
 $ pipelens signals p s --csv
 input x:8
 output y = x;
