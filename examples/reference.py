@@ -66,6 +66,12 @@ def edge_detector(rows):
     return [[slope % 2**9, int(any(steep[max(0, n - 3):n + 1]))] for n, slope in enumerate(slopes)]
 
 
+@example("guide/signed-taps")
+def signed_taps(rows):
+    x = [signed(v, 8) for v, in rows]
+    return [[(3 * x[n] - 7 * at(x, n - 1)) % 2**17] for n in range(len(x))]
+
+
 @example("guide/minute")
 def minute(rows):
     x = column(rows)
