@@ -76,6 +76,8 @@ def _chunks(values: Any, chunk: int) -> Iterator[Any]:
     """The values in parts of at most ``chunk``. Nothing is taken apart as a whole."""
     if isinstance(values, (str, Mapping)):
         raise TypeError(f"samples are whole numbers, and not {type(values).__name__}")
+    if numpy is not None and isinstance(values, array):
+        values = numpy.asarray(values)
     if isinstance(values, _CUT) or hasattr(values, "tolist"):
         stays = isinstance(values, _CUT) or _is_array(values)
         for start in range(0, len(values), chunk):
