@@ -171,11 +171,12 @@ class Program:
             raise self._failure(status, note, None, None)
 
     def signals(self, samples: Any, *, signed: Iterable[str] = ()) -> Streams:
-        """Every name of the program as a stream. ``signed`` names further streams that are read as signed.
+        """Every name of the program as a stream. ``signed`` names further streams that are read as two's complement.
 
-        Raises NotImplementedError where the built ``pipelens`` cannot tell them.
+        Raises ValueError where ``signed`` names no stream, or one whose width is not known: a program that shows it has to fit.
         """
-        names = sorted({*signed, *(port.name for port in self.inputs + self.outputs if port.signed)})
+        ports = [port.name for port in self.inputs + self.outputs if port.signed]
+        widths = {name: self._width_of(name) for name in sorted({*signed, *ports})}
         with self._folder() as folder:
             if isinstance(samples, (str, os.PathLike)):
                 file = _existing(samples)
@@ -183,15 +184,23 @@ class Program:
                 file = "samples.txt"
                 with open(os.path.join(folder, file), "wb") as written:
                     written.writelines(pieces_of(samples, self.inputs))
-            words = ["signals", "program.dil", file, "--csv", *self._options()]
-            if names:
-                words += ["--signed", ",".join(names)]
-            status, note, told = call("pipelens", words, folder)
-        if status == 2:
-            raise NotImplementedError("the built pipelens has no task `signals`")
+            status, note, told = call("pipelens", ["signals", "program.dil", file, "--csv", *self._options()], folder)
         if status:
             raise self._failure(status, note, samples, None)
-        return reports.read_columns(told)
+        return reports.read_columns(told, widths)
+
+    def _width_of(self, name: str) -> int:
+        """The width of a stream: that of its port, or of an output that shows it."""
+        for port in self.inputs + self.outputs:
+            if port.name == name and port.width is not None:
+                return port.width
+        shown = "shown"
+        while shown in self.text:
+            shown += "_"
+        width = Program(f"{self.text}\noutput {shown} = {name};\n", fabric="wide").outputs[-1].width
+        if width is None:
+            raise ValueError(f"signed names {name}, whose width is not known")
+        return width
 
     # What is told of a program
 

@@ -5,7 +5,7 @@ from __future__ import annotations
 import html
 import json
 import re
-from collections.abc import Sequence
+from collections.abc import Mapping, Sequence
 from dataclasses import dataclass, field
 from functools import cached_property
 
@@ -191,24 +191,27 @@ def findings_of_text(told: str, path: str | None) -> list[Finding]:
 
 # Columns
 
-def read_columns(told: bytes) -> Streams:
-    """A text of a line of names and a line of whole numbers for each sample, with commas between."""
+def read_columns(told: bytes, signed: Mapping[str, int]) -> Streams:
+    """A text of a line of names and a line of numbers for each sample, with commas between, and the widths of signed streams."""
     head, _, rest = told.partition(b"\n")
     names = [name.strip() for name in head.decode().strip().split(",")]
     values = list(map(int, rest.replace(b",", b" ").split()))
     count = len(names)
     if len(values) % count:
         raise ValueError(f"a line has not {count} numbers")
-    columns = [values[k::count] for k in range(count)]
-    return Streams({name: column_of(column, *_kind(column)) for name, column in zip(names, columns)})
+    streams = {}
+    for k, name in enumerate(names):
+        column = values[k::count]
+        width = signed.get(name)
+        if width is not None:
+            column = [value - (value >> width - 1 << width) for value in column]
+        streams[name] = column_of(column, width or _bits(column), width is not None)
+    return Streams(streams)
 
 
-def _kind(values: Sequence[int]) -> tuple[int, bool]:
-    """The bits that a column needs, and whether it is signed."""
-    low, high = min(values, default=0), max(values, default=0)
-    if low < 0:
-        return max((~low).bit_length(), high.bit_length()) + 1, True
-    return max(high.bit_length(), 1), False
+def _bits(values: Sequence[int]) -> int:
+    """The bits that a column needs."""
+    return max(max(values, default=0).bit_length(), 1)
 
 
 def escaped(text: str) -> str:

@@ -181,15 +181,17 @@ class Further(unittest.TestCase):
     def test_signals(self) -> None:
         text = "input x:8; let twice:9 = x + x; let less:9 = twice - 3; output y = less;"
         program = Program(text, signed=["y"])
-        try:
-            streams = program.signals(VALUES, signed=["less"])
-        except NotImplementedError as error:
-            self.assertIn("signals", str(error))
-            return
+        streams = program.signals(VALUES, signed=["less"])
+        self.assertEqual(streams.names, ("x", "twice", "less", "y"))
         self.assertEqual(list(streams["x"]), VALUES)
         self.assertEqual(list(streams["twice"]), [2 * x for x in VALUES])
         expected = [(2 * x - 3 + 256) % 512 - 256 for x in VALUES]
         self.assertEqual((list(streams["less"]), list(streams["y"])), (expected, expected))
+        self.assertEqual(list(Program(text).signals(VALUES)["less"]), [(2 * x - 3) % 512 for x in VALUES])
+        with self.assertRaisesRegex(ValueError, "signed names more"):
+            program.signals(VALUES, signed=["more"])
+        with self.assertRaises(Refused):
+            program.signals([256])
 
     def test_the_deepest_program_finds_its_stack(self) -> None:
         # A tree of some 32,000 levels: brackets around chains around brackets, each as long as nesting allows.

@@ -202,16 +202,11 @@ class Answers(unittest.TestCase):
             self.assertEqual(os.path.dirname(executable("piperench")), os.environ[FOLDER])
             self.assertEqual(Program(SUM).run([1]).rows(), [(7,)])
 
-    def test_a_lens_that_knows_no_signals(self) -> None:
-        with stand_in("pipelens", "echo 'usage: pipelens TASK FILE ..' >&2; exit 2"):
-            with self.assertRaises(NotImplementedError):
-                Program(SUM).signals([1])
-
-    def test_columns_of_a_lens_that_knows_signals(self) -> None:
-        with stand_in("pipelens", "test \"$1 $4 $7 $8\" = 'signals --csv --signed k,x' || exit 9; printf 'x,t[0],k\\n1,18446744073709551615,-1\\n2,3,-128\\n'"):
-            streams = Program(SUM, signed=["x"]).signals([1, 2], signed=["k"])
-        self.assertEqual(streams.names, ("x", "t[0]", "k"))
-        self.assertEqual(list(streams), [(1, 2**64 - 1, -1), (2, 3, -128)])
+    def test_columns_of_signals(self) -> None:
+        with stand_in("pipelens", "test \"$1 $4\" = 'signals --csv' || exit 9; printf 'x,t[0]\\n1,18446744073709551615\\n128,3\\n'"):
+            streams = Program(SUM, signed=["x"]).signals([1, 2])
+        self.assertEqual(streams.names, ("x", "t[0]"))
+        self.assertEqual(list(streams), [(1, 2**64 - 1), (-128, 3)])
 
 
 class Findings(unittest.TestCase):
