@@ -8,6 +8,7 @@ import re
 from collections.abc import Mapping, Sequence
 from dataclasses import dataclass, field
 from functools import cached_property
+from typing import Any
 
 from ._call import call, failure
 from ._refused import Finding, Place
@@ -191,27 +192,34 @@ def findings_of_text(told: str, path: str | None) -> list[Finding]:
 
 # Columns
 
-def read_columns(told: bytes, signed: Mapping[str, int]) -> Streams:
-    """A text of a line of names and a line of numbers for each sample, with commas between, and the widths of signed streams."""
+def read_columns(told: bytes, signed: Mapping[str, int] | None = None) -> Streams:
+    """A text of a line of names and a line of whole numbers for each sample, with commas between.
+
+    ``signed`` has the widths of streams whose numbers are two's complement.
+    """
     head, _, rest = told.partition(b"\n")
     names = [name.strip() for name in head.decode().strip().split(",")]
     values = list(map(int, rest.replace(b",", b" ").split()))
     count = len(names)
     if len(values) % count:
         raise ValueError(f"a line has not {count} numbers")
-    streams = {}
-    for k, name in enumerate(names):
-        column = values[k::count]
-        width = signed.get(name)
-        if width is not None:
-            column = [value - (value >> width - 1 << width) for value in column]
-        streams[name] = column_of(column, width or _bits(column), width is not None)
-    return Streams(streams)
+    widths = signed or {}
+    return Streams({name: _column(values[k::count], widths.get(name)) for k, name in enumerate(names)})
 
 
-def _bits(values: Sequence[int]) -> int:
-    """The bits that a column needs."""
-    return max(max(values, default=0).bit_length(), 1)
+def _column(values: list[int], width: int | None) -> Any:
+    """The column of a stream; with a width, its numbers are two's complement of so many bits."""
+    if width is None:
+        return column_of(values, *_kind(values))
+    return column_of([value - (value >> width - 1 << width) for value in values], width, True)
+
+
+def _kind(values: Sequence[int]) -> tuple[int, bool]:
+    """The bits that a column needs, and whether it is signed."""
+    low, high = min(values, default=0), max(values, default=0)
+    if low < 0:
+        return max((~low).bit_length(), high.bit_length()) + 1, True
+    return max(high.bit_length(), 1), False
 
 
 def escaped(text: str) -> str:
