@@ -1,4 +1,6 @@
-//! Configuration files and checkpoints: what is written, and what is read, which is exactly that.
+//! Configuration files and checkpoints: writing them (`encode`, `write_mark`) and reading them (`decode`, `read_mark`).
+//!
+//! The two are inverse: `files_law` and `marks_law` say that a file is read as what was written, and as nothing else.
 #![tactic(auto)]
 
 mod decoding;

@@ -83,10 +83,13 @@ pub fn compile_front<const N: usize, const P: usize>(
     configure(alloc, &flat, &widths)
 }
 
-/// The configuration of the program of a text, on N columns and P registers, and how many units it was made of, with its
-/// equations narrowed where that is asked for; else the first point that refuses the text: a token that is nested too deep or
-/// breaks the grammar, a broken rule of scope or too many turns, too many equations, an equation without a width, too many
-/// bytes of input, outputs or units, or a group that fits in no stripe.
+/// Compiles a text for N columns and P registers, narrowed or not, and counts the units.
+///
+/// # Errors
+///
+/// The first point that refuses the text, in this order: a token that breaks the grammar or is nested too deep, a
+/// broken scope rule or too many turns, too many equations, an equation without a width, too many bytes of input,
+/// outputs or units, or a group that fits in no stripe.
 pub fn compile_counted<const N: usize, const P: usize>(
     alloc: Global,
     text: &[u8],
@@ -106,8 +109,7 @@ pub fn compile_counted<const N: usize, const P: usize>(
     Ok(compiled)
 }
 
-/// The configuration of the program of a text, with its equations as they are; else the first point that refuses the text, as
-/// `compile_counted` says.
+/// Compiles a text, not narrowed. The errors are those of `compile_counted`.
 pub fn compile<const N: usize, const P: usize>(
     alloc: Global,
     text: &[u8],
@@ -124,8 +126,8 @@ pub fn compile<const N: usize, const P: usize>(
     Ok(compiled.conf)
 }
 
-/// The configuration of the program of a text, with its equations narrowed; else the first point that refuses the text. The
-/// limits of units and the group that fits in no stripe are those of the narrowed equations.
+/// Compiles a text, narrowed. The errors are those of `compile_counted`, and the limits of the net are those of the
+/// narrowed equations.
 pub fn compile_narrow<const N: usize, const P: usize>(
     alloc: Global,
     text: &[u8],

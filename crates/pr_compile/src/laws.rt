@@ -16,10 +16,10 @@ ghost use Rattle.pr_base.specs.Laws.{AtMostOne, NeverBoth};
 ghost use Rattle.pr_compile.specs.Meant.{IsMeant};
 ghost use Rattle.pr_compile.specs.Refusals.{IsNetRefusal, IsRefused};
 
-/// The configuration of equations keeps every rule of the fabric. That of a program does what the program means, and so does
-/// the configuration of a text, whichever of its programs is asked, with its equations narrowed or as they are: the inputs are
-/// the program's, the outputs are as wide as its streams, and the results are its rows, as numbers and as bytes, for every
-/// list of lawful samples. Narrowed equations take no more units.
+/// The configuration of equations keeps every rule of the fabric. The configuration of a program, or of a text, does
+/// what the program means, narrowed or not. Its inputs are the program's, its outputs are as wide as the program's
+/// streams, and for every list of lawful samples its results are the program's rows, as numbers and as bytes. Narrowed
+/// equations take no more units.
 pub fn meaning_law()
     ensures lawful { (N P : ℕ) (equations : List EquationShape) (widths : List ℕ) (outputs : List Operand)
         (conf : Shape) → 1 ≤ N → N ≤ 64 → 2 ≤ P → P ≤ 16 → IsConfigured N P equations widths outputs conf
@@ -33,9 +33,9 @@ pub fn meaning_law()
     ensures fewer { (text : List ℕ) (whole few : ℕ) → HasUnits false text whole → HasUnits true text few → few ≤ whole }
 {}
 
-/// Equations have one configuration at most, and a net one refusal at most, and none where its equations have a
-/// configuration. The programs of a text have the same equations and widths, and one list of equations is ready in their
-/// place. So a text has one configuration at most, or one refusal, with its equations narrowed or as they are.
+/// Equations have one configuration at most. A net has one refusal at most, and none where its equations have a
+/// configuration. All programs of a text have the same equations and widths, and narrowing has one result. So a text
+/// has one configuration at most, or one refusal at most, and never both, narrowed or not.
 pub fn answer_law()
     ensures conf { (N P : ℕ) (equations : List EquationShape) (widths : List ℕ) (outputs : List Operand)
         → AtMostOne (IsConfigured N P equations widths outputs) }

@@ -1,4 +1,5 @@
-//! A program from its text, with its equations and their widths, or the first point that refuses it.
+//! The first half of the compiler: from a text to its program, the program's equations and their widths, or to the
+//! first point that refuses the text.
 #![tactic(auto)]
 
 mod faults;

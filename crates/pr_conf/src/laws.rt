@@ -6,8 +6,8 @@ ghost use Rattle.pr_conf.specs.Rules.{IsLawful};
 ghost use Rattle.pr_conf.specs.Through.{results_of};
 ghost use Rattle.pr_conf.specs.After.{conf_after};
 
-/// What a configuration is after some samples: a configuration of the same fabric that makes of the samples that follow
-/// what the first one makes of them where they follow. The counts of columns and registers are those of the fabric.
+/// A configuration after some samples is a configuration of the same fabric. It makes of further samples what the first
+/// one makes of them behind these samples. N and P are the columns and registers of the fabric.
 pub fn after_law()
     ensures lawful { (N P : ℕ) (c : Shape) (xs : List (List ℕ)) → IsLawful N P c → IsLawful N P (conf_after N P c xs) }
     ensures results { (N P : ℕ) (c : Shape) (xs ys : List (List ℕ))

@@ -5,8 +5,8 @@ ghost use Rattle.pr_control.specs.Time.{before, event, occupant, turn};
 ghost use Rattle.pr_control.specs.Residents.{Resides, Computes, Active};
 ghost use Rattle.pr_control.specs.Counts.{turns_in};
 
-/// What a plan works with is what the events say: a stripe holds the stage that its last event brought, and stage s
-/// computes in cycle t where it is resident and the event spares its stripe.
+/// A stripe holds the stage that its last event brought. Stage s computes in cycle t where a stripe holds it and no
+/// event falls on that stripe in this cycle.
 pub fn residence_law()
     ensures held { (v p t s i : ℕ) → (occupant v p i t ≡ Some s) ↔ Resides v p t s i }
     ensures computes { (v p t s : ℕ) → 0 < p → s < v → (turn v p (t - s) ≡ true) ↔ Active v p t s }
@@ -37,8 +37,8 @@ pub fn lasting_law()
     ensures stays { (v p t s i u : ℕ) → v ≤ p → 0 < p → event v p t ≡ Some (s, i) → t < u → Computes v p u s i }
 {}
 
-/// What an event finds in its stripe: with more stages than stripes the stage that came p cycles before, and none in the
-/// first p cycles; with no more stages than stripes none.
+/// With more stages than stripes, an event finds in its stripe the stage that came p cycles before, and none in the
+/// first p cycles. With no more stages than stripes it finds none.
 pub fn finding_law()
     ensures found { (v p t : ℕ) → p < v → 0 < p → p ≤ t → Resides v p t ((t - p) % v) (t % p) }
     ensures none_yet { (v p t s : ℕ) → p < v → 0 < p → t < p → Resides v p t s (t % p) → ⊥ }

@@ -1,8 +1,8 @@
-//! The outside: files that are read and bytes that are written, with the cause of each failure, and such files and
-//! sinks in memory.
+//! Files and output as traits: a `Shelf` reads files, a `Sink` takes bytes. Both have implementations in memory, for
+//! tests and proofs.
 //!
-//! A shelf and a sink count their failures. The count is how a caller proves that a failure that it answers was one
-//! of the outside, and not one of its own making.
+//! A shelf and a sink count their failures. By that count a caller proves that a failure which it reports came from
+//! outside, and not from itself.
 #![tactic(auto)]
 
 mod finding;

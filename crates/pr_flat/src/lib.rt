@@ -1,4 +1,5 @@
-//! Flat equations between streams, and what each operator makes of its operands.
+//! Equations between streams, without functions and loops, and what each operator makes of its operands
+//! (`specs/Rows.antt`).
 #![tactic(auto)]
 
 mod equations;

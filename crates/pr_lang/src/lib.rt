@@ -1,4 +1,4 @@
-//! The stream language: its tokens and its syntax trees, and what they mean as definitions that contracts cite.
+//! The stream language DIL: its tokens, its syntax trees, and its grammar as a definition.
 #![tactic(auto)]
 
 mod names;

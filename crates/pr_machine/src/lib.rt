@@ -1,6 +1,8 @@
 //! A machine that runs many stages on a few stripes.
 //!
-//! What a machine does is said by the history of its calls: see `Stands`.
+//! Begin at `Machine`: `load` gives it a configuration, `offer` a sample, `take` takes a result, and `cycle` lets the
+//! stripes work once. The contracts say what a machine holds by the history of its calls: see `Stands` in
+//! `specs/Stands.antt`.
 #![tactic(auto)]
 
 mod buffers;

@@ -53,7 +53,7 @@ pub struct Machine<const N: usize, const P: usize, S: Condition<N, P>> {
     pub(crate) parts: S::Parts,
 }
 
-/// There was no memory to load a configuration: the machine and the configuration as they were.
+/// There was no memory to load a configuration. This hands back the machine and the configuration as they were.
 #[derive(Drop)]
 pub struct LoadRefused<const N: usize, const P: usize> {
     /// The machine.

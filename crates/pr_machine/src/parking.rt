@@ -32,7 +32,7 @@ pub struct Parked<const N: usize, const P: usize> {
     ghost buffer: { bytes_in (output_widths (shape_of conf)) ≤ vec_capacity buffers.result },
 }
 
-/// There was no memory to park a configuration: the configuration as it was.
+/// There was no memory to park a configuration. This hands back the configuration as it was.
 #[derive(Drop)]
 pub struct ParkRefused<const N: usize, const P: usize> {
     /// The configuration.

@@ -1,4 +1,4 @@
-//! Programs from texts, and texts from programs.
+//! The parser: from tokens to a program (`parse`), and from a program to a text (`print`).
 #![tactic(auto)]
 
 mod build;

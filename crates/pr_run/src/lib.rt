@@ -1,6 +1,7 @@
-//! A whole run of a machine: samples are read, results are written, and it ends when nothing is in flight.
+//! A whole run of a machine: samples are read, results are written, and the run ends when nothing is in flight.
 //!
-//! What a run does is said by the turns of `pr_run_script`, which know counts and no machine: see `Ran`.
+//! Begin at `run`. Its contract says which lines are written, by the definitions of `pr_run_script`. These speak of
+//! turns and counts, and know no machine.
 #![tactic(auto)]
 
 mod cycling;

@@ -95,15 +95,18 @@ impl<'a> Walk<'a> {
     }
 }
 
-/// Runs the samples of a feed through a machine that was just loaded, and writes the line of each result.
+/// Runs the samples of a feed through a machine that was just loaded, and writes the line of each result. No memory is
+/// taken.
 ///
-/// In each turn a sample is read and offered where the input side is free and its queue has room, all waiting results
-/// are taken and written where the output side is free, and the machine is asked for one cycle. The run is over when
-/// the samples have ended and no result is under way. With `log` the line of each cycle is written too, and at last one
-/// with the numbers. No memory is taken.
+/// Each turn has three steps:
 ///
-/// After a write fault the first bytes of the text are written, and the machine may hold results. The stall text and
-/// the room are changed by every run.
+/// 1. Read a sample and offer it, if the input side is free and its queue has room.
+/// 2. Take and write all waiting results, if the output side is free.
+/// 3. Ask the machine for one cycle.
+///
+/// The run is over when the samples have ended and no result is under way. With `log` each cycle has its line, and the
+/// last line has the numbers. After a write fault the first bytes of the text are written, and the machine may hold
+/// results. Every run changes the stall text and the room.
 pub fn run<const N: usize, const P: usize, S: Shelf, K: Sink>(
     machine: &mut Machine<N, P, Running>,
     feed: &mut Feed,

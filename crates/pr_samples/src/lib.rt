@@ -1,4 +1,5 @@
-//! Samples that are read line by line from a file of any size, lines of results, and stall texts.
+//! Samples that are read line by line from a file of any size (`Feed`), lines of results (`put_result`), and stall
+//! texts (`Stall`).
 #![tactic(auto)]
 
 mod digits;

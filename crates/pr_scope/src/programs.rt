@@ -51,8 +51,11 @@ fn walk_items(alloc: Global, made: &mut Made, items: &[Item]) -> Result<(), Scop
     end(made, number)
 }
 
-/// The program, where it keeps the rules of scope; else the first point of the walk that breaks one, or that passes the
-/// number of turns. A refusal gives the program up.
+/// Checks the scope rules of a program.
+///
+/// # Errors
+///
+/// The first point of the walk that breaks a rule or passes the limit of turns. A refusal gives the program up.
 pub fn check(alloc: Global, program: Program) -> Result<Scoped, ScopeFault>
     ensures ok { IfOk result (λ s. s.program ≡ program) }
     ensures err { IfErr result (λ e. IsRefusal e (offence program)) }

@@ -1,4 +1,7 @@
-//! The tool: words in, results out.
+//! The whole tool as one call: the words of a command line, files and sinks in; an answer out.
+//!
+//! Begin at `piperench`. It reads the words to a `Plan` (`plan_of`) and carries that out (`carry_out`). Its clauses are
+//! the claims about the whole product.
 #![tactic(auto)]
 
 mod laws;

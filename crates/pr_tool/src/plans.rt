@@ -12,21 +12,21 @@ use pr_tool_words::{GenSize, Mode, Options, Words};
 /// What is done for a command line.
 #[derive(Clone, Copy, PartialEq, Eq, Debug)]
 pub enum Plan<'a> {
-    /// A text of the configuration of a source is written.
+    /// Write a configuration, as its file or its summary.
     Texts { form: Form, source: Source<'a> },
-    /// The configuration of a source is run on samples.
+    /// Run a configuration on samples.
     Runs(Job<'a>),
-    /// The configuration of a source is run for the checkpoint after its samples.
+    /// Run a configuration on samples, and write the checkpoint after them.
     Folds(Job<'a>),
-    /// A run goes on from a checkpoint.
+    /// Go on from a checkpoint, and write the lines.
     Moves(Resumption<'a>),
-    /// It does so for the next checkpoint.
+    /// Go on from a checkpoint, and write the next one.
     Extends(Resumption<'a>),
-    /// A program is evaluated on samples.
+    /// Evaluate a program on samples.
     Evaluates { program: &'a str, samples: &'a str },
-    /// A generated program is run.
+    /// Run a generated program.
     Generates(Generation),
-    /// The programs of a list take turns.
+    /// Run the programs of a list in turns.
     Shares(Sharing<'a>),
 }
 

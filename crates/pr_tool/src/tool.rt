@@ -33,13 +33,11 @@ struct Reply {
     bounds: Bounds,
 }
 
-/// Does what the words ask for, with the files of the shelf, and says what it came to. Results go to `out`, and the line
-/// of an answer that is not Ok goes to `note`.
+/// Does what the words of a command line ask for, with the files of the shelf. Results go to `out`, and the line of an
+/// answer other than Ok goes to `note`.
 ///
-/// The words are those of the system, the program's name first. A run leaves its machine on the bench, and else that is left
-/// as it was. Programs are evaluated, and they are compiled and run on both fabrics, narrowed or not, with the log of the cycles or
-/// without it; so are configuration files and generated programs. The programs of a list take turns on the base fabric. Words and
-/// files have one verdict at most (`answer_law`).
+/// The first word is the program's name. A run leaves its machine on the bench; every other mode leaves the bench as it
+/// was. Words and files have one verdict at most (`answer_law`).
 pub fn piperench<S: Shelf, K: Sink, E: Sink>(
     alloc: Global,
     words: &[String],

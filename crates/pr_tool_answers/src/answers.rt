@@ -29,17 +29,17 @@ pub enum Answer {
     Ok,
     /// The words are no lawful command line.
     Usage,
-    /// As the cause of this name.
+    /// The grammar allows no such token there.
     Syntax { token: u32 },
-    /// As the cause of this name.
+    /// A scope rule is broken at this item.
     Scope { rule: u8, item: u32 },
-    /// As the cause of this name.
+    /// The equation has no width.
     NoWidth { equation: u32 },
-    /// As the cause of this name.
+    /// The unit fits in no empty stripe.
     NoFit { unit: u32 },
-    /// As the cause of this name.
+    /// A quantity passed its limit.
     Limit { which: Cap },
-    /// As the cause of this name.
+    /// The line is no lawful sample.
     BadSample { line: u64 },
     /// The byte of the stall text is none that it may have.
     BadStall { place: u32 },

@@ -1,4 +1,4 @@
-//! What a call of the tool answers.
+//! The answers of the tool, with the status of each.
 #![tactic(auto)]
 
 mod answers;

@@ -2,7 +2,7 @@
 
 use pr_machine::{Machine, Running};
 
-/// A machine that was kept from an earlier call.
+/// Room for the machine that a run leaves behind.
 #[derive(Drop)]
 pub enum Bench {
     /// None.

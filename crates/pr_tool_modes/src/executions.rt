@@ -180,8 +180,8 @@ pub fn run_loaded<S: Shelf, K: Sink>(
     run_from(alloc, origin, &job.run, shelf, out, bench)
 }
 
-/// Runs the configuration of a source on the samples of a file, on so many stripes, under the stall file where there is one.
-/// The line of each result goes to `out`, with the log among them where it is asked for, and the machine to the bench.
+/// Runs a configuration on the samples of a file, with the job's stripes and stall file. The line of each result goes
+/// to `out`, with the log among them if the job asks for it. The machine goes to the bench.
 ///
 /// The source is read first, then the stall text, and then the samples as the run asks for them. Where one of the first two is
 /// refused, or there is no memory, nothing is written and the bench is as it was. After the run has begun no memory is taken.

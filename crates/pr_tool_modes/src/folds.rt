@@ -161,8 +161,8 @@ fn fold_from<S: Shelf, K: Sink>(
     }
 }
 
-/// Runs the configuration of a source on the samples of a file and writes the checkpoint after them: their number, and the
-/// configuration with each stage beginning in the state in which they left it.
+/// Runs a configuration on the samples of a file, and writes the checkpoint after them. A checkpoint is the number of
+/// samples, and the configuration whose stages begin in the states that the samples left.
 ///
 /// The source is read first, then the stall text, and then the samples. Where one of them is refused, or there is no memory,
 /// nothing is written.

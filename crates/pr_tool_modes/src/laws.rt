@@ -25,8 +25,8 @@ ghost use Rattle.pr_tool_modes.specs.Samples.{pieces};
 ghost use Rattle.pr_tool_modes.specs.Sources.{Source, File, Text, Mark, Gives};
 ghost use Rattle.pr_tool_modes.specs.Texts.{IsTextVerdict};
 
-/// The files settle what a mode is to come to: each mode has one verdict at most. The programs of one file mean the same, so
-/// that the lines of what its program means are one text.
+/// Files alone fix the answer of a mode: each mode has one verdict at most. All programs of one file mean the same, so
+/// their lines are one text.
 pub fn verdict_law()
     ensures text { (files : List ℕ → Option (List ℕ)) (source : Source) → AtMostOne (IsTextVerdict files source) }
     ensures eval { (files : List ℕ → Option (List ℕ)) (first second : List ℕ)
@@ -37,9 +37,9 @@ pub fn verdict_law()
         → (rows : List (List ℕ)) → out p rows ≡ out q rows }
 {}
 
-/// One file, one behaviour. What is written of a program's configuration is read as this configuration. So a run of that file
-/// is to come to what the same run of the program is to come to, with the same samples, stripes, stall text and log; and where
-/// two such runs have fed all samples, they have written the same text.
+/// One file, one behaviour. The file that is written of a program's configuration is read as this configuration. So a
+/// run of the file and a run of the program have the same verdict, with the same samples, stripes, stall text and log.
+/// Where both have fed all samples, they have written the same text.
 pub fn behaviour_law()
     ensures gives { (files : List ℕ → Option (List ℕ)) (name : List ℕ) (target : Target) (kept : List ℕ)
         → (k : IsKept files name target kept) → Gives (Some files) (File kept) k.N k.P k.conf }
@@ -55,9 +55,9 @@ pub fn behaviour_law()
         → (e ≡ f) × ((text : List ℕ) × Appends c.old c.new text × Appends d.old d.new text) }
 {}
 
-/// A program goes on from a checkpoint: its lines on samples that follow others are those of its configuration after these. So
-/// `move` writes the rest of what the program means, by its configuration alone. What is written of a checkpoint is read as it;
-/// and the checkpoint after further samples is the one after all of them, so that a chain of checkpoints is one.
+/// Checkpoints keep the meaning. A program's lines on further samples are those of its configuration after the first
+/// ones, so `move` writes the rest of what the program means. The file of a checkpoint is read as that checkpoint. The
+/// checkpoint after further samples is the one after all of them.
 pub fn moving_law()
     ensures lines { (files : List ℕ → Option (List ℕ)) (name : List ℕ) (target : Target) (N P : ℕ) (conf : Shape)
         (xs ys : List (List ℕ)) → Gives (Some files) (Text name target) N P conf

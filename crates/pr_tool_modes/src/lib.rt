@@ -1,4 +1,8 @@
 //! The modes of the tool: what each reads, and what it writes.
+//!
+//! Each mode has a file and a function: `execute` runs a configuration, `eval` evaluates a program, `write_text` writes
+//! a configuration, `fold` and `extend` write checkpoints, `move_on` goes on from one, `generate` runs a generated
+//! program. `load` reads the configuration of a source for all of them.
 #![tactic(auto)]
 
 mod benches;

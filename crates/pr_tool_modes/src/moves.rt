@@ -13,11 +13,10 @@ use pr_edge::{Shelf, Sink};
 use pr_tool_answers::Answer;
 use std::alloc::Global;
 
-/// Runs the configuration of a checkpoint on further samples, on so many stripes, under the stall file where there is one. The line
-/// of each result goes to `out`, and the machine to the bench.
+/// Runs the configuration of a checkpoint on further samples, as `execute` runs that of a file. The line of each result
+/// goes to `out`, and the machine to the bench.
 ///
-/// As `execute` does it with a configuration file; only that the samples before and the further ones together are no more than
-/// those of one run.
+/// The samples before the checkpoint and the further ones together are at most as many as one run may have.
 pub fn move_on<S: Shelf, K: Sink>(
     alloc: Global,
     resumption: &Resumption<'_>,

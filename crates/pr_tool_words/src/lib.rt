@@ -1,4 +1,6 @@
-//! The words of a command line: what they ask for, or that they ask for nothing lawful.
+//! The words of a command line: what they ask for, or that they are no lawful command line.
+//!
+//! `read_words` asks `clap`. The definition that it is proved against, `specs/Lawful.antt`, knows nothing of `clap`.
 #![tactic(auto)]
 
 mod asking;
