@@ -1,5 +1,6 @@
 -- Numbers of cells: each cell has its own, below the number of all.
-use Rattle.std.proofs.Common.{◌≡◌, ℕ, zero, suc, ◌+◌, ◌<◌, ◌≤◌, List, [], ◌∷◌, ◌++◌, length, get_or, map, refl, sym, ap, ap₂, ◌∙◌, subst, arith, inl, inr}
+use Rattle.std.proofs.Common.{◌≡◌, ℕ, zero, suc, ◌+◌, ◌-◌, ◌^◌, min, ◌<◌, ◌≤◌, List, [], ◌∷◌, ◌++◌, length, get_or, map, refl, sym, ap, ap₂, ◌∙◌, subst, arith, inl, inr}
+use Rattle.std.proofs.Math.Nat.{min-eq_left, min-eq_right}
 use Rattle.std.specs.List.{Contains, All, range_with_len}
 use Rattle.std.proofs.lemmas.Bool.{cases_lt, cases_order}
 use Rattle.std.proofs.lemmas.List.{map-append, get_or_default, get_or_past}
@@ -13,6 +14,13 @@ use Rattle.pr_place.specs.Greedy.{Spot, unit_spots, spots_of}
 use Rattle.pr_place.specs.Numbering.{firsts_from, cells_in, unit_numbers, group_numbers, IsNumbered}
 use Rattle.pr_place.specs.Tracking.{IsCellOf, spot_number}
 use Rattle.pr_place.proofs.Spots.{Position, position, spots_in}
+
+-- where there is a mark for each cell that was counted, all were counted
+pub few_cells : (us vs : List (List Cell)) (count : ℕ) → us ≡ vs → count ≡ min (cells_in us) (2 ^ 64 - 1) → count < 2 ^ 63 → (cells_in vs < 2 ^ 63) × (count ≡ cells_in vs)
+few_cells us vs count same e few = elim (cases_lt (cells_in us) (2 ^ 64)) [
+  | inl low ↦ (let all : count ≡ cells_in vs = e ∙ min-eq_left (omega (arith, low)) ∙ ap cells_in same in (omega (arith, all, few), all))
+  | inr high ↦ absurd (let most : count ≡ 2 ^ 64 - 1 = e ∙ min-eq_right (omega (arith, high)) in omega (arith, most, few))
+]
 
 -- how many cells stand before a unit
 abbrev before : List (List Cell) → ℕ → ℕ

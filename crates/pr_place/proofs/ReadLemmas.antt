@@ -201,7 +201,6 @@ pub can_read : (N : ℕ) (net : NetShape) (first : List ℕ) (cells g : ℕ) →
 can_read N net first cells g n h lg = record {
   there = λ k l. (member N net n g k lg l).0;
   below = λ u i d l li. cell_is_below net first cells u (get_or (cells_of net u) i d) h l (n.cells u i d l li);
-  small = (let f = h.few in omega (arith, f));
 }
 
 -- what is read has a number

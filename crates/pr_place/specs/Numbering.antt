@@ -71,7 +71,7 @@ IsSliceBelow first cells (Slice.State u i) = Unit {0}
 pub record IsNumbered (units : List (List Cell)) (first : List ℕ) (cells : ℕ) : Type 0 where
   pub first_is : first ≡ firsts_from 0 units
   pub cells_is : cells ≡ cells_in units
-  pub few : cells < 2 ^ 31
+  pub few : cells < 2 ^ 63
 
 -- a cell's mark, those of the slices of an output, and of outputs
 abbrev pub marked : List ℕ → List Bool → Slice → List Bool
@@ -110,9 +110,8 @@ readers_from owner g h (reads ∷ ops) = replicate (count_of g (map (λ x. slice
 pub record CanNumber (units : List (List Cell)) (first us : List ℕ) : Type 0 where
   pub long : length first ≡ length units
   pub there : (k : ℕ) → k < length us → slice_index us k < length units
-  pub small : (u : ℕ) → slice_index first u + length (slice_index_or units u []) < 2 ^ 32
+  pub small : (u : ℕ) → slice_index first u + length (slice_index_or units u []) < 2 ^ 64
 
 pub record CanRead (units : List (List Cell)) (first : List ℕ) (cells : ℕ) (us : List ℕ) : Type 0 where
   pub there : (k : ℕ) → k < length us → slice_index us k < length units
   pub below : (u i : ℕ) (d : Cell) → u < length units → i < length (slice_index_or units u []) → IsCellBelow first cells (slice_index_or (slice_index_or units u []) i d)
-  pub small : cells < 2 ^ 32

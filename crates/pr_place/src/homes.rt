@@ -50,7 +50,7 @@ fn home<const N: usize, const P: usize>(
     requires unit { unit < length net.now.units.items }
     ensures { IfOk result (λ home. home_shape home ≡ home_at (shape_of net.now) tables.now course.now unit) }
 {
-    let first = tables.cells.first[unit] as usize;
+    let first = tables.cells.first[unit];
     let group = tables.cells.owner[first] as usize;
     let stage = course.stages[group].unwrap_or(0);
     let (col, _) = course.progress.spot(first);

@@ -8,7 +8,7 @@ pub struct Lists {
     /// Where each list begins, and last where the last one ends.
     pub starts: Vec<usize>,
     /// The numbers of all lists.
-    pub items: Vec<u32>,
+    pub items: Vec<usize>,
     ghost some: { 0 < length starts.items },
     ghost order: { (g : ℕ) → g + 1 < length starts.items
         → slice_index starts.items g ≤ slice_index starts.items (g + 1) },
@@ -27,7 +27,7 @@ impl Lists {
     }
 
     /// One of the lists.
-    pub fn of(&self, list: usize) -> &[u32]
+    pub fn of(&self, list: usize) -> &[usize]
         requires { list + 1 < length self.now.starts.items }
         ensures { result.now ≡ slice_index_or (pieces self.now.starts.items self.now.items.items) list [] }
     {

@@ -1,63 +1,68 @@
 //! Numbers of cells, unit by unit.
 
-ghost use Rattle.std.specs.Prelude.{◌≡◌, ◌≤◌, ◌<◌, ◌+◌, ◌^◌, ℕ, [], ◌++◌, IfOk, OnOk, length, slice_index, slice_index_or};
+ghost use Rattle.std.specs.Prelude.{◌≡◌, ◌≤◌, ◌<◌, ◌+◌, ◌-◌, ◌^◌, ℕ, [], ◌++◌, min, IfOk, OnOk, length, slice_index, slice_index_or};
 ghost use Rattle.std.specs.List.{range_with_len};
 ghost use Rattle.std.specs.List.{All};
 ghost use Rattle.pr_net.specs.Nets.{IsNet};
 ghost use Rattle.pr_net.specs.Whole.{shape_of};
 ghost use Rattle.pr_place.specs.Lists.{Holds};
-ghost use Rattle.pr_place.specs.Numbering.{IsNumbered, CanNumber, group_numbers};
+ghost use Rattle.pr_place.specs.Numbering.{IsNumbered, CanNumber, cells_in, group_numbers};
 ghost use Rattle.pr_place.specs.Tables.{cells_by};
 
 use crate::lists::Lists;
 use pr_net::{Net, Unit};
 use std::alloc::{AllocError, Global};
 
-/// No tables are made for more cells.
-const MOST: usize = 0x7fff_ffff;
-
 /// Where the cells of each unit begin among the cells of all units, one unit after the other.
 #[derive(Drop)]
 pub struct Numbering {
     /// The number of the first cell of each unit.
-    pub first: Vec<u32>,
+    pub first: Vec<usize>,
     /// How many cells there are.
     pub cells: usize,
 }
 
+/// How many cells units have, or the greatest number if they have more.
+pub fn count_cells(units: &[Unit]) -> usize
+    ensures { result ≡ min (cells_in units.now) (2 ^ 64 - 1) }
+{
+    let mut cells: usize = 0;
+    for unit in units {
+        cells = cells.saturating_add(unit.cells.len());
+    }
+    cells
+}
+
 /// Numbers the cells of units.
 pub fn number_cells(alloc: Global, units: &[Unit]) -> Result<Numbering, AllocError>
+    requires { cells_in units.now < 2 ^ 63 }
     ensures { IfOk result (λ made. IsNumbered units.now made.first.items made.cells) }
 {
     let mut first = Vec::with_capacity(alloc, units.len())?;
     let mut cells = 0;
     for unit in units {
-        let count = unit.cells.len();
-        if MOST - cells < count {
-            return Err(AllocError);
-        }
-        first.push(cells as u32)?;
-        cells += count;
+        first.push(cells)?;
+        cells += unit.cells.len();
     }
     Ok(Numbering { first, cells })
 }
 
 /// Appends so many numbers from one on.
-fn push_numbers(numbers: &mut Vec<u32>, from: u32, count: usize) -> Result<(), AllocError>
-    requires { from + count < 2 ^ 32 }
+fn push_numbers(numbers: &mut Vec<usize>, from: usize, count: usize) -> Result<(), AllocError>
+    requires { from + count < 2 ^ 64 }
     ensures { OnOk result (numbers.new.items ≡ numbers.old.items ++ range_with_len from count) }
 {
     for i in 0..count {
-        numbers.push(from + i as u32)?;
+        numbers.push(from + i)?;
     }
     Ok(())
 }
 
 /// Appends the numbers of the cells of these units.
 fn list_cells(
-    numbers: &mut Vec<u32>,
+    numbers: &mut Vec<usize>,
     units: &[Unit],
-    first: &[u32],
+    first: &[usize],
     group: &[u32],
 ) -> Result<(), AllocError>
     requires { CanNumber units.now first.now group.now }

@@ -36,7 +36,12 @@ fn wake_one(class: &[u8], waits: &mut Vec<usize>, candidates: &mut Candidates, g
 }
 
 /// All these groups wait for one reading less.
-fn wake_readers(class: &[u8], waits: &mut Vec<usize>, candidates: &mut Candidates, readers: &[u32])
+fn wake_readers(
+    class: &[u8],
+    waits: &mut Vec<usize>,
+    candidates: &mut Candidates,
+    readers: &[usize],
+)
     requires lists { AreLists class.now waits.old.items candidates.old }
     requires there { All (λ g. g < length waits.old.items) readers.now }
     requires waits { (g : ℕ) → count_of g readers.now ≤ slice_index waits.old.items g }
@@ -47,7 +52,7 @@ fn wake_readers(class: &[u8], waits: &mut Vec<usize>, candidates: &mut Candidate
         waits.new.items candidates.new.ready.items }
 {
     for &reader in readers {
-        wake_one(class, waits, candidates, reader as usize);
+        wake_one(class, waits, candidates, reader);
     }
 }
 

@@ -8,21 +8,19 @@ ghost use Rattle.pr_place.specs.Numbering.{IsSliceBelow, marked, marked_all, mar
 use pr_net::{NetOutput, Slice};
 
 /// Marks the cell of a slice.
-fn mark(first: &[u32], kept: &mut [bool], slice: Slice)
+fn mark(first: &[usize], kept: &mut [bool], slice: Slice)
     requires there { IsSliceBelow first.now (length kept.old) slice }
-    requires small { length kept.old < 2 ^ 32 }
     ensures { kept.new ≡ marked first.now kept.old slice }
 {
     if let Slice::Of(unit, place) = slice {
-        kept[(first[unit as usize] + u32::from(place)) as usize] = true;
+        kept[first[unit as usize] + usize::from(place)] = true;
     }
 }
 
 /// Marks the cells of these slices.
-fn mark_all(first: &[u32], kept: &mut [bool], slices: &[Slice])
+fn mark_all(first: &[usize], kept: &mut [bool], slices: &[Slice])
     requires there { (i : ℕ) (d : Slice) → i < length slices.now
         → IsSliceBelow first.now (length kept.old) (slice_index_or slices.now i d) }
-    requires small { length kept.old < 2 ^ 32 }
     ensures { kept.new ≡ marked_all first.now kept.old slices.now }
 {
     for &slice in slices {
@@ -31,11 +29,10 @@ fn mark_all(first: &[u32], kept: &mut [bool], slices: &[Slice])
 }
 
 /// Marks the cells of the outputs.
-pub fn mark_outputs(first: &[u32], kept: &mut [bool], outputs: &[NetOutput])
+pub fn mark_outputs(first: &[usize], kept: &mut [bool], outputs: &[NetOutput])
     requires there { (o i : ℕ) (e : OutputShape) (d : Slice) → o < length outputs.now
         → i < length (slice_index_or outputs.now o e).slices
         → IsSliceBelow first.now (length kept.old) (slice_index_or (slice_index_or outputs.now o e).slices i d) }
-    requires small { length kept.old < 2 ^ 32 }
     ensures { kept.new ≡ marked_outputs first.now kept.old outputs.now }
 {
     for output in outputs {

@@ -14,19 +14,18 @@ use std::alloc::{AllocError, Global};
 
 /// Appends the cell that a wire reads, if it is of another group.
 fn push_wire(
-    reads: &mut Vec<u32>,
-    first: &[u32],
+    reads: &mut Vec<usize>,
+    first: &[usize],
     owner: &[u32],
     group: u32,
     wire: Wire,
 ) -> Result<(), AllocError>
     requires there { IsWireBelow first.now (length owner.now) wire }
-    requires small { length owner.now < 2 ^ 32 }
     ensures { OnOk result (reads.new.items ≡ reads.old.items ++ wire_numbers first.now owner.now group wire) }
 {
     if let Wire::Of(unit, place) = wire {
-        let cell = first[unit as usize] + u32::from(place);
-        if owner[cell as usize] != group {
+        let cell = first[unit as usize] + usize::from(place);
+        if owner[cell] != group {
             reads.push(cell)?;
         }
     }
@@ -35,14 +34,13 @@ fn push_wire(
 
 /// Appends the cells of other groups that a cell reads.
 fn push_cell(
-    reads: &mut Vec<u32>,
-    first: &[u32],
+    reads: &mut Vec<usize>,
+    first: &[usize],
     owner: &[u32],
     group: u32,
     cell: &Cell,
 ) -> Result<(), AllocError>
     requires there { IsCellBelow first.now (length owner.now) cell.now }
-    requires small { length owner.now < 2 ^ 32 }
     ensures { OnOk result (reads.new.items ≡ reads.old.items ++ cell_numbers first.now owner.now group cell.now) }
 {
     push_wire(reads, first, owner, group, cell.a)?;
@@ -56,15 +54,14 @@ fn push_cell(
 
 /// Appends the cells of other groups that a unit reads.
 fn push_unit(
-    reads: &mut Vec<u32>,
-    first: &[u32],
+    reads: &mut Vec<usize>,
+    first: &[usize],
     owner: &[u32],
     group: u32,
     cells: &[Cell],
 ) -> Result<(), AllocError>
     requires there { (i : ℕ) (d : Cell) → i < length cells.now →
         IsCellBelow first.now (length owner.now) (slice_index_or cells.now i d) }
-    requires small { length owner.now < 2 ^ 32 }
     ensures { OnOk result (reads.new.items ≡ reads.old.items ++ unit_reads_of first.now owner.now group cells.now) }
 {
     for cell in cells {
@@ -75,9 +72,9 @@ fn push_unit(
 
 /// Appends the cells of other groups that these units read, each as often as they do.
 fn list_reads(
-    reads: &mut Vec<u32>,
+    reads: &mut Vec<usize>,
     units: &[Unit],
-    first: &[u32],
+    first: &[usize],
     owner: &[u32],
     group: u32,
     members: &[u32],
@@ -97,7 +94,7 @@ fn list_reads(
 pub fn read_lists<const N: usize>(
     alloc: Global,
     net: &Net,
-    first: &[u32],
+    first: &[usize],
     owner: &[u32],
 ) -> Result<Lists, AllocError>
     requires net { IsNet N (shape_of net.now) }

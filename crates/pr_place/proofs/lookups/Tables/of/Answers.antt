@@ -17,7 +17,6 @@ readers-requires g c =
     let long : groups_of made.plans ≡ length net.groups = plans.long in
     let same = made.plans.same in
     record {
-      few = (let f = c.requires.net.few_groups in omega (arith, same, long, f));
       all = plans.all;
       cells = subst (λ (owner : List ℕ). All (All (λ x. x < length owner)) ops) (sym c.deref.ensures.value) (reads_there g.row.N net made.cells ops pieces);
       groups = subst (λ (owner : List ℕ). All (All (λ x. get_or owner x 0 < length made.plans.reads.starts.items - 1)) ops) (sym c.deref.ensures.value) (owners_there g.row.N net made.cells ops (length made.plans.reads.starts.items - 1) pieces (omega (arith, same, long)));
