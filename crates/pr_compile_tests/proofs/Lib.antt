@@ -1,0 +1,3 @@
+mod Lawful
+mod Decided
+mod Placed

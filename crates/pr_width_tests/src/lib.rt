@@ -1,7 +1,0 @@
-//! Widths of equations, and operators on numbers. There are tests alone in this crate.
-#![tactic(auto)]
-
-#[cfg(test)]
-mod equations;
-#[cfg(test)]
-mod operators;
