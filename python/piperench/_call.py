@@ -11,10 +11,11 @@ import tempfile
 from collections.abc import Callable, Iterable, Iterator, Sequence
 
 from ._find import executable
+from ._reader import COMMAND, PIECE
 from ._refused import Refused
 
-#: The most bytes that are read from a program at once, and the size that its pipes are to have.
-PIECE = 1 << 20
+# The size that a program's pipes are to have: several pieces either way, so that the program works while one is made or read.
+_PIPE = 1 << 20
 
 # The programs go down a syntax tree by calling themselves, so they want a deep stack: 1 GiB, or what the hard limit lets.
 # A shell sets the limit, so that the limits of the Python process stay as they are.
@@ -36,9 +37,13 @@ _ASIDE = re.compile(r"(piperench|pipelens): |`pipelens why .* tells more$")
 
 
 class Call:
-    """A running call of a program. Its standard input takes samples, and what it writes is read as it comes."""
+    """A running call of a program. Its standard input takes samples, and what it writes is read as it comes.
 
-    def __init__(self, name: str, words: Sequence[str], folder: str | None = None) -> None:
+    With ``packed`` a second process reads what the program writes, which is lines of numbers below 2 to the 64, and hands on
+    the numbers as words of 8 bytes.
+    """
+
+    def __init__(self, name: str, words: Sequence[str], folder: str | None = None, packed: bool = False) -> None:
         program = executable(name)
         self._notes = tempfile.TemporaryFile()
         self._process = subprocess.Popen(
@@ -55,6 +60,23 @@ class Call:
         for pipe in (self._input, self._output):
             _enlarge(pipe.fileno())
         os.set_blocking(self._input.fileno(), False)
+        self._reader: subprocess.Popen[bytes] | None = None
+        if packed:
+            self._read_beside()
+
+    def _read_beside(self) -> None:
+        """Lets another process read what the program writes."""
+        try:
+            self._reader = subprocess.Popen(
+                COMMAND, stdin=self._output, stdout=subprocess.PIPE, stderr=subprocess.DEVNULL, bufsize=0
+            )
+        except BaseException:
+            self.stop()
+            raise
+        assert self._reader.stdout is not None
+        self._output.close()
+        self._output = self._reader.stdout
+        _enlarge(self._output.fileno())
 
     def exchange(self, pieces: Iterable[bytes] = ()) -> Iterator[bytes]:
         """Gives the pieces to the program, and yields what it writes, piece by piece, until it has closed its output.
@@ -104,9 +126,12 @@ class Call:
         self._input.close()
         self._output.close()
         status = self._process.wait()
+        unread = self._reader.wait() if self._reader else 0
         self._notes.seek(0)
         lines = self._notes.read().decode(errors="replace").splitlines()
         self._notes.close()
+        if unread and not status:
+            raise ChildProcessError(f"the reader of the results ended with status {unread}")
         notes = [line for line in lines if not _ASIDE.match(line)] or lines
         return status, notes[-1] if notes else ""
 
@@ -114,9 +139,10 @@ class Call:
         """Ends the program if it still runs, and gives back what the call holds."""
         self._input.close()
         self._output.close()
-        if self._process.poll() is None:
-            self._process.kill()
-            self._process.wait()
+        for process in (self._process, self._reader):
+            if process is not None and process.poll() is None:
+                process.kill()
+                process.wait()
         self._notes.close()
 
     def __enter__(self) -> "Call":
@@ -127,10 +153,15 @@ class Call:
 
 
 def pipe(
-    name: str, words: Sequence[str], folder: str | None, pieces: Iterable[bytes], take: Callable[[bytes], object]
+    name: str,
+    words: Sequence[str],
+    folder: str | None,
+    pieces: Iterable[bytes],
+    take: Callable[[bytes], object],
+    packed: bool = False,
 ) -> tuple[int, str]:
     """Calls a program to its end, and gives ``take`` what it writes, as it comes: its status and its note."""
-    with Call(name, words, folder) as running:
+    with Call(name, words, folder, packed) as running:
         for data in running.exchange(pieces):
             take(data)
         return running.end()
@@ -163,10 +194,10 @@ def failure(name: str, status: int, note: str) -> Exception:
 
 
 def _enlarge(pipe: int) -> None:
-    """Lets a pipe hold a whole piece where the system allows it, so that the two sides wait for each other less often."""
+    """Lets a pipe hold several pieces where the system allows it, so that the two sides wait for each other less often."""
     try:
         import fcntl
 
-        fcntl.fcntl(pipe, _SET_PIPE_SIZE, PIECE)
+        fcntl.fcntl(pipe, _SET_PIPE_SIZE, _PIPE)
     except (ImportError, OSError):
         pass

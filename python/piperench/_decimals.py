@@ -8,7 +8,6 @@ from __future__ import annotations
 
 from collections.abc import Iterable, Sequence
 from functools import cache
-from itertools import chain
 from typing import Any
 
 from ._streams import numpy
@@ -25,7 +24,9 @@ def ends_of(count: int) -> list[bytes]:
 def lines_of(columns: Sequence[Sequence[int]]) -> bytes:
     """The lines of columns of whole numbers of any size."""
     line = b"".join(b"%d" + end for end in ends_of(len(columns)))
-    values: Iterable[int] = columns[0] if len(columns) == 1 else chain.from_iterable(zip(*columns))
+    values = [0] * (len(columns) * len(columns[0]))
+    for place, column in enumerate(columns):
+        values[place :: len(columns)] = column
     return line * len(columns[0]) % tuple(values)
 
 

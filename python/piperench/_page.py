@@ -16,8 +16,8 @@ from ._reports import Cost
 from ._results import streams_of
 from ._streams import Streams, numbers, table_of
 
-#: How many rows are shown, and how many samples the schedule is drawn for.
-ROWS, SCHEDULED = 20, 48
+#: How many rows are shown, how many samples the schedule is drawn for, and how many names stand open.
+ROWS, SCHEDULED, OPEN = 20, 48, 6
 
 _STYLE = """
 :root { color-scheme: light; }
@@ -26,7 +26,9 @@ body { margin: 0 auto; max-width: 1040px; padding: 1.2rem; font: 15px/1.5 system
 h1 { font-size: 1.5rem; margin: 0; } h2 { font-size: 1.1rem; margin: 2rem 0 .5rem; border-bottom: 1px solid #ddd; }
 p { margin: .4rem 0; } .note { color: #666; }
 .wide { overflow-x: auto; } .wide > svg { display: block; }
-.plot > svg { width: 100%; min-width: 560px; height: auto; }
+.plots { display: grid; grid-template-columns: repeat(auto-fill, minmax(min(100%, 440px), 1fr)); gap: .3rem 1rem; }
+.plots > svg { width: 100%; height: auto; }
+summary { color: #666; cursor: pointer; margin: .4rem 0; }
 table { border-collapse: collapse; font-variant-numeric: tabular-nums; }
 th, td { padding: .15rem .7rem; text-align: right; border-bottom: 1px solid #eee; } th { color: #666; font-weight: 600; }
 ol.code { margin: 0; padding: .6rem 0 .6rem 3.2rem; background: #f7f7f5; font: 13px/1.5 ui-monospace, monospace; overflow-x: auto; }
@@ -98,13 +100,17 @@ class Report:
         if cost.other_way:
             way = "without narrowing" if self.program.narrow else "narrowed"
             other = f"<p class=note>{way}: {cost.other_way[0]:,} units, {cost.other_way[1]:,} stages</p>"
-        return f"<h2>Costs</h2>{other}<div class=wide>{cost._repr_html_()}</div>"
+        return f"<h2>Costs</h2><div class=wide>{cost._repr_html_()}</div>{other}"
 
     def _plots(self) -> str:
         parts = []
-        for title, streams in (("Inputs", self.inputs), ("Names", self.names), ("Outputs", self.outputs)):
+        for title, streams in (("Inputs", self.inputs), ("Outputs", self.outputs), ("Names", self.names)):
             if streams is not None and len(streams) and streams.names:
-                parts.append(f"<h2>{title}</h2><div class='wide plot'>{plot.lines(streams).svg}</div>")
+                drawn = "".join(drawing.svg for drawing in plot.separate(streams))
+                plots = f"<div class=plots>{drawn}</div>"
+                if title == "Names" and len(streams.names) > OPEN:
+                    plots = f"<details><summary>{len(streams.names)} names</summary>{plots}</details>"
+                parts.append(f"<h2>{title}</h2>{plots}")
         return "".join(parts)
 
     def _schedule(self) -> str:

@@ -15,7 +15,7 @@ from . import _reports as reports
 from ._call import WAIT, Call, call, failure, pipe
 from ._refused import Finding, Place, Refused
 from ._reports import Cost, Trace
-from ._results import Results, rows_of, streams_of
+from ._results import Results, results_of, rows_of, streams_of
 from ._samples import counted_pieces, pieces_of
 from ._streams import Port, Streams
 
@@ -277,17 +277,23 @@ class Program:
             return call(name, [*task, "program.dil", *self._options(fabric), *options], folder)
 
     def _sampled(
-        self, mode: str, samples: Any, options: Sequence[str], stall: str | None, take: Callable[[bytes], object]
+        self,
+        mode: str,
+        samples: Any,
+        options: Sequence[str],
+        stall: str | None,
+        take: Callable[[bytes], object],
+        packed: bool = False,
     ) -> tuple[int, str]:
         with self._folder(stall) as folder:
             if isinstance(samples, (str, os.PathLike)):
                 return pipe("piperench", self._words(mode, options, _existing(samples), stall), folder, (), take)
             pieces = pieces_of(samples, self.inputs)
-            return pipe("piperench", self._words(mode, options, "/dev/stdin", stall), folder, pieces, take)
+            return pipe("piperench", self._words(mode, options, "/dev/stdin", stall), folder, pieces, take, packed)
 
     def _streams(self, mode: str, samples: Any, options: Sequence[str], stall: str | None = None) -> Streams:
-        results = Results(lambda: self.outputs)
-        status, note = self._sampled(mode, samples, options, stall, results.take)
+        results = results_of(samples, lambda: self.outputs)
+        status, note = self._sampled(mode, samples, options, stall, results.take, results.packed)
         if status:
             raise self._failure(status, note, samples, results)
         return results.streams()
@@ -340,7 +346,13 @@ class _Stored:
         Path(path).write_bytes(self.content)
 
     def _call(
-        self, mode: str, samples: Any, stripes: int | None, stall: str | None, take: Callable[[bytes], object]
+        self,
+        mode: str,
+        samples: Any,
+        stripes: int | None,
+        stall: str | None,
+        take: Callable[[bytes], object],
+        packed: bool = False,
     ) -> tuple[int, str]:
         size = self.stripes if stripes is None else _lawful_stripes(stripes)
         with tempfile.TemporaryDirectory(prefix="piperench-") as folder:
@@ -353,11 +365,11 @@ class _Stored:
                 return pipe("piperench", [mode, "content", _existing(samples), *options], folder, (), take)
             # A damaged file may name no inputs; the program says what is wrong with it before it reads a sample.
             pieces = pieces_of(samples, self.inputs) if self.inputs else []
-            return pipe("piperench", [mode, "content", "/dev/stdin", *options], folder, pieces, take)
+            return pipe("piperench", [mode, "content", "/dev/stdin", *options], folder, pieces, take, packed)
 
     def _streams(self, mode: str, samples: Any, stripes: int | None, stall: str | None) -> Streams:
-        results = Results(lambda: self.outputs)
-        status, note = self._call(mode, samples, stripes, stall, results.take)
+        results = results_of(samples, lambda: self.outputs)
+        status, note = self._call(mode, samples, stripes, stall, results.take, results.packed)
         if status:
             error = failure("piperench", status, note)
             if isinstance(error, Refused) and status != 9:

@@ -2,19 +2,18 @@
 
 from __future__ import annotations
 
-import json
 import sys
 from array import array
 from collections.abc import Callable, Iterable, Iterator, Sequence
 from typing import Any
 
 from . import _decimals as decimals
+from ._reader import PIECE, numbers_of
+from ._samples import count_of
 from ._streams import Port, Streams, column_of, numpy
 
-# How many bytes of results are read at once, so that some are read while the program makes the next ones.
-_PIECE = 1 << 18
-
-_WITH_COMMAS = bytes.maketrans(b" \n", b",,")
+#: Of so many samples the results are packed, where that takes less time.
+MANY = 100_000
 
 
 class Results:
@@ -22,6 +21,9 @@ class Results:
 
     ``outputs`` gives the outputs; it is asked when the first results are there, and not where there are none.
     """
+
+    #: Whether the results come as words of 8 bytes, and not as lines.
+    packed = False
 
     def __init__(self, outputs: Callable[[], Sequence[Port]]) -> None:
         self._outputs = outputs
@@ -33,7 +35,7 @@ class Results:
         """Takes what comes next."""
         self._waiting.append(data)
         self._size += len(data)
-        if self._size >= _PIECE:
+        if self._size >= PIECE:
             self._read()
 
     def streams(self) -> Streams:
@@ -44,13 +46,44 @@ class Results:
         return Streams({port.name: _joined(list(columns), port) for columns, port in zip(parts, ports)})
 
     def _read(self) -> None:
-        """Makes columns of the lines that are whole."""
-        text = b"".join(self._waiting)
-        end = text.rfind(b"\n") + 1
+        """Makes columns of the rows that are whole."""
+        data = b"".join(self._waiting)
+        end = self._whole(data)
         if end:
-            self._parts.append(_columns_of(text[:end], self._outputs()))
-        self._waiting = [text[end:]]
-        self._size = len(text) - end
+            self._parts.append(self._columns(data[:end]))
+        self._waiting = [data[end:]]
+        self._size = len(data) - end
+
+    def _whole(self, data: bytes) -> int:
+        """How many bytes the whole rows take."""
+        return data.rfind(b"\n") + 1
+
+    def _columns(self, rows: bytes) -> list[Any]:
+        """The columns of whole rows."""
+        return _columns_of(rows, self._outputs())
+
+
+class PackedResults(Results):
+    """The results of a call that come as words of 8 bytes. The outputs have at most 64 bits."""
+
+    packed = True
+
+    def _whole(self, data: bytes) -> int:
+        return len(data) - len(data) % (8 * len(self._outputs()))
+
+    def _columns(self, rows: bytes) -> list[Any]:
+        ports = self._outputs()
+        words = array("Q", rows)
+        return [_column_of_words(words[k :: len(ports)], port) for k, port in enumerate(ports)]
+
+
+def results_of(samples: Any, outputs: Callable[[], Sequence[Port]]) -> Results:
+    """What takes the results of the samples. Of many samples without numpy, numbers of 9 to 64 bits come packed."""
+    if numpy is None and count_of(samples) >= MANY:
+        widths = [port.width for port in outputs()]
+        if all(widths) and 8 < max(map(int, widths)) <= 64:
+            return PackedResults(outputs)
+    return Results(outputs)
 
 
 def streams_of(lines: bytes, outputs: Sequence[Port]) -> Streams:
@@ -70,8 +103,7 @@ def _columns_of(lines: bytes, ports: Sequence[Port]) -> list[Any]:
     if widest <= 8:
         octets = decimals.bytes_of(lines)
         return [_widened(octets[k::count], port) for k, port in enumerate(ports)]
-    # The reader of JSON takes less time than a call of int for each number.
-    values = json.loads(b"[" + lines[:-1].translate(_WITH_COMMAS) + b"]")
+    values = numbers_of(lines)
     columns = [signed_values(values[k::count], port) for k, port in enumerate(ports)]
     return [
         column if port.width is None else column_of(column, port.width, port.signed) for column, port in zip(columns, ports)
@@ -85,6 +117,13 @@ def _array_of(values: Any, port: Port) -> Any:
         return values.view(numpy.int64) if port.signed else numpy.ascontiguousarray(values)
     column = values.view(numpy.int64)
     return column - ((column >> port.width - 1) << port.width) if port.signed else numpy.ascontiguousarray(column)
+
+
+def _column_of_words(words: "array[int]", port: Port) -> Any:
+    """Numbers of a port of at most 64 bits as a column."""
+    if port.width == 64:
+        return array("q", words.tobytes()) if port.signed else words
+    return column_of(signed_values(words.tolist(), port), port.width, True) if port.signed else array("q", words.tobytes())
 
 
 def _widened(octets: bytes, port: Port) -> Any:

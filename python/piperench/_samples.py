@@ -2,7 +2,9 @@
 
 from __future__ import annotations
 
+import math
 import operator
+import struct
 from array import array
 from collections.abc import Iterable, Iterator, Mapping, Sequence
 from itertools import islice
@@ -11,8 +13,8 @@ from typing import Any
 from . import _decimals as decimals
 from ._streams import Port, Streams, numbers, numpy
 
-#: How many samples are written in one piece.
-CHUNK = 1 << 16
+#: How many samples are written in one piece: few enough for the processor's cache, and for a pipe to hold more than one piece.
+CHUNK = 1 << 13
 
 # What is cut into parts of the same kind. So is an array of numpy.
 _CUT = (list, tuple, range, bytes, bytearray)
@@ -89,6 +91,13 @@ def _chunks(values: Any, chunk: int) -> Iterator[Any]:
         yield part
 
 
+def count_of(samples: Any) -> int:
+    """How many samples there are; 0 for a file of them, and where it is not known before they are taken."""
+    if isinstance(samples, Mapping):
+        samples = next(iter(samples.values()), ())
+    return len(samples) if hasattr(samples, "__len__") and not isinstance(samples, str) else 0
+
+
 def _is_array(values: Any) -> bool:
     return numpy is not None and isinstance(values, numpy.ndarray)
 
@@ -104,10 +113,22 @@ def _text_of(columns: list[Any], inputs: Sequence[Port], done: int) -> bytes:
         except (ValueError, OverflowError):
             pass  # A number is too large or negative.
     if numpy is not None:
-        arrays = [_plain_array(numpy.asarray(column), port) for column, port in pairs]
+        arrays = [_plain_array(_as_array(column, port), port) for column, port in pairs]
         if all(map(_is_array, arrays)):
             return decimals.lines_of_arrays(arrays)
     return decimals.lines_of([_plain_numbers(column, port, done) for column, port in pairs])
+
+
+def _as_array(column: Any, port: Port) -> Any:
+    """A column as an array of numpy."""
+    if isinstance(column, (list, tuple)):
+        kind = "q" if port.signed else "Q"
+        try:
+            # numpy takes packed numbers faster than a list of them.
+            return numpy.frombuffer(struct.pack(f"{len(column)}{kind}", *column), dtype=kind)
+        except struct.error:
+            pass  # A number has more bits, or is none.
+    return numpy.asarray(column)
 
 
 def _plain_array(column: Any, port: Port) -> Any:
@@ -135,7 +156,7 @@ def _plain_bytes(column: Any, port: Port) -> bytes:
     return made.translate(bytes(n & (half << 1) - 1 for n in range(256)))
 
 
-def _plain_numbers(column: Any, port: Port, done: int) -> list[int]:
+def _plain_numbers(column: Any, port: Port, done: int) -> Sequence[int]:
     """Numbers of any size as those to write."""
     if not port.signed:
         return _whole_numbers(column)
@@ -152,11 +173,9 @@ def _plain_numbers(column: Any, port: Port, done: int) -> list[int]:
     )
 
 
-def _whole_numbers(column: Any) -> list[int]:
-    """A column as whole numbers. An array is the fastest test whether it has no others."""
-    values = column.tolist() if hasattr(column, "tolist") else list(column)
-    try:
-        array("Q", values)
-    except OverflowError:
-        return numbers(values)
+def _whole_numbers(column: Any) -> Sequence[int]:
+    """A column of whole numbers as it is. Raises TypeError where an entry is none."""
+    values = column.tolist() if hasattr(column, "tolist") else column
+    # gcd takes whole numbers alone, and with 1 it has nothing to reckon.
+    math.gcd(1, *values)
     return values

@@ -26,9 +26,10 @@ from ._streams import Streams, numbers, numpy
 
 _COLOURS = ("#1f5fa8", "#c4511c", "#2f7d4f", "#8a3f97", "#8c6d1f", "#b3304f")
 
-# The size of a panel, and what is around its lines.
+# The size of a panel, what is around its box, and the room between its box and its line.
 _WIDTH, _HEIGHT = 720, 150
 _LEFT, _RIGHT, _TOP, _BOTTOM = 64, 14, 26, 24
+_INSIDE = 5
 
 # Of a stream with more samples than this in a panel the least and the greatest of each part are drawn.
 _POINTS = 1400
@@ -75,12 +76,18 @@ class Drawing:
 
 def lines(streams: Streams | Mapping[str, Any], names: Sequence[str] | None = None) -> Drawing:
     """Streams below one another, a panel for each; ``names`` chooses some of them."""
-    chosen = list(names) if names is not None else list(streams.keys())
-    panels = []
-    for name in chosen:
-        values = numbers(streams[name])
-        panels.append(Panel(name, range(len(values)), values))
-    return _drawing(panels)
+    chosen = names if names is not None else streams.keys()
+    return _drawing([_panel_of(name, streams[name]) for name in chosen])
+
+
+def separate(streams: Streams | Mapping[str, Any], width: int = 420) -> list[Drawing]:
+    """A drawing for each stream, so wide, for a page that places them."""
+    return [_drawing([_panel_of(name, column)], width, place) for place, (name, column) in enumerate(streams.items())]
+
+
+def _panel_of(name: str, column: Any) -> Panel:
+    values = numbers(column)
+    return Panel(name, range(len(values)), values)
 
 
 def spectrum(column: Any, *, rate: float = 1.0, name: str = "spectrum") -> Drawing:
@@ -127,35 +134,38 @@ def _transform(wave: list[float]) -> list[complex]:
 
 # Drawing
 
-def _drawing(panels: Sequence[Panel]) -> Drawing:
+def _drawing(panels: Sequence[Panel], width: int = _WIDTH, first: int = 0) -> Drawing:
+    """The panels below one another, with the colours from ``first`` on."""
     height = _HEIGHT * max(len(panels), 1)
-    body = "".join(_panel(panel, _HEIGHT * place, _COLOURS[place % len(_COLOURS)]) for place, panel in enumerate(panels))
+    body = "".join(
+        _panel(panel, _HEIGHT * place, width, _COLOURS[(first + place) % len(_COLOURS)]) for place, panel in enumerate(panels)
+    )
     svg = (
-        f'<svg xmlns="http://www.w3.org/2000/svg" viewBox="0 0 {_WIDTH} {height}" width="{_WIDTH}" height="{height}" '
+        f'<svg xmlns="http://www.w3.org/2000/svg" viewBox="0 0 {width} {height}" width="{width}" height="{height}" '
         f'font-family="sans-serif" font-size="11" fill="#333"><rect width="100%" height="100%" fill="#fff"/>{body}</svg>'
     )
     return Drawing(svg, tuple(panels))
 
 
-def _panel(panel: Panel, top: int, colour: str) -> str:
+def _panel(panel: Panel, top: int, width: int, colour: str) -> str:
     """The title, the box with its scale, and the line of a panel."""
     low, high = min(panel.heights, default=0), max(panel.heights, default=0)
     if low == high:
         low, high = low - 1, high + 1
-    inner_width, inner_height = _WIDTH - _LEFT - _RIGHT, _HEIGHT - _TOP - _BOTTOM
+    inner_width, inner_height = width - _LEFT - _RIGHT, _HEIGHT - _TOP - _BOTTOM
     base = top + _TOP + inner_height
     last = panel.across[-1] if len(panel.across) else 0
     across = inner_width / (last or 1)
-    up = inner_height / (high - low)
-    points = " ".join(f"{_LEFT + x * across:.1f},{base - (y - low) * up:.1f}" for x, y in _thinned(panel))
+    up = (inner_height - 2 * _INSIDE) / (high - low)
+
+    def level(value: float) -> float:
+        return base - _INSIDE - (value - low) * up
+
+    points = " ".join(f"{_LEFT + x * across:.1f},{level(y):.1f}" for x, y in _thinned(panel))
     marks = "".join(
-        f'<text x="{_LEFT - 6}" y="{base - (value - low) * up + 4:.1f}" text-anchor="end">{_short(value)}</text>'
-        for value in (low, high)
+        f'<text x="{_LEFT - 6}" y="{level(value) + 4:.1f}" text-anchor="end">{_short(value)}</text>' for value in (low, high)
     )
-    zero = ""
-    if low < 0 < high:
-        y = base + low * up
-        zero = f'<path d="M{_LEFT} {y:.1f}H{_LEFT + inner_width}" stroke="#ccc"/>'
+    zero = f'<path d="M{_LEFT} {level(0):.1f}H{_LEFT + inner_width}" stroke="#ccc"/>' if low < 0 < high else ""
     return (
         f'<text x="{_LEFT}" y="{top + 16}" font-weight="bold" fill="{colour}">{html.escape(panel.name)}</text>'
         f'<rect x="{_LEFT}" y="{top + _TOP}" width="{inner_width}" height="{inner_height}" fill="none" stroke="#bbb"/>{zero}'

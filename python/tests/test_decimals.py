@@ -5,6 +5,7 @@ from __future__ import annotations
 import array
 import random
 import unittest
+from fractions import Fraction
 
 from piperench import _decimals as decimals
 from piperench._results import Results, streams_of
@@ -93,6 +94,29 @@ class Writing(unittest.TestCase):
             for form in forms + ([bytes([0, wrong])] if 0 <= wrong < 256 else []):
                 with self.assertRaisesRegex(ValueError, f"sample 2: {wrong} of x is no signed number of {width} bits"):
                     written(form, Port("x", width, True))
+
+    def test_what_stands_for_a_whole_number(self) -> None:
+        class Five:
+            def __index__(self) -> int:
+                return 5
+
+        for width in (8, 16, 64, 65):
+            for sign in (False, True):
+                self.assertEqual(written([True, Five(), 7], Port("x", width, sign)), b"1\n5\n7\n")
+                rows = [(True, 2), (3, Five())]
+                self.assertEqual(written(rows, Port("a", width, sign), Port("b", width)), b"1 2\n3 5\n")
+
+    def test_what_is_no_whole_number(self) -> None:
+        for width in (8, 16, 64, 65):
+            for sign in (False, True):
+                for wrong in (2.0, 1.5, "3", None, Fraction(1, 2)):
+                    for form in ([0, wrong], (0, wrong), iter([0, wrong])):
+                        with self.assertRaises(TypeError):
+                            written(form, Port("x", width, sign))
+                    with self.assertRaises(TypeError):
+                        written([(0, 1), (1, wrong)], Port("a", width), Port("b", width, sign))
+                with self.assertRaises(TypeError):
+                    written(array.array("d", [0, 2]), Port("x", width, sign))
 
     @unittest.skipIf(numpy is None, "numpy is not installed")
     def test_arrays_of_numpy(self) -> None:

@@ -13,6 +13,7 @@ from pathlib import Path
 
 from piperench import Program, Streams, plot, signals
 from piperench.__main__ import main
+from piperench._page import Report
 
 from .support import BOTH, SUM, needs_programs, stand_in
 
@@ -36,6 +37,18 @@ class Drawings(unittest.TestCase):
         heights = [float(point.split(",")[1]) for point in points[0]]
         self.assertEqual(sorted(range(4), key=heights.__getitem__), [1, 3, 0, 2])
         self.assertEqual(plot.lines({"a": [1], "b": [2]}, ["b"]).panels[0].name, "b")
+
+    def test_a_drawing_for_each_stream(self) -> None:
+        first, second = plot.separate({"a": [1, 2], "b": [3, 3, 3]}, width=300)
+        self.assertEqual([first.panels[0].name, second.panels[0].name], ["a", "b"])
+        for drawing, last in ((first, "sample 1"), (second, "sample 2")):
+            root = tree.fromstring(drawing.svg)
+            self.assertEqual(root.get("viewBox"), "0 0 300 150")
+            self.assertIn(last, words_of(drawing.svg))
+            (line,) = [element for element in root.iter() if element.tag.endswith("polyline")]
+            # The line goes from the box's left side, at 64, to its right side, 14 before the end.
+            ends = [point.split(",")[0] for point in line.get("points").split()]
+            self.assertEqual((ends[0], ends[-1]), ("64.0", "286.0"))
 
     def test_many_samples_keep_their_peaks(self) -> None:
         values = [0] * 100_000
@@ -130,12 +143,21 @@ class Pages(unittest.TestCase):
         finding = '{"file":"f","line":2,"column":5,"end_column":6,"severity":"warning","code":"unused","message":"Nobody reads k."}'
         with stand_in("pipelens", f"test $1 = why || exit 2; echo '{finding}'"):
             (found,) = program.why()
-            from piperench._page import Report
-
             page = Report(program, [found]).html()
         checked(self, page)
         self.assertIn("accepted, with 1 warning", page)
         self.assertIn("Nobody reads k.", page.split("<li>")[2])
+
+    def test_many_names_are_folded(self) -> None:
+        program = Program("input x:8;\noutput y = x;")
+        for count, folded in ((6, False), (7, True)):
+            names = Streams({f"n{k}": [k, k + 1] for k in range(count)})
+            page = Report(program, [], inputs=Streams({"x": [1, 2]}), names=names, outputs=Streams({"y": [1, 2]})).html()
+            checked(self, page)
+            self.assertEqual(f"<summary>{count} names</summary>" in page, folded)
+            titles = [page.index(f"<h2>{title}</h2>") for title in ("Inputs", "Outputs", "Names", "First rows")]
+            self.assertEqual(titles, sorted(titles))
+            self.assertEqual(page.count("<polyline"), count + 2)
 
     def test_schedules_and_units(self) -> None:
         trace = Program(SUM, stripes=3).trace([1, 2, 3])

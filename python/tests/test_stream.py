@@ -12,7 +12,7 @@ from itertools import count, islice
 from piperench import Program, Refused
 from piperench._find import executable
 
-from .support import BOTH, SUM, needs_programs, stand_in, sums
+from .support import BOTH, SUM, children, needs_programs, stand_in, sums
 
 VALUES = [n * 37 % 256 for n in range(20_000)]
 
@@ -151,12 +151,3 @@ class Closing(unittest.TestCase):
 def count_bytes() -> Iterator[int]:
     """0, 1, .. 255, 0, 1 .. without an end."""
     return (n % 256 for n in count())
-
-
-def children() -> list[str]:
-    """The processes that this one has started and that are still there."""
-    found = []
-    for task in os.listdir("/proc/self/task"):
-        with open(f"/proc/self/task/{task}/children") as file:
-            found += file.read().split()
-    return found
