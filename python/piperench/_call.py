@@ -9,9 +9,11 @@ import select
 import subprocess
 import tempfile
 from collections.abc import Callable, Iterable, Iterator, Sequence
+from dataclasses import dataclass
+from typing import Any
 
 from ._find import executable
-from ._reader import COMMAND, PIECE
+from ._numbers import COMMAND, PIECE
 from ._refused import Refused
 
 # The size that a program's pipes are to have: several pieces either way, so that the program works while one is made or read.
@@ -36,47 +38,58 @@ WAIT = b""
 _ASIDE = re.compile(r"(piperench|pipelens): |`pipelens why .* tells more$")
 
 
+@dataclass(frozen=True)
+class Feed:
+    """What a call is given, piece by piece. Where it is packed, each piece is one for ``_numbers.write``."""
+
+    pieces: Iterable[bytes] = ()
+    packed: bool = False
+
+
 class Call:
     """A running call of a program. Its standard input takes samples, and what it writes is read as it comes.
 
-    With ``packed`` a second process reads what the program writes, which is lines of numbers below 2 to the 64, and hands on
-    the numbers as words of 8 bytes.
+    With ``packed_input`` it takes pieces of ``_numbers.packed``; with ``packed_output`` it gives the words of ``_numbers.read``.
     """
 
-    def __init__(self, name: str, words: Sequence[str], folder: str | None = None, packed: bool = False) -> None:
+    def __init__(
+        self,
+        name: str,
+        words: Sequence[str],
+        folder: str | None = None,
+        packed_input: bool = False,
+        packed_output: bool = False,
+    ) -> None:
         program = executable(name)
         self._notes = tempfile.TemporaryFile()
-        self._process = subprocess.Popen(
-            ["/bin/sh", "-c", _WITH_A_DEEP_STACK, program, *words],
-            stdin=subprocess.PIPE,
-            stdout=subprocess.PIPE,
-            stderr=self._notes,
-            cwd=folder,
-            bufsize=0,
-        )
-        assert self._process.stdin is not None and self._process.stdout is not None
-        self._input = self._process.stdin
-        self._output = self._process.stdout
-        for pipe in (self._input, self._output):
-            _enlarge(pipe.fileno())
-        os.set_blocking(self._input.fileno(), False)
-        self._reader: subprocess.Popen[bytes] | None = None
-        if packed:
-            self._read_beside()
-
-    def _read_beside(self) -> None:
-        """Lets another process read what the program writes."""
+        self._started: list[subprocess.Popen[bytes]] = []
         try:
-            self._reader = subprocess.Popen(
-                COMMAND, stdin=self._output, stdout=subprocess.PIPE, stderr=subprocess.DEVNULL, bufsize=0
-            )
+            if packed_input:
+                self._start([*COMMAND, "write"])
+            self._process = self._start(["/bin/sh", "-c", _WITH_A_DEEP_STACK, program, *words], self._notes, folder)
+            if packed_output:
+                self._start([*COMMAND, "read"])
         except BaseException:
             self.stop()
             raise
-        assert self._reader.stdout is not None
-        self._output.close()
-        self._output = self._reader.stdout
-        _enlarge(self._output.fileno())
+        first, last = self._started[0].stdin, self._started[-1].stdout
+        assert first is not None and last is not None
+        self._input, self._output = first, last
+        _enlarge(self._input.fileno())
+        os.set_blocking(self._input.fileno(), False)
+
+    def _start(self, words: Sequence[str], notes: Any = subprocess.DEVNULL, folder: str | None = None) -> subprocess.Popen[bytes]:
+        """Starts a process that reads what the one before it writes."""
+        source = self._started[-1].stdout if self._started else None
+        process = subprocess.Popen(
+            words, stdin=source or subprocess.PIPE, stdout=subprocess.PIPE, stderr=notes, cwd=folder, bufsize=0
+        )
+        self._started.append(process)
+        if source is not None:
+            source.close()
+        assert process.stdout is not None
+        _enlarge(process.stdout.fileno())
+        return process
 
     def exchange(self, pieces: Iterable[bytes] = ()) -> Iterator[bytes]:
         """Gives the pieces to the program, and yields what it writes, piece by piece, until it has closed its output.
@@ -126,21 +139,22 @@ class Call:
         self._input.close()
         self._output.close()
         status = self._process.wait()
-        unread = self._reader.wait() if self._reader else 0
+        others = [process.wait() for process in self._started if process is not self._process]
         self._notes.seek(0)
         lines = self._notes.read().decode(errors="replace").splitlines()
         self._notes.close()
-        if unread and not status:
-            raise ChildProcessError(f"the reader of the results ended with status {unread}")
+        if any(others) and not status:
+            raise ChildProcessError(f"a process that writes samples or reads results ended with status {max(others, key=abs)}")
         notes = [line for line in lines if not _ASIDE.match(line)] or lines
         return status, notes[-1] if notes else ""
 
     def stop(self) -> None:
-        """Ends the program if it still runs, and gives back what the call holds."""
-        self._input.close()
-        self._output.close()
-        for process in (self._process, self._reader):
-            if process is not None and process.poll() is None:
+        """Ends what still runs, and gives back what the call holds."""
+        for process in self._started:
+            for pipe in (process.stdin, process.stdout):
+                if pipe is not None:
+                    pipe.close()
+            if process.poll() is None:
                 process.kill()
                 process.wait()
         self._notes.close()
@@ -156,13 +170,13 @@ def pipe(
     name: str,
     words: Sequence[str],
     folder: str | None,
-    pieces: Iterable[bytes],
+    feed: Feed,
     take: Callable[[bytes], object],
     packed: bool = False,
 ) -> tuple[int, str]:
     """Calls a program to its end, and gives ``take`` what it writes, as it comes: its status and its note."""
-    with Call(name, words, folder, packed) as running:
-        for data in running.exchange(pieces):
+    with Call(name, words, folder, feed.packed, packed) as running:
+        for data in running.exchange(feed.pieces):
             take(data)
         return running.end()
 
@@ -172,7 +186,7 @@ def call(
 ) -> tuple[int, str, bytes]:
     """Calls a program to its end: its status, its note, and what it wrote."""
     written: list[bytes] = []
-    status, note = pipe(name, words, folder, pieces, written.append)
+    status, note = pipe(name, words, folder, Feed(pieces), written.append)
     return status, note, b"".join(written)
 
 

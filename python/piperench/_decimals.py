@@ -10,24 +10,19 @@ from collections.abc import Iterable, Sequence
 from functools import cache
 from typing import Any
 
+from ._numbers import ends_of
 from ._streams import numpy
 
 # What stands for a leading zero, until all of them are deleted.
 _NONE = 0
 
 
-def ends_of(count: int) -> list[bytes]:
-    """What stands behind each number of a line of so many."""
-    return [b" "] * (count - 1) + [b"\n"]
-
-
-def lines_of(columns: Sequence[Sequence[int]]) -> bytes:
-    """The lines of columns of whole numbers of any size."""
-    line = b"".join(b"%d" + end for end in ends_of(len(columns)))
-    values = [0] * (len(columns) * len(columns[0]))
+def in_turn(columns: Sequence[Sequence[int]]) -> list[int]:
+    """The numbers of columns, row by row."""
+    numbers = [0] * (len(columns) * len(columns[0]))
     for place, column in enumerate(columns):
-        values[place :: len(columns)] = column
-    return line * len(columns[0]) % tuple(values)
+        numbers[place :: len(columns)] = column
+    return numbers
 
 
 # Numbers below 256, each in a byte

@@ -12,11 +12,11 @@ from pathlib import Path
 from typing import Any
 
 from . import _reports as reports
-from ._call import WAIT, Call, call, failure, pipe
+from ._call import WAIT, Call, Feed, call, failure, pipe
 from ._refused import Finding, Place, Refused
 from ._reports import Cost, Trace
 from ._results import Results, results_of, rows_of, streams_of
-from ._samples import counted_pieces, pieces_of
+from ._samples import counted_pieces, feed_of, pieces_of
 from ._streams import Port, Streams
 
 #: What `signed` takes: the names of the signed inputs and outputs, or True for all of them.
@@ -287,9 +287,9 @@ class Program:
     ) -> tuple[int, str]:
         with self._folder(stall) as folder:
             if isinstance(samples, (str, os.PathLike)):
-                return pipe("piperench", self._words(mode, options, _existing(samples), stall), folder, (), take)
-            pieces = pieces_of(samples, self.inputs)
-            return pipe("piperench", self._words(mode, options, "/dev/stdin", stall), folder, pieces, take, packed)
+                return pipe("piperench", self._words(mode, options, _existing(samples), stall), folder, Feed(), take)
+            words = self._words(mode, options, "/dev/stdin", stall)
+            return pipe("piperench", words, folder, feed_of(samples, self.inputs), take, packed)
 
     def _streams(self, mode: str, samples: Any, options: Sequence[str], stall: str | None = None) -> Streams:
         results = results_of(samples, lambda: self.outputs)
@@ -362,10 +362,10 @@ class _Stored:
                 Path(folder, "stall.txt").write_text(stall)
                 options += ["--stall", "stall.txt"]
             if isinstance(samples, (str, os.PathLike)):
-                return pipe("piperench", [mode, "content", _existing(samples), *options], folder, (), take)
+                return pipe("piperench", [mode, "content", _existing(samples), *options], folder, Feed(), take)
             # A damaged file may name no inputs; the program says what is wrong with it before it reads a sample.
-            pieces = pieces_of(samples, self.inputs) if self.inputs else []
-            return pipe("piperench", [mode, "content", "/dev/stdin", *options], folder, pieces, take, packed)
+            feed = feed_of(samples, self.inputs) if self.inputs else Feed()
+            return pipe("piperench", [mode, "content", "/dev/stdin", *options], folder, feed, take, packed)
 
     def _streams(self, mode: str, samples: Any, stripes: int | None, stall: str | None) -> Streams:
         results = results_of(samples, lambda: self.outputs)

@@ -8,12 +8,9 @@ from collections.abc import Callable, Iterable, Iterator, Sequence
 from typing import Any
 
 from . import _decimals as decimals
-from ._reader import PIECE, numbers_of
-from ._samples import count_of
+from ._numbers import PIECE, numbers_of
+from ._samples import are_many, want_packing
 from ._streams import Port, Streams, column_of, numpy
-
-#: Of so many samples the results are packed, where that takes less time.
-MANY = 100_000
 
 
 class Results:
@@ -78,12 +75,8 @@ class PackedResults(Results):
 
 
 def results_of(samples: Any, outputs: Callable[[], Sequence[Port]]) -> Results:
-    """What takes the results of the samples. Of many samples without numpy, numbers of 9 to 64 bits come packed."""
-    if numpy is None and count_of(samples) >= MANY:
-        widths = [port.width for port in outputs()]
-        if all(widths) and 8 < max(map(int, widths)) <= 64:
-            return PackedResults(outputs)
-    return Results(outputs)
+    """What takes the results of the samples, packed where that takes less time."""
+    return PackedResults(outputs) if are_many(samples) and want_packing(outputs()) else Results(outputs)
 
 
 def streams_of(lines: bytes, outputs: Sequence[Port]) -> Streams:

@@ -11,10 +11,15 @@ from itertools import islice
 from typing import Any
 
 from . import _decimals as decimals
+from ._call import Feed
+from ._numbers import lines_of, packed
 from ._streams import Port, Streams, numbers, numpy
 
 #: How many samples are written in one piece: few enough for the processor's cache, and for a pipe to hold more than one piece.
 CHUNK = 1 << 13
+
+#: So many samples are many: worth the start of further processes, some 20 ms.
+MANY = 100_000
 
 # What is cut into parts of the same kind. So is an array of numpy.
 _CUT = (list, tuple, range, bytes, bytearray)
@@ -30,6 +35,37 @@ def counted_pieces(samples: Any, inputs: Sequence[Port], chunk: int) -> Iterator
     done = 0
     for columns in columns_of(samples, inputs, chunk):
         yield len(columns[0]), _text_of(columns, inputs, done)
+        done += len(columns[0])
+
+
+def feed_of(samples: Any, inputs: Sequence[Port]) -> Feed:
+    """The samples for a call, packed where that takes less time."""
+    if are_many(samples) and want_packing(inputs):
+        return Feed(_packed_pieces(samples, inputs), packed=True)
+    return Feed(pieces_of(samples, inputs))
+
+
+def are_many(samples: Any) -> bool:
+    """Whether further processes are worth starting. numpy is faster without them."""
+    return numpy is None and count_of(samples) >= MANY
+
+
+def want_packing(ports: Sequence[Port]) -> bool:
+    """Whether the numbers of these inputs or outputs have 9 to 64 bits. Those of 8 bits are written and read faster at once."""
+    return 8 < max(port.width or 1 << 16 for port in ports) <= 64
+
+
+def count_of(samples: Any) -> int:
+    """How many samples there are; 0 for a file of them, and where it is not known before they are taken."""
+    if isinstance(samples, Mapping):
+        samples = next(iter(samples.values()), ())
+    return len(samples) if hasattr(samples, "__len__") and not isinstance(samples, str) else 0
+
+
+def _packed_pieces(samples: Any, inputs: Sequence[Port]) -> Iterator[bytes]:
+    done = 0
+    for columns in columns_of(samples, inputs, CHUNK):
+        yield packed(_in_turn(list(zip(columns, inputs)), done), len(inputs))
         done += len(columns[0])
 
 
@@ -91,13 +127,6 @@ def _chunks(values: Any, chunk: int) -> Iterator[Any]:
         yield part
 
 
-def count_of(samples: Any) -> int:
-    """How many samples there are; 0 for a file of them, and where it is not known before they are taken."""
-    if isinstance(samples, Mapping):
-        samples = next(iter(samples.values()), ())
-    return len(samples) if hasattr(samples, "__len__") and not isinstance(samples, str) else 0
-
-
 def _is_array(values: Any) -> bool:
     return numpy is not None and isinstance(values, numpy.ndarray)
 
@@ -116,7 +145,12 @@ def _text_of(columns: list[Any], inputs: Sequence[Port], done: int) -> bytes:
         arrays = [_plain_array(_as_array(column, port), port) for column, port in pairs]
         if all(map(_is_array, arrays)):
             return decimals.lines_of_arrays(arrays)
-    return decimals.lines_of([_plain_numbers(column, port, done) for column, port in pairs])
+    return lines_of(_in_turn(pairs, done), len(inputs))
+
+
+def _in_turn(pairs: list[tuple[Any, Port]], done: int) -> list[int]:
+    """The numbers to write of columns and their ports, row by row."""
+    return decimals.in_turn([_plain_numbers(column, port, done) for column, port in pairs])
 
 
 def _as_array(column: Any, port: Port) -> Any:

@@ -1,4 +1,4 @@
-"""Results of many samples, which another process reads: they are those of few samples, and so are refusals and faults."""
+"""Many samples, which further processes write and read: results, refusals and faults are those of few samples."""
 
 from __future__ import annotations
 
@@ -11,64 +11,93 @@ from unittest import mock
 
 from piperench import Program, Refused, Streams
 from piperench import _results as results
-from piperench._reader import COMMAND, numbers_of
-from piperench._samples import count_of
-from piperench._streams import Port
+from piperench import _samples as samples
+from piperench._numbers import COMMAND, lines_of, numbers_of, packed
+from piperench._streams import Port, numpy
 
 from .support import SUM, children, needs_programs, stand_in, sums
 
 VALUES = [n * 37 % 256 for n in range(30_000)]
 
-#: Two inputs of 64 bits; what they sum to, and one of them as it is.
+#: The sum of four samples of 16 bits.
+SUM16 = "input x:16;\noutput y:18 = x + x@1 + x@2 + x@3;\n"
+
+#: Two inputs of 64 bits; what they sum to, and the last bits of one of them.
 WIDE = "input a:64; input b:64; output sum:64 = a + b; output low:8 = a;"
 
-
-def read(text: bytes) -> tuple[int, list[int]]:
-    """The status of the reader for a text, and the numbers that it hands on."""
-    done = subprocess.run(COMMAND, input=text, stdout=subprocess.PIPE, stderr=subprocess.DEVNULL)
-    return done.returncode, list(array.array("Q", done.stdout))
+without_numpy = unittest.skipIf(numpy is not None, "numpy needs no further processes")
+few_are_many = mock.patch.object(samples, "MANY", 3)
 
 
-class Reader(unittest.TestCase):
-    def test_numbers(self) -> None:
-        self.assertEqual(numbers_of(b"1 2\n30 18446744073709551615\n"), [1, 2, 30, (1 << 64) - 1])
-        self.assertEqual(read(b"1 2\n30 18446744073709551615\n"), (0, [1, 2, 30, (1 << 64) - 1]))
+def through(task: str, given: bytes) -> tuple[int, bytes]:
+    """The status of a further process, and what it writes."""
+    done = subprocess.run([*COMMAND, task], input=given, stdout=subprocess.PIPE, stderr=subprocess.DEVNULL)
+    return done.returncode, done.stdout
+
+
+def words(*numbers: int) -> bytes:
+    return array.array("Q", numbers).tobytes()
+
+
+class Numbers(unittest.TestCase):
+    def test_lines(self) -> None:
+        top = (1 << 64) - 1
+        self.assertEqual(lines_of([1, 2, 30, top], 2), b"1 2\n30 18446744073709551615\n")
+        self.assertEqual(lines_of([1, 2, -1], 1), b"1\n2\n-1\n")
+        self.assertEqual(numbers_of(b"1 2\n30 18446744073709551615\n"), [1, 2, 30, top])
+
+    def test_writing(self) -> None:
+        pieces = packed([1, 2, 30, (1 << 64) - 1], 2) + packed([7, -1], 1) + packed([1 << 64, 5], 2) + packed([9], 1)
+        self.assertEqual(
+            through("write", pieces), (0, b"1 2\n30 18446744073709551615\n7\n-1\n18446744073709551616 5\n9\n")
+        )
+        self.assertEqual(through("write", b""), (0, b""))
+
+    def test_reading(self) -> None:
+        self.assertEqual(through("read", b"1 2\n30 18446744073709551615\n"), (0, words(1, 2, 30, (1 << 64) - 1)))
         values = [n * n for n in range(100_000)]
-        self.assertEqual(read("".join(f"{value}\n" for value in values).encode()), (0, values))
+        self.assertEqual(through("read", "".join(f"{value}\n" for value in values).encode()), (0, words(*values)))
 
     def test_a_line_without_its_end_counts_for_nothing(self) -> None:
         for text, values in ((b"", []), (b"1", []), (b"1\n", [1]), (b"1 2\n23", [1, 2])):
-            self.assertEqual(read(text), (0, values))
+            self.assertEqual(through("read", text), (0, words(*values)))
 
     def test_what_is_no_number_is_an_error(self) -> None:
         for text in (b"1\nx\n", b"18446744073709551616\n"):
-            self.assertNotEqual(read(text)[0], 0)
+            self.assertNotEqual(through("read", text)[0], 0)
+
+    def test_a_reader_that_is_gone_is_none(self) -> None:
+        read, written = os.pipe()
+        os.close(read)
+        with open(written, "wb") as to:
+            done = subprocess.run([*COMMAND, "write"], input=packed([1] * 9999, 1), stdout=to, stderr=subprocess.PIPE)
+        self.assertEqual((done.returncode, done.stderr), (0, b""))
 
 
-@unittest.skipIf(results.numpy is not None, "numpy reads results faster")
+@without_numpy
 class Choice(unittest.TestCase):
     def test_how_many_samples_there_are(self) -> None:
-        self.assertEqual([count_of(form) for form in ([1, 2], (1, 2, 3), range(4), b"12345", array.array("H", [1]))], [2, 3, 4, 5, 1])
-        self.assertEqual([count_of(form) for form in ({"x": [1, 2], "y": [3, 4]}, Streams({"x": [1, 2, 3]}))], [2, 3])
-        self.assertEqual([count_of(form) for form in ({}, {"x": iter([1])}, iter([1]), "samples.txt")], [0, 0, 0, 0])
+        forms = [[1, 2], (1, 2, 3), range(4), b"12345", array.array("H", [1]), {"x": [1, 2], "y": [3, 4]}, Streams({"x": [1, 2, 3]})]
+        self.assertEqual(list(map(samples.count_of, forms)), [2, 3, 4, 5, 1, 2, 3])
+        self.assertEqual([samples.count_of(form) for form in ({}, {"x": iter([1])}, iter([1]), "samples.txt")], [0, 0, 0, 0])
 
-    def test_many_results_of_9_to_64_bits_are_packed(self) -> None:
-        for count, widths, packed in (
-            (results.MANY - 1, [16], False),
-            (results.MANY, [16], True),
-            (results.MANY, [8], False),
-            (results.MANY, [9], True),
-            (results.MANY, [1, 64], True),
-            (results.MANY, [1, 65], False),
-            (results.MANY, [16, None], False),
+    def test_many_numbers_of_9_to_64_bits_are_packed(self) -> None:
+        for count, widths, expected in (
+            (samples.MANY - 1, [16], False),
+            (samples.MANY, [16], True),
+            (samples.MANY, [8], False),
+            (samples.MANY, [9], True),
+            (samples.MANY, [1, 64], True),
+            (samples.MANY, [1, 65], False),
+            (samples.MANY, [16, None], False),
         ):
-            made = results.results_of(range(count), lambda: [Port(f"y{k}", width) for k, width in enumerate(widths)])
-            self.assertEqual(made.packed, packed, (count, widths))
+            ports = [Port(f"y{k}", width) for k, width in enumerate(widths)]
+            self.assertEqual(results.results_of(range(count), lambda: ports).packed, expected, (count, widths))
+            self.assertEqual(samples.feed_of(range(count), ports).packed, expected, (count, widths))
 
     def test_words_in_pieces(self) -> None:
         ports = [Port("a", 64), Port("b", 64, True), Port("c", 10), Port("d", 10, True)]
-        rows = [(n << 54, n << 54, n, n) for n in range(1024)]
-        data = array.array("Q", [number for row in rows for number in row]).tobytes()
+        data = words(*[number for n in range(1024) for number in (n << 54, n << 54, n, n)])
         # The numbers of 512 and more have their first bit set.
         expected = [(n << 54, n - 1024 * (n >> 9) << 54, n, n - 1024 * (n >> 9)) for n in range(1024)]
         for size in (1000, 9999, len(data)):
@@ -80,16 +109,21 @@ class Choice(unittest.TestCase):
 
 
 @needs_programs
-@unittest.skipIf(results.numpy is not None, "numpy reads results faster")
-@mock.patch.object(results, "MANY", 3)
+@without_numpy
+@few_are_many
 class Runs(unittest.TestCase):
     def test_sums(self) -> None:
-        for program in (Program(SUM), Program(SUM).compile()):
-            call = program.run if isinstance(program, Program) else program.exec
-            for form in (VALUES, bytes(VALUES), {"x": VALUES}, [(value,) for value in VALUES]):
-                self.assertEqual(call(form).rows(), sums(VALUES))
-        self.assertEqual(Program(SUM).eval(VALUES).rows(), sums(VALUES))
-        self.assertEqual(Program(SUM).checkpoint([]).move(VALUES).rows(), sums(VALUES))
+        values = [n * 7919 % 65536 for n in range(30_000)]
+        for text, given in ((SUM, VALUES), (SUM16, values), (SUM16, VALUES)):
+            program = Program(text)
+            for form in (given, tuple(given), array.array("H", given), {"x": given}, [(value,) for value in given]):
+                self.assertEqual(program.run(form).rows(), sums(given))
+            self.assertEqual(program.compile().exec(given).rows(), sums(given))
+            self.assertEqual(program.checkpoint([]).move(given).rows(), sums(given))
+            self.assertEqual(program.checkpoint(given).samples, len(given))
+            self.assertEqual(program.eval(given).rows(), sums(given))
+        self.assertEqual(Program(SUM16).run(bytes(VALUES)).rows(), sums(VALUES))
+        self.assertEqual(Program(SUM16).trace(values[:500]).results.rows(), sums(values[:500]))
         self.assertEqual(children(), [])
 
     def test_numbers_of_64_bits_at_their_ends(self) -> None:
@@ -98,51 +132,62 @@ class Runs(unittest.TestCase):
         made = Program(WIDE, signed=["a", "b", "sum", "low"]).run(pairs)
         self.assertEqual(made.rows(), [(-1, 0), (-top, -1), (-2, -1), (-1, 0), (0, 0)] * 100)
         self.assertEqual(type(made["sum"]), array.array)
+        made = Program(WIDE).run([(2 * top - 1, 1), (top, top - 1)] * 100)
+        self.assertEqual(made.rows(), [(0, 255), (2 * top - 1, 0)] * 100)
 
     def test_a_bad_sample(self) -> None:
-        for wrong in (256, -1, 1 << 70):
+        for wrong in (65536, -1, 1 << 70):
             with self.assertRaises(Refused) as caught:
-                Program(SUM).run([*VALUES, wrong, 1])
+                Program(SUM16).run([*VALUES, wrong, *VALUES])
             self.assertEqual((caught.exception.status, caught.exception.place.line), (7, len(VALUES) + 1))
+            self.assertIn(f": {wrong}\n", str(caught.exception))
             self.assertEqual(caught.exception.results.rows(), sums(VALUES))
-        with self.assertRaisesRegex(ValueError, "sample 30001: 128 of x is no signed number"):
-            Program(SUM, signed=["x"]).run([0] * len(VALUES) + [128])
+        with self.assertRaisesRegex(ValueError, "sample 30001: 32768 of x is no signed number"):
+            Program(SUM16, signed=["x"]).run([0] * len(VALUES) + [32768])
         with self.assertRaises(TypeError):
-            Program(SUM).run([*VALUES, 1.5])
+            Program(SUM16).run([*VALUES, 1.5])
+        with self.assertRaisesRegex(ValueError, "a sample has 2 numbers"):
+            Program(WIDE).run([*zip(VALUES, VALUES), (1, 2, 3)])
         self.assertEqual(children(), [])
 
     def test_a_program_that_is_refused(self) -> None:
         with self.assertRaises(Refused) as caught:
-            Program("input x:8; output y:10 = z;").run(VALUES)
-        self.assertEqual((caught.exception.status, caught.exception.place.column), (3, 26))
+            Program("input x:16; output y:10 = z;").run(VALUES)
+        self.assertEqual((caught.exception.status, caught.exception.place.column), (3, 27))
 
 
-@unittest.skipIf(results.numpy is not None, "numpy reads results faster")
-@mock.patch.object(results, "MANY", 3)
+@without_numpy
+@few_are_many
 class Faults(unittest.TestCase):
     """Stand-ins for a run."""
 
     def test_results_before_a_fault(self) -> None:
         with stand_in("piperench", "head -c 100 >/dev/null; printf '5\\n66\\n7'; echo 'bad sample: line 9' >&2; exit 7"):
             with self.assertRaises(Refused) as caught:
-                Program(SUM).run(VALUES)
+                Program(SUM16).run(VALUES)
         self.assertEqual(caught.exception.results.rows(), [(5,), (66,)])
 
     def test_a_program_that_is_ended(self) -> None:
         with stand_in("piperench", "echo 5; kill -9 $$"), self.assertRaisesRegex(ChildProcessError, "signal 9"):
-            Program(SUM).run(VALUES)
+            Program(SUM16).run(VALUES)
 
-    def test_a_reader_that_ends_early(self) -> None:
-        for words, status in (([sys.executable, "-c", "exit(3)"], 3), ([sys.executable, "-c", "import os; os.kill(os.getpid(), 9)"], -9)):
-            with mock.patch("piperench._call.COMMAND", words), stand_in("piperench", "cat >/dev/null; exit 0"):
-                with self.assertRaisesRegex(ChildProcessError, f"reader of the results ended with status {status}"):
-                    Program(SUM).run(VALUES)
+    def test_a_program_that_cannot_write(self) -> None:
+        with stand_in("piperench", "echo 'write fault' >&2; exit 11"), self.assertRaises(BrokenPipeError):
+            Program(SUM16).run(VALUES * 10)
 
-    def test_a_reader_that_does_not_start(self) -> None:
+    def test_a_further_process_that_ends_early(self) -> None:
+        for ending, status in (("exit(3)", 3), ("import os; os.kill(os.getpid(), 9)", -9)):
+            with mock.patch("piperench._call.COMMAND", [sys.executable, "-c", ending]), stand_in("piperench", "cat >/dev/null; exit 0"):
+                for text in (SUM, SUM16):
+                    with self.assertRaisesRegex(ChildProcessError, f"ended with status {status}"):
+                        Program(text).run(VALUES)
+
+    def test_a_further_process_that_does_not_start(self) -> None:
         open_before = len(os.listdir("/proc/self/fd"))
         with mock.patch("piperench._call.COMMAND", ["/nowhere/python"]), stand_in("piperench", "cat >/dev/null; exit 0"):
-            with self.assertRaises(FileNotFoundError):
-                Program(SUM).run(VALUES)
+            for text in (SUM, SUM16):
+                with self.assertRaises(FileNotFoundError):
+                    Program(text).run(VALUES)
         self.assertEqual((children(), len(os.listdir("/proc/self/fd"))), ([], open_before))
 
     def test_pipes_and_files_are_given_back(self) -> None:
@@ -150,5 +195,5 @@ class Faults(unittest.TestCase):
         with stand_in("piperench", "exit 10"):
             for _ in range(20):
                 with self.assertRaises(OSError):
-                    Program(SUM).run(VALUES)
+                    Program(SUM16).run(VALUES)
         self.assertEqual((children(), len(os.listdir("/proc/self/fd"))), ([], open_before))
