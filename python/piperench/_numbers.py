@@ -20,7 +20,10 @@ from collections.abc import Sequence
 #: The most bytes that are read at once: so many that they stay in the processor's cache till they are numbers.
 PIECE = 1 << 16
 
-#: How the program is called; ``write`` or ``read`` comes behind.
+#: The files of the program.
+PROGRAM = [sys.executable, __file__]
+
+#: How it is called; ``write`` or ``read`` comes behind.
 COMMAND = [sys.executable, "-I", "-S", __file__]
 
 # What stands before each piece that is to be written: how many numbers a line has, and how many bytes follow. Without numbers

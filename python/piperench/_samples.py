@@ -4,6 +4,7 @@ from __future__ import annotations
 
 import math
 import operator
+import os
 import struct
 from array import array
 from collections.abc import Iterable, Iterator, Mapping, Sequence
@@ -12,7 +13,7 @@ from typing import Any
 
 from . import _decimals as decimals
 from ._call import Feed
-from ._numbers import lines_of, packed
+from ._numbers import PROGRAM, lines_of, packed
 from ._streams import Port, Streams, numbers, numpy
 
 #: How many samples are written in one piece: few enough for the processor's cache, and for a pipe to hold more than one piece.
@@ -46,13 +47,13 @@ def feed_of(samples: Any, inputs: Sequence[Port]) -> Feed:
 
 
 def are_many(samples: Any) -> bool:
-    """Whether further processes are worth starting. numpy is faster without them."""
-    return numpy is None and count_of(samples) >= MANY
+    """Whether further processes are worth starting, and can be started. numpy is faster without them."""
+    return numpy is None and count_of(samples) >= MANY and all(map(os.path.isfile, PROGRAM))
 
 
 def want_packing(ports: Sequence[Port]) -> bool:
     """Whether the numbers of these inputs or outputs have 9 to 64 bits. Those of 8 bits are written and read faster at once."""
-    return 8 < max(port.width or 1 << 16 for port in ports) <= 64
+    return 8 < max((port.width or 1 << 16 for port in ports), default=0) <= 64
 
 
 def count_of(samples: Any) -> int:

@@ -77,8 +77,8 @@ class Numbers(unittest.TestCase):
 @without_numpy
 class Choice(unittest.TestCase):
     def test_how_many_samples_there_are(self) -> None:
-        forms = [[1, 2], (1, 2, 3), range(4), b"12345", array.array("H", [1]), {"x": [1, 2], "y": [3, 4]}, Streams({"x": [1, 2, 3]})]
-        self.assertEqual(list(map(samples.count_of, forms)), [2, 3, 4, 5, 1, 2, 3])
+        forms = [[1, 2], (1, 2, 3), range(4), b"12345", array.array("H", [1]), {"x": [1, 2], "y": [3, 4]}, Streams({"x": [1]})]
+        self.assertEqual(list(map(samples.count_of, forms)), [2, 3, 4, 5, 1, 2, 1])
         self.assertEqual([samples.count_of(form) for form in ({}, {"x": iter([1])}, iter([1]), "samples.txt")], [0, 0, 0, 0])
 
     def test_many_numbers_of_9_to_64_bits_are_packed(self) -> None:
@@ -90,10 +90,16 @@ class Choice(unittest.TestCase):
             (samples.MANY, [1, 64], True),
             (samples.MANY, [1, 65], False),
             (samples.MANY, [16, None], False),
+            (samples.MANY, [], False),
         ):
             ports = [Port(f"y{k}", width) for k, width in enumerate(widths)]
             self.assertEqual(results.results_of(range(count), lambda: ports).packed, expected, (count, widths))
             self.assertEqual(samples.feed_of(range(count), ports).packed, expected, (count, widths))
+
+    def test_where_no_process_can_be_started_none_is(self) -> None:
+        for program in (["", __file__], [sys.executable, "/nowhere.zip/_numbers.py"]):
+            with mock.patch.object(samples, "PROGRAM", program):
+                self.assertFalse(samples.feed_of(range(samples.MANY), [Port("x", 16)]).packed)
 
     def test_words_in_pieces(self) -> None:
         ports = [Port("a", 64), Port("b", 64, True), Port("c", 10), Port("d", 10, True)]
@@ -177,7 +183,8 @@ class Faults(unittest.TestCase):
 
     def test_a_further_process_that_ends_early(self) -> None:
         for ending, status in (("exit(3)", 3), ("import os; os.kill(os.getpid(), 9)", -9)):
-            with mock.patch("piperench._call.COMMAND", [sys.executable, "-c", ending]), stand_in("piperench", "cat >/dev/null; exit 0"):
+            words = [sys.executable, "-c", ending]
+            with mock.patch("piperench._call.COMMAND", words), stand_in("piperench", "cat >/dev/null; exit 0"):
                 for text in (SUM, SUM16):
                     with self.assertRaisesRegex(ChildProcessError, f"ended with status {status}"):
                         Program(text).run(VALUES)
