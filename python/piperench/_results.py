@@ -9,7 +9,7 @@ from typing import Any
 
 from . import _decimals as decimals
 from ._numbers import PIECE, numbers_of
-from ._samples import are_many, want_packing
+from ._samples import are_many, widest
 from ._streams import Port, Streams, column_of, numpy
 
 
@@ -76,7 +76,7 @@ class PackedResults(Results):
 
 def results_of(samples: Any, outputs: Callable[[], Sequence[Port]]) -> Results:
     """What takes the results of the samples, packed where that takes less time."""
-    return PackedResults(outputs) if are_many(samples) and want_packing(outputs()) else Results(outputs)
+    return PackedResults(outputs) if are_many(samples) and 0 < widest(outputs()) <= 64 else Results(outputs)
 
 
 def streams_of(lines: bytes, outputs: Sequence[Port]) -> Streams:
@@ -89,11 +89,10 @@ def streams_of(lines: bytes, outputs: Sequence[Port]) -> Streams:
 def _columns_of(lines: bytes, ports: Sequence[Port]) -> list[Any]:
     """A column for each output, from whole lines. It is a list where the output's width is not known."""
     count = len(ports)
-    widest = max(port.width or 1 << 16 for port in ports)
-    if numpy is not None and widest <= 64:
+    if numpy is not None and widest(ports) <= 64:
         values = decimals.array_of(lines)
         return [_array_of(values[k::count], port) for k, port in enumerate(ports)]
-    if widest <= 8:
+    if widest(ports) <= 8:
         octets = decimals.bytes_of(lines)
         return [_widened(octets[k::count], port) for k, port in enumerate(ports)]
     values = numbers_of(lines)

@@ -81,20 +81,21 @@ class Choice(unittest.TestCase):
         self.assertEqual(list(map(samples.count_of, forms)), [2, 3, 4, 5, 1, 2, 1])
         self.assertEqual([samples.count_of(form) for form in ({}, {"x": iter([1])}, iter([1]), "samples.txt")], [0, 0, 0, 0])
 
-    def test_many_numbers_of_9_to_64_bits_are_packed(self) -> None:
-        for count, widths, expected in (
-            (samples.MANY - 1, [16], False),
-            (samples.MANY, [16], True),
-            (samples.MANY, [8], False),
-            (samples.MANY, [9], True),
-            (samples.MANY, [1, 64], True),
-            (samples.MANY, [1, 65], False),
-            (samples.MANY, [16, None], False),
-            (samples.MANY, [], False),
+    def test_many_numbers_are_packed(self) -> None:
+        for count, widths, samples_are, results_are in (
+            (samples.MANY - 1, [16], False, False),
+            (samples.MANY, [16], True, True),
+            (samples.MANY, [8], False, True),
+            (samples.MANY, [9], True, True),
+            (samples.MANY, [1, 64], True, True),
+            (samples.MANY, [1, 65], False, False),
+            (samples.MANY, [16, None], False, False),
+            (samples.MANY, [], False, False),
         ):
             ports = [Port(f"y{k}", width) for k, width in enumerate(widths)]
-            self.assertEqual(results.results_of(range(count), lambda: ports).packed, expected, (count, widths))
-            self.assertEqual(samples.feed_of(range(count), ports).packed, expected, (count, widths))
+            with self.subTest(count=count, widths=widths):
+                self.assertEqual(samples.feed_of(range(count), ports).packed, samples_are)
+                self.assertEqual(results.results_of(range(count), lambda: ports).packed, results_are)
 
     def test_where_no_process_can_be_started_none_is(self) -> None:
         for program in (["", __file__], [sys.executable, "/nowhere.zip/_numbers.py"]):
@@ -160,6 +161,8 @@ class Runs(unittest.TestCase):
         with self.assertRaises(Refused) as caught:
             Program("input x:16; output y:10 = z;").run(VALUES)
         self.assertEqual((caught.exception.status, caught.exception.place.column), (3, 27))
+        with self.assertRaises(Refused):
+            Program("input x:16; let k = x;").run(VALUES)
 
 
 @without_numpy
