@@ -49,7 +49,7 @@ class Feed:
 class Call:
     """A running call of a program. Its standard input takes samples, and what it writes is read as it comes.
 
-    With ``packed_input`` it takes pieces of ``_numbers.packed``; with ``packed_output`` it gives the words of ``_numbers.read``.
+    With ``packed_input`` it takes pieces for ``_numbers.write``; with ``packed_output`` it gives the words of ``_numbers.read``.
     """
 
     def __init__(

@@ -1,11 +1,11 @@
 """Whole numbers as lines of decimals and as words of 8 bytes. Called as a program, it turns one into the other.
 
 Python takes longer to write and to read a sample of numbers above 8 bits than the program takes to work on it. So where there
-are many samples, two further Pythons stand before and behind the program in a pipeline, and this one gives and takes words:
+are many samples, two further Pythons stand before and behind the program in a pipeline:
 
-    words | _numbers.py write | piperench run .. | _numbers.py read | words
+    pieces | _numbers.py write | piperench run .. | _numbers.py read | words
 
-They want no package, and no setting of their caller.
+A piece has words, or lines that were made before. The further Pythons want no package, and no setting of their caller.
 """
 
 from __future__ import annotations
@@ -26,8 +26,7 @@ PROGRAM = [sys.executable, __file__]
 #: How it is called; ``write`` or ``read`` comes behind.
 COMMAND = [sys.executable, "-I", "-S", __file__]
 
-# What stands before each piece that is to be written: how many numbers a line has, and how many bytes follow. Without numbers
-# in a line, the bytes are lines already.
+# What stands before each piece: how many numbers a line is to have, or 0 where lines follow, and how many bytes follow.
 _HEAD = struct.Struct("=2q")
 
 _WITH_COMMAS = bytes.maketrans(b" \n", b",,")
@@ -50,15 +49,20 @@ def numbers_of(lines: bytes) -> list[int]:
     return json.loads(b"[" + lines[:-1].translate(_WITH_COMMAS) + b"]")
 
 
-def packed(numbers: Sequence[int], count: int) -> bytes:
-    """Numbers as a piece to be written in lines of so many."""
+def as_words(numbers: Sequence[int], count: int) -> bytes:
+    """A piece to be written in lines of so many numbers."""
     try:
         words = struct.pack(f"={len(numbers)}Q", *numbers)
     except struct.error:
         # A number is negative, or has more bits. The program is to see it as it is.
-        lines = lines_of(numbers, count)
-        return _HEAD.pack(0, len(lines)) + lines
+        return as_lines(numbers, count)
     return _HEAD.pack(count, len(words)) + words
+
+
+def as_lines(numbers: Sequence[int], count: int) -> bytes:
+    """A piece that is written already, in lines of so many numbers."""
+    lines = lines_of(numbers, count)
+    return _HEAD.pack(0, len(lines)) + lines
 
 
 def write() -> None:

@@ -8,12 +8,12 @@ import os
 import struct
 from array import array
 from collections.abc import Iterable, Iterator, Mapping, Sequence
-from itertools import islice
+from itertools import cycle, islice
 from typing import Any
 
 from . import _decimals as decimals
 from ._call import Feed
-from ._numbers import PROGRAM, lines_of, packed
+from ._numbers import PROGRAM, as_lines, as_words, lines_of
 from ._streams import Port, Streams, numbers, numpy
 
 #: How many samples are written in one piece: few enough for the processor's cache, and for a pipe to hold more than one piece.
@@ -65,9 +65,10 @@ def count_of(samples: Any) -> int:
 
 
 def _packed_pieces(samples: Any, inputs: Sequence[Port]) -> Iterator[bytes]:
+    """Pieces for the process that writes lines. Every second one has its lines, so that the two processes write half of them each."""
     done = 0
-    for columns in columns_of(samples, inputs, CHUNK):
-        yield packed(_in_turn(list(zip(columns, inputs)), done), len(inputs))
+    for columns, made in zip(columns_of(samples, inputs, CHUNK), cycle((as_lines, as_words))):
+        yield made(_in_turn(list(zip(columns, inputs)), done), len(inputs))
         done += len(columns[0])
 
 

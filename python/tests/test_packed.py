@@ -12,7 +12,7 @@ from unittest import mock
 from piperench import Program, Refused, Streams
 from piperench import _results as results
 from piperench import _samples as samples
-from piperench._numbers import COMMAND, lines_of, numbers_of, packed
+from piperench._numbers import COMMAND, as_lines, as_words, lines_of, numbers_of
 from piperench._streams import Port, numpy
 
 from .support import SUM, children, needs_programs, stand_in, sums
@@ -47,7 +47,7 @@ class Numbers(unittest.TestCase):
         self.assertEqual(numbers_of(b"1 2\n30 18446744073709551615\n"), [1, 2, 30, top])
 
     def test_writing(self) -> None:
-        pieces = packed([1, 2, 30, (1 << 64) - 1], 2) + packed([7, -1], 1) + packed([1 << 64, 5], 2) + packed([9], 1)
+        pieces = as_words([1, 2, 30, (1 << 64) - 1], 2) + as_words([7, -1], 1) + as_lines([1 << 64, 5], 2) + as_words([9], 1)
         self.assertEqual(
             through("write", pieces), (0, b"1 2\n30 18446744073709551615\n7\n-1\n18446744073709551616 5\n9\n")
         )
@@ -70,7 +70,7 @@ class Numbers(unittest.TestCase):
         read, written = os.pipe()
         os.close(read)
         with open(written, "wb") as to:
-            done = subprocess.run([*COMMAND, "write"], input=packed([1] * 9999, 1), stdout=to, stderr=subprocess.PIPE)
+            done = subprocess.run([*COMMAND, "write"], input=as_words([1] * 9999, 1), stdout=to, stderr=subprocess.PIPE)
         self.assertEqual((done.returncode, done.stderr), (0, b""))
 
 
