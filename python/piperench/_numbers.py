@@ -21,10 +21,10 @@ from collections.abc import Sequence
 PIECE = 1 << 16
 
 #: The files of the program.
-PROGRAM = [sys.executable, __file__]
+PROGRAM = [sys.executable, os.path.abspath(__file__)]
 
 #: How it is called; ``write`` or ``read`` comes behind.
-COMMAND = [sys.executable, "-I", "-S", __file__]
+COMMAND = [sys.executable, "-I", "-S", PROGRAM[1]]
 
 # What stands before each piece: how many numbers a line is to have, or 0 where lines follow, and how many bytes follow.
 _HEAD = struct.Struct("=2q")
