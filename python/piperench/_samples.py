@@ -48,8 +48,13 @@ def feed_of(samples: Any, inputs: Sequence[Port]) -> Feed:
 
 
 def are_many(samples: Any) -> bool:
-    """Whether further processes are worth starting, and can be started. numpy is faster without them."""
-    return numpy is None and count_of(samples) >= MANY and all(map(os.path.isfile, PROGRAM))
+    """Whether further processes are worth starting, which they are not with numpy or on two processors, and can be started."""
+    return numpy is None and count_of(samples) >= MANY and processors() >= 3 and all(map(os.path.isfile, PROGRAM))
+
+
+def processors() -> int:
+    """How many processors this process may use."""
+    return len(os.sched_getaffinity(0)) if hasattr(os, "sched_getaffinity") else os.cpu_count() or 1
 
 
 def widest(ports: Sequence[Port]) -> int:

@@ -27,6 +27,7 @@ WIDE = "input a:64; input b:64; output sum:64 = a + b; output low:8 = a;"
 
 without_numpy = unittest.skipIf(numpy is not None, "numpy needs no further processes")
 few_are_many = mock.patch.object(samples, "MANY", 3)
+on_four_processors = mock.patch.object(samples, "processors", lambda: 4)
 
 
 def through(task: str, given: bytes) -> tuple[int, bytes]:
@@ -75,6 +76,7 @@ class Numbers(unittest.TestCase):
 
 
 @without_numpy
+@on_four_processors
 class Choice(unittest.TestCase):
     def test_how_many_samples_there_are(self) -> None:
         forms = [[1, 2], (1, 2, 3), range(4), b"12345", array.array("H", [1]), {"x": [1, 2], "y": [3, 4]}, Streams({"x": [1]})]
@@ -102,6 +104,11 @@ class Choice(unittest.TestCase):
             with mock.patch.object(samples, "PROGRAM", program):
                 self.assertFalse(samples.feed_of(range(samples.MANY), [Port("x", 16)]).packed)
 
+    def test_on_two_processors_none_is_started(self) -> None:
+        for number, packed in ((1, False), (2, False), (3, True)):
+            with mock.patch.object(samples, "processors", lambda: number):
+                self.assertEqual(samples.feed_of(range(samples.MANY), [Port("x", 16)]).packed, packed)
+
     def test_words_in_pieces(self) -> None:
         ports = [Port("a", 64), Port("b", 64, True), Port("c", 10), Port("d", 10, True)]
         data = words(*[number for n in range(1024) for number in (n << 54, n << 54, n, n)])
@@ -118,6 +125,7 @@ class Choice(unittest.TestCase):
 @needs_programs
 @without_numpy
 @few_are_many
+@on_four_processors
 class Runs(unittest.TestCase):
     def test_sums(self) -> None:
         values = [n * 7919 % 65536 for n in range(30_000)]
@@ -167,6 +175,7 @@ class Runs(unittest.TestCase):
 
 @without_numpy
 @few_are_many
+@on_four_processors
 class Faults(unittest.TestCase):
     """Stand-ins for a run."""
 
