@@ -19,6 +19,7 @@ _pipelens() {
         --narrow
         --no-warnings
         --samples
+        --signed
     '
     # (a word is cut at `=`)
     [ "$before" != = ] || before=${COMP_WORDS[COMP_CWORD - 2]}
@@ -26,7 +27,7 @@ _pipelens() {
     COMPREPLY=()
     case $before in
     --fabric) mapfile -t COMPREPLY < <(compgen -W 'base wide' -- "$word") && return ;;
-    --name | --samples) return ;;
+    --name | --samples | --signed) return ;;
     esac
     case $word in
     -*) mapfile -t COMPREPLY < <(compgen -W "$options" -- "$word") && return ;;

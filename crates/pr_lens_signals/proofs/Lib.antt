@@ -1,3 +1,3 @@
-pub mod TextLemmas
 pub mod RowLemmas
+pub mod TrackLemmas
 pub mod SignalLemmas

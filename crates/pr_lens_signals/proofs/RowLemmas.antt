@@ -1,9 +1,9 @@
--- Samples that a feed gave, and the lines that are put of them.
-use Rattle.std.proofs.Common.{◌≡◌, ◌≢◌, ◌+◌, ◌-◌, ℕ, List, [], ◌∷◌, ◌++◌, drop, length, map, reverse, take, None, Some, Option, IfSome, append-nil, refl, sym, ap, ◌∙◌, subst}
-use Rattle.std.proofs.lemmas.Grind.{flat_map-append}
+-- Samples that a feed gave, and the rows that are put of them.
+use Rattle.std.proofs.Common.{◌≡◌, ◌≢◌, ◌≤◌, ◌+◌, ◌-◌, ℕ, List, [], ◌∷◌, ◌++◌, drop, length, length-drop, map, reverse, take, None, Some, Option, IfSome, append-nil, refl, sym, ap, ◌∙◌, subst, arith}
 use Rattle.std.proofs.lemmas.List.{map-append, take_rest}
 use Rattle.pr_edge.specs.Files.{Told, OfFile}
 use Rattle.pr_edge.specs.Tape.{Tape, Appends, AppendsFront}
+use Rattle.pr_edge.proofs.Appending.{Appends-append}
 use Rattle.pr_flat.specs.declared.equations.Operand.{Operand}
 use Rattle.pr_flat.specs.Shape.{EquationShape}
 use Rattle.pr_flat.specs.Values.{row_of, rows_of}
@@ -20,8 +20,11 @@ use Rattle.pr_source.specs.Outputs.{given, given_all}
 use Rattle.pr_source.specs.Standing.{Stands}
 use Rattle.pr_source.proofs.Latest.{rows_of-more}
 use Rattle.pr_tool_modes.proofs.SampleLemmas.{HasGiven, given_more, done_all}
-use Rattle.pr_lens_signals.specs.Texts.{cut_lines, numbers_line}
-use Rattle.pr_lens_signals.specs.Reading.{HasBegun, HasEnded, IsLongFeed}
+use Rattle.pr_lens_tracks.specs.declared.looks.Form.{Form}
+use Rattle.pr_lens_tracks.specs.declared.looks.Track.{Track}
+use Rattle.pr_lens_tracks.specs.Texts.{rows_text, text_behind}
+use Rattle.pr_lens_tracks.proofs.RowLemmas.{rows-more}
+use Rattle.pr_lens_signals.specs.Reading.{HasBegun, HasEnded, IsLongFeed, cut_rows}
 
 -- a feed that began as this one has given these samples, and the evaluator was given them
 pub record HasTaken (told : Told) (equations : List EquationShape) (widths : List ℕ) (first f : Feed) (v : Evaluator) : Type 0 where
@@ -29,13 +32,13 @@ pub record HasTaken (told : Told) (equations : List EquationShape) (widths : Lis
   pub reads : ReadsOn told [] first f (λ file. HasGiven first f file samples)
   pub stands : Stands equations widths samples v
 
-abbrev pub lines_of : ℕ → List EquationShape → List Operand → List ℕ → List (List ℕ) → List ℕ
-lines_of front equations outputs widths samples = cut_lines front (given_all equations outputs widths samples)
+abbrev pub rows_shown : ℕ → List EquationShape → List Operand → List ℕ → List (List ℕ) → List (List ℕ)
+rows_shown front equations outputs widths samples = cut_rows front (given_all equations outputs widths samples)
 
--- and their lines are put
-pub record HasPut (told : Told) (equations : List EquationShape) (outputs : List Operand) (widths : List ℕ) (front : ℕ) (first f : Feed) (v : Evaluator) (Put : List ℕ → Type 0) : Type 0 where
+-- and their rows are put
+pub record HasPut (told : Told) (equations : List EquationShape) (outputs : List Operand) (widths : List ℕ) (front : ℕ) (first f : Feed) (v : Evaluator) (Put : List (List ℕ) → Type 0) : Type 0 where
   pub taken : HasTaken told equations widths first f v
-  pub text : Put (lines_of front equations outputs widths taken.samples)
+  pub text : Put (rows_shown front equations outputs widths taken.samples)
 
 -- ---- before the first sample
 any_some : (o : Option (List ℕ)) (P : List ℕ → Type 0) → ((file : List ℕ) → P file) → IfSome o P
@@ -57,12 +60,12 @@ reads_none told inputs f long =
       holds = λ file begun. record { stands = long.fresh.stands file; samples = sym (ap (λ (n : ℕ). take n (fed f file).samples) long.fresh.samples) };
     }
 
-pub put_nothing : (told : Told) (equations : List EquationShape) (outputs : List Operand) (widths inputs : List ℕ) (front : ℕ) (f : Feed) (v : Evaluator) (Put : List ℕ → Type 0) → IsLongFeed inputs f → Stands equations widths [] v → Put []
+pub put_nothing : (told : Told) (equations : List EquationShape) (outputs : List Operand) (widths inputs : List ℕ) (front : ℕ) (f : Feed) (v : Evaluator) (Put : List (List ℕ) → Type 0) → IsLongFeed inputs f → Stands equations widths [] v → Put []
     → HasPut told equations outputs widths front f f v Put
 put_nothing told equations outputs widths inputs front f v Put long stands none =
     record { taken = record { samples = []; reads = reads_none told inputs f long; stands = stands }; text = none }
 
-pub begun_nothing : (told : Told) (program : Program) (inputs : List ℕ) (front : ℕ) (f : Feed) (Put : List ℕ → Type 0) → IsLongFeed inputs f → Put (cut_lines front (out program [])) → HasBegun told program front f f Put
+pub begun_nothing : (told : Told) (program : Program) (inputs : List ℕ) (front : ℕ) (f : Feed) (Put : List (List ℕ) → Type 0) → IsLongFeed inputs f → Put (cut_rows front (out program [])) → HasBegun told program front f f Put
 begun_nothing told program inputs front f Put long none =
     let reads = reads_none told inputs f long in
     record {
@@ -77,25 +80,20 @@ begun_nothing told program inputs front f Put long none =
     }
 
 -- ---- one sample more
-cut-more : (front : ℕ) (rows : List (List ℕ)) (row : List ℕ) → cut_lines front (rows ++ row ∷ []) ≡ cut_lines front rows ++ numbers_line (drop front row)
-cut-more front rows row =
-    let line : List ℕ → List ℕ = λ r. numbers_line (drop front r) in
-    flat_map-append line rows (row ∷ []) ∙ ap (λ (t : List ℕ). cut_lines front rows ++ t) (append-nil (line row))
-
-lines-more : (front : ℕ) (equations : List EquationShape) (outputs : List Operand) (widths : List ℕ) (samples : List (List ℕ)) (numbers row : List ℕ) → row ≡ given equations outputs (row_of equations widths (reverse (rows_of equations widths samples)) numbers)
-    → lines_of front equations outputs widths (samples ++ numbers ∷ []) ≡ lines_of front equations outputs widths samples ++ numbers_line (drop front row)
-lines-more front equations outputs widths samples numbers row is =
+shown-more : (front : ℕ) (equations : List EquationShape) (outputs : List Operand) (widths : List ℕ) (samples : List (List ℕ)) (numbers row : List ℕ) → row ≡ given equations outputs (row_of equations widths (reverse (rows_of equations widths samples)) numbers)
+    → rows_shown front equations outputs widths (samples ++ numbers ∷ []) ≡ rows_shown front equations outputs widths samples ++ drop front row ∷ []
+shown-more front equations outputs widths samples numbers row is =
     let rows = rows_of equations widths samples in
     let last = row_of equations widths (reverse rows) numbers in
     let all : given_all equations outputs widths (samples ++ numbers ∷ []) ≡ given_all equations outputs widths samples ++ row ∷ [] =
     ap (map (given equations outputs)) (rows_of-more equations widths samples numbers) ∙ (map-append (given equations outputs) rows (last ∷ []) ∙ ap (λ (r : List ℕ). map (given equations outputs) rows ++ r ∷ []) (sym is)) in
-    ap (cut_lines front) all ∙ cut-more front (given_all equations outputs widths samples) row
+    ap (cut_rows front) all ∙ map-append (drop front) (given_all equations outputs widths samples) (row ∷ [])
 
-pub put_more : (told : Told) (equations : List EquationShape) (outputs : List Operand) (widths : List ℕ) (front : ℕ) (first f f' : Feed) (v v' : Evaluator) (numbers row : List ℕ) (Put Put' : List ℕ → Type 0)
+pub put_more : (told : Told) (equations : List EquationShape) (outputs : List Operand) (widths : List ℕ) (front : ℕ) (first f f' : Feed) (v v' : Evaluator) (numbers row : List ℕ) (Put Put' : List (List ℕ) → Type 0)
     → (has : HasPut told equations outputs widths front first f v Put) → SameFile first f' → given_of f' ≡ given_of f + 1
     → ((bytes : List ℕ) → IsSeen told bytes f → ReadsOn told bytes f f' (λ file. StandsFor f file → IsGiven f' (given_of f) numbers file))
     → Stands equations widths (has.taken.samples ++ numbers ∷ []) v' → row ≡ given equations outputs (row_of equations widths (reverse (rows_of equations widths has.taken.samples)) numbers)
-    → ((text : List ℕ) → Put text → Put' (text ++ numbers_line (drop front row))) → HasPut told equations outputs widths front first f' v' Put'
+    → (Put (rows_shown front equations outputs widths has.taken.samples) → Put' (rows_shown front equations outputs widths has.taken.samples ++ drop front row ∷ [])) → HasPut told equations outputs widths front first f' v' Put'
 put_more told equations outputs widths front first f f' v v' numbers row Put Put' has same count next stands is put =
     let taken = has.taken in
     let on = next taken.reads.bytes taken.reads.seen in
@@ -112,18 +110,28 @@ put_more told equations outputs widths front first f f' v v' numbers row Put Put
         };
         stands = stands;
       };
-      text = subst Put' (sym (lines-more front equations outputs widths taken.samples numbers row is)) (put (lines_of front equations outputs widths taken.samples) has.text);
+      text = subst Put' (sym (shown-more front equations outputs widths taken.samples numbers row is)) (put has.text);
     }
 
 -- a row without its front
 pub row-rest : (row : List ℕ) (k front : ℕ) → k ≡ front → take (length row - k) (drop k row) ≡ drop front row
 row-rest row k front is = take_rest row k ∙ ap (λ (n : ℕ). drop n row) is
 
+pub rest-long : (row : List ℕ) (k front all instances : ℕ) → length row ≡ all → k ≡ all - instances → instances ≤ all → length (take (length row - k) (drop k row)) ≡ instances
+rest-long row k front all instances long is fits =
+    let some : length (drop k row) ≡ length row - k = length-drop k row in
+    ap length (take_rest row k) ∙ omega (arith, some, long, is, fits)
+
+-- fewer facts of what is put
+pub put-less : (told : Told) (equations : List EquationShape) (outputs : List Operand) (widths : List ℕ) (front : ℕ) (first f : Feed) (v : Evaluator) (Put Put' : List (List ℕ) → Type 0)
+    → HasPut told equations outputs widths front first f v Put → ((rows : List (List ℕ)) → Put rows → Put' rows) → HasPut told equations outputs widths front first f v Put'
+put-less told equations outputs widths front first f v Put Put' has less = record { taken = has.taken; text = less (rows_shown front equations outputs widths has.taken.samples) has.text }
+
 -- ---- no sample more
-module _ (told : Told) (program : Program) (equations : List EquationShape) (outputs : List Operand) (widths : List ℕ) (front : ℕ) (first f : Feed) (v : Evaluator) (Put : List ℕ → Type 0)
+module _ (told : Told) (program : Program) (equations : List EquationShape) (outputs : List Operand) (widths : List ℕ) (front : ℕ) (first f : Feed) (v : Evaluator) (Put : List (List ℕ) → Type 0)
     (has : HasPut told equations outputs widths front first f v Put) (means : given_all equations outputs widths has.taken.samples ≡ out program has.taken.samples) where
-  text-means : Put (cut_lines front (out program has.taken.samples))
-  text-means = subst (λ (rows : List (List ℕ)). Put (cut_lines front rows)) means has.text
+  text-means : Put (cut_rows front (out program has.taken.samples))
+  text-means = subst (λ (rows : List (List ℕ)). Put (cut_rows front rows)) means has.text
 
   -- the feed answered with the end of the samples
   pub put_ended : (f' : Feed) (numbers : List ℕ) (end : Got) → SameFile first f' → given_of f' ≡ given_of f + given_by end
@@ -166,3 +174,19 @@ module _ (told : Told) (program : Program) (equations : List EquationShape) (out
 pub front_more : (old now new : Tape) (text line : List ℕ) → Appends old now text → AppendsFront now new line → AppendsFront old new (text ++ line)
 front_more old now new text line done front =
     put_front old now new line [] (text ++ line) (record { written = text; done = done; whole = ap (λ (xs : List ℕ). text ++ xs) (append-nil line) }) front
+
+-- ---- one row more of a text
+module _ (form form' : Form) (tracks tracks' : List Track) (rows : List (List ℕ)) (row row' : List ℕ) (forms : form' ≡ form) (same : tracks' ≡ tracks) (is : row' ≡ row) where
+  text-same : text_behind form' tracks' rows row' ≡ text_behind form tracks rows row
+  text-same =
+      ap (λ (f : Form). text_behind f tracks' rows row') forms ∙ (ap (λ (ts : List Track). text_behind form ts rows row') same ∙ ap (λ (r : List ℕ). text_behind form tracks rows r) is)
+
+  pub row-appended : (old now new : Tape) → Appends old now (rows_text form tracks rows) → Appends now new (text_behind form' tracks' rows row') → Appends old new (rows_text form tracks (rows ++ row ∷ []))
+  row-appended old now new done more =
+      subst (λ (t : List ℕ). Appends old new t) (sym (rows-more form tracks rows row))
+      (Appends-append old now new (rows_text form tracks rows) (text_behind form tracks rows row) done (subst (λ (t : List ℕ). Appends now new t) text-same more))
+
+  pub row-front : (old now new : Tape) → Appends old now (rows_text form tracks rows) → AppendsFront now new (text_behind form' tracks' rows row') → AppendsFront old new (rows_text form tracks (rows ++ row ∷ []))
+  row-front old now new done more =
+      subst (λ (t : List ℕ). AppendsFront old new t) (sym (rows-more form tracks rows row))
+      (front_more old now new (rows_text form tracks rows) (text_behind form tracks rows row) done (subst (λ (t : List ℕ). AppendsFront now new t) text-same more))

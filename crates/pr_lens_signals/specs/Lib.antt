@@ -1,4 +1,4 @@
-pub mod Texts
+pub mod Manners
 pub mod Calls
 pub mod Signals
 pub mod Reading

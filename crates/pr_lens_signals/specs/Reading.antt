@@ -1,10 +1,10 @@
 -- Lines that are written while samples are read.
-use Rattle.std.specs.Prelude.{◌≡◌, ◌-◌, ◌^◌, ◌≤◌, ⊤, ℕ, List, [], take, vec_len}
+use Rattle.std.specs.Prelude.{◌≡◌, ◌-◌, ◌^◌, ◌≤◌, ⊤, ℕ, List, [], drop, map, take, Option, vec_len}
 use Rattle.pr_edge.specs.Count.{Rose}
 use Rattle.pr_edge.specs.Files.{Told}
 use Rattle.pr_lang.specs.declared.trees.Program.{Program}
 use Rattle.pr_lang_meaning.specs.Programs.{out}
-use Rattle.pr_flat.specs.Widths.{AreWidths}
+use Rattle.pr_flat.specs.Widths.{AreWidths, operand_width}
 use Rattle.pr_expand_spec.specs.Programs.{equations_of}
 use Rattle.pr_compile_front.specs.Passed.{HasEquations}
 use Rattle.pr_run.specs.Setting.{IsFresh}
@@ -14,7 +14,10 @@ use Rattle.pr_samples.specs.Feed.{widths_of, limit_of, most_of, fed, ReadsOn}
 use Rattle.pr_tool_answers.specs.declared.answers.Answer.{Answer}
 use Rattle.pr_tool_modes.specs.Evaluations.{AreAll}
 use Rattle.pr_lens_probe.specs.Shown.{Shows}
-use Rattle.pr_lens_signals.specs.Texts.{cut_lines}
+use Rattle.pr_lens_tracks.specs.declared.pens.Pen.{Pen}
+use Rattle.pr_lens_tracks.specs.declared.looks.Track.{Track}
+use Rattle.pr_lens_tracks.specs.Texts.{HasWritten}
+use Rattle.pr_lens_signals.specs.Manners.{AreNamed, Manner, tracks_of}
 use Rattle.pr_lens_signals.specs.declared.probing.Showing.{Showing}
 
 -- a program with the same equations as this one shows its instances behind so many outputs, and these are the widths
@@ -32,6 +35,30 @@ pub record IsReady (s : Showing) : Type 0 where
   pub widths : AreWidths (equations_of s.probed.scoped.program).equations s.widths
   pub front : vec_len s.probed.instances ≤ vec_len s.probed.flat.outputs
 
+-- the widths of all outputs, and of the instances
+abbrev pub all_widths : Showing → List ℕ
+all_widths s = map (operand_width s.widths) s.probed.flat.outputs.items
+
+abbrev pub tracks_in : Option (List ℕ) → Showing → List Track
+tracks_in signed s = tracks_of signed s.probed.instances.items (drop (front_of s) (all_widths s))
+
+-- a pen that wrote nothing yet has a stream, and room for a number, for each instance
+pub record IsPen (s : Showing) (pen : Pen) : Type 0 where
+  pub tracks : vec_len pen.tracks ≡ vec_len s.probed.instances
+  pub before : vec_len pen.before ≡ vec_len s.probed.instances
+  pub none : HasWritten [] pen
+
+-- a program shows its instances, and a pen writes them in this manner
+pub record IsSetUp (manner : Manner) (program : Program) (s : Showing) (pen : Pen) : Type 0 where
+  pub showing : IsShowing program s
+  pub named : AreNamed manner program
+  pub form : pen.form ≡ manner.form
+  pub tracks : pen.tracks.items ≡ tracks_in manner.signed s
+
+-- rows without so many numbers at their front
+abbrev pub cut_rows : ℕ → List (List ℕ) → List (List ℕ)
+cut_rows front rows = map (drop front) rows
+
 -- a feed that was not asked yet, with inputs of these widths, over a file of any length
 pub record IsLongFeed (widths : List ℕ) (feed : Feed) : Type 0 where
   pub fresh : IsFresh feed
@@ -43,17 +70,17 @@ pub record IsLongFeed (widths : List ℕ) (feed : Feed) : Type 0 where
 abbrev pub AreFirst : Feed → List ℕ → List (List ℕ) → Type 0
 AreFirst feed file samples = (k : ℕ) × (samples ≡ take k (fed feed file).samples)
 
--- a feed was read to its end, and the lines on all samples of each file that begins so are put
-pub record HasEnded (told : Told) (program : Program) (front : ℕ) (first now : Feed) (end : Got) (Put : List ℕ → Type 0) : Type 0 where
+-- a feed was read to its end, and the rows on all samples of each file that begins so are put
+pub record HasEnded (told : Told) (program : Program) (front : ℕ) (first now : Feed) (end : Got) (Put : List (List ℕ) → Type 0) : Type 0 where
   pub samples : List (List ℕ)
   pub reads : ReadsOn told [] first now (λ file. AreAll first file samples end)
-  pub text : Put (cut_lines front (out program samples))
+  pub text : Put (cut_rows front (out program samples))
 
--- a feed was read so far, and the lines on these first samples of each file that begins so are put
-pub record HasBegun (told : Told) (program : Program) (front : ℕ) (first now : Feed) (Put : List ℕ → Type 0) : Type 0 where
+-- a feed was read so far, and the rows on these first samples of each file that begins so are put
+pub record HasBegun (told : Told) (program : Program) (front : ℕ) (first now : Feed) (Put : List (List ℕ) → Type 0) : Type 0 where
   pub samples : List (List ℕ)
   pub reads : ReadsOn told [] first now (λ file. AreFirst first file samples)
-  pub text : Put (cut_lines front (out program samples))
+  pub text : Put (cut_rows front (out program samples))
 
 -- why a line was not written whole
 abbrev pub IsWriteCause : ℕ → ℕ → Answer → Type 0

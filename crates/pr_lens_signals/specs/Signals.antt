@@ -15,28 +15,30 @@ use Rattle.pr_tool_answers.specs.declared.answers.Answer.{Answer}
 use Rattle.pr_tool_modes.specs.Files.{IsText}
 use Rattle.pr_tool_modes.specs.Programs.{inputs_of}
 use Rattle.pr_tool_modes.specs.Samples.{fed_in}
-use Rattle.pr_lens_probe.specs.Shown.{HasStreams}
+use Rattle.pr_lens_probe.specs.Shown.{HasStreams, width_of}
+use Rattle.pr_lens_tracks.specs.Texts.{streams_text}
 use Rattle.pr_lens_signals.specs.Calls.{Call}
-use Rattle.pr_lens_signals.specs.Texts.{csv_text}
+use Rattle.pr_lens_signals.specs.Manners.{AreNamed, Manner, tracks_of}
 
 -- the numbers of streams at each of so many samples
 abbrev pub rows_of : ℕ → List Stream → List (List ℕ)
 rows_of count streams = map (λ n. numbers_at n streams) (range_with_len 0 count)
 
 -- on these samples the instances of a program stand for streams, and this is the text of their names and numbers
-pub record IsSignals (program : Program) (samples : List (List ℕ)) (text : List ℕ) : Type 0 where
+pub record IsSignals (manner : Manner) (program : Program) (samples : List (List ℕ)) (text : List ℕ) : Type 0 where
   pub outputs : List Stream
   pub streams : List Stream
   pub has : HasStreams program samples outputs streams
-  pub is : text ≡ csv_text (instances_of program) (rows_of (length samples) streams)
+  pub named : AreNamed manner program
+  pub is : text ≡ streams_text manner.form (tracks_of manner.signed (instances_of program) (map width_of streams)) (rows_of (length samples) streams)
 
 -- these are all samples of the file, they end so, and the whole text on them is written
-pub record IsWhole (told : Told) (name : List ℕ) (program : Program) (ending : Ending) (old new : Tape) : Type 0 where
+pub record IsWhole (manner : Manner) (told : Told) (name : List ℕ) (program : Program) (ending : Ending) (old new : Tape) : Type 0 where
   pub file : List ℕ
   pub is : IsText told name file
   pub ends : (fed_in (inputs_of program) file).ending ≡ ending
   pub text : List ℕ
-  pub signals : IsSignals program (fed_in (inputs_of program) file).samples text
+  pub signals : IsSignals manner program (fed_in (inputs_of program) file).samples text
   pub written : Appends old new text
 
 -- a fact of the bytes that a file may have, and of its own where they are told
@@ -50,27 +52,27 @@ abbrev pub AreFirst : List ℕ → List (List ℕ) → List ℕ → Type 0
 AreFirst widths samples file = (k : ℕ) × (samples ≡ take k (fed_in widths file).samples)
 
 -- the text on first samples of the file is put
-pub record IsBegun (told : Told) (name : List ℕ) (program : Program) (Put : List ℕ → Type 0) : Type 0 where
+pub record IsBegun (manner : Manner) (told : Told) (name : List ℕ) (program : Program) (Put : List ℕ → Type 0) : Type 0 where
   pub samples : List (List ℕ)
   pub first : OfBytes told name (AreFirst (inputs_of program) samples)
   pub text : List ℕ
-  pub signals : IsSignals program samples text
+  pub signals : IsSignals manner program samples text
   pub put : Put text
 
 -- a program has more instances than turns are left
 abbrev pub HasManyInstances : Program → Type 0
 HasManyInstances program = 65536 < turns_after (program_walk program) + length (instances_of program)
 
--- what it comes to that the signals of a program are asked for, on the samples of the file of this name
-abbrev pub IsShown : List ℕ → Program → Call → Answer → Type 0
-IsShown name program c Answer.Ok = IsWhole c.told name program End c.old c.new
-IsShown name program c (Answer.BadSample line) = IsWhole c.told name program (BadSample line) c.old c.new
-IsShown name program c (Answer.Limit which) =
-    ((which ≡ Cap.Turns) × HasManyInstances program × (c.new ≡ c.old)) ⊎ IsWhole c.told name program (Limit which) c.old c.new
-IsShown name program c Answer.ReadFault = HasReadCause c.told name c.reads_before c.reads_now × IsBegun c.told name program (Appends c.old c.new)
-IsShown name program c Answer.WriteFault = Rose c.writes_before c.writes_now × IsBegun c.told name program (AppendsFront c.old c.new)
-IsShown name program c Answer.Memory = (c.new ≡ c.old) ⊎ IsBegun c.told name program (AppendsFront c.old c.new)
-IsShown name program c answer = ⊥
+-- what it comes to that the signals of a program are asked for in this manner, on the samples of the file of this name
+abbrev pub IsShown : Manner → List ℕ → Program → Call → Answer → Type 0
+IsShown manner name program c Answer.Ok = IsWhole manner c.told name program End c.old c.new
+IsShown manner name program c (Answer.BadSample line) = IsWhole manner c.told name program (BadSample line) c.old c.new
+IsShown manner name program c (Answer.Limit which) =
+    ((which ≡ Cap.Turns) × HasManyInstances program × (c.new ≡ c.old)) ⊎ IsWhole manner c.told name program (Limit which) c.old c.new
+IsShown manner name program c Answer.ReadFault = HasReadCause c.told name c.reads_before c.reads_now × IsBegun manner c.told name program (Appends c.old c.new)
+IsShown manner name program c Answer.WriteFault = Rose c.writes_before c.writes_now × IsBegun manner c.told name program (AppendsFront c.old c.new)
+IsShown manner name program c Answer.Memory = (c.new ≡ c.old) ⊎ IsBegun manner c.told name program (AppendsFront c.old c.new)
+IsShown manner name program c answer = ⊥
 
 -- why the instances of a program are not shown
 abbrev pub IsUnshown : Program → Answer → Type 0

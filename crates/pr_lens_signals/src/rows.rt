@@ -1,6 +1,6 @@
-//! The lines of a program that shows its instances, which are written while the samples are read.
+//! The rows of a program that shows its instances, which are written while the samples are read.
 
-ghost use Rattle.std.specs.Prelude.{◌≡◌, ◌≢◌, ◌≤◌, [], ℕ, List, length, vec_len, IfErr, IfOk, OnErr, OnOk};
+ghost use Rattle.std.specs.Prelude.{◌≡◌, ◌≢◌, ◌≤◌, ◌<◌, ◌+◌, ◌++◌, ◌∷◌, [], ℕ, List, length, vec_len, IfErr, IfOk, OnErr, OnOk};
 ghost use Rattle.pr_edge.specs.Files.{HasReadCause, IsMissing};
 ghost use Rattle.pr_edge.specs.Tape.{Appends, AppendsFront};
 ghost use Rattle.pr_flat.specs.Flats.{equations_of as flat_equations};
@@ -8,24 +8,23 @@ ghost use Rattle.pr_samples.specs.declared.feed.Got.{Got};
 ghost use Rattle.pr_samples.specs.Feed.{name_of, SameFile};
 ghost use Rattle.pr_source.specs.Standing.{Stands};
 ghost use Rattle.pr_tool_modes.specs.Programs.{inputs_of};
-ghost use Rattle.pr_lens_signals.specs.Reading.{HasBegun, HasEnded, front_of, IsLongFeed, IsReady, IsWriteCause};
-ghost use Rattle.pr_lens_signals.specs.Texts.{numbers_line};
+ghost use Rattle.pr_lens_tracks.specs.Texts.{HasWritten, rows_text, text_behind};
+ghost use Rattle.pr_lens_signals.specs.Reading.{HasBegun, HasEnded, front_of, IsLongFeed, IsPen, IsReady, IsWriteCause};
 
 use crate::probing::Showing;
-use crate::texts::put_numbers;
 use pr_base::Num;
 use pr_edge::{Shelf, Sink, write_all};
+use pr_lens_tracks::Pen;
 use pr_samples::{Feed, Got};
 use pr_source::Evaluator;
 use pr_tool_answers::Answer;
 
-/// What the lines of samples are made with.
+/// What samples are read, evaluated and written with.
 #[derive(Drop)]
 pub struct Work {
     pub feed: Feed,
     pub evaluator: Evaluator,
-    /// The room for a line.
-    pub line: Vec<u8>,
+    pub pen: Pen,
 }
 
 /// Writes a text that is made whole.
@@ -41,32 +40,32 @@ pub fn put_text<K: Sink>(out: &mut K, text: &[u8]) -> Result<(), Answer>
     }
 }
 
-/// The line of numbers, in room for it.
-fn make_line(line: &mut Vec<u8>, numbers: &[Num]) -> Result<(), Answer>
-    ensures line { OnOk result (line.new.items ≡ numbers_line numbers.now) }
-    ensures cause { IfErr result (λ answer. answer ≡ Answer.Memory) }
+/// Writes the text of a further row.
+fn put_row<K: Sink>(pen: &mut Pen, row: &[Num], out: &mut K) -> Result<(), Answer>
+    requires tracks { vec_len pen.old.tracks ≡ length row.now }
+    requires before { vec_len pen.old.before ≡ length row.now }
+    requires room { pen.old.count < 18446744073709551615 }
+    ensures all { (rows : List (List ℕ)) → HasWritten rows pen.old → OnOk result (Appends
+        (K.told out.old) (K.told out.new) (text_behind pen.old.form pen.old.tracks.items rows row.now)) }
+    ensures front { (rows : List (List ℕ)) → HasWritten rows pen.old → OnErr result (AppendsFront
+        (K.told out.old) (K.told out.new) (text_behind pen.old.form pen.old.tracks.items rows row.now)) }
+    ensures written { (rows : List (List ℕ)) → HasWritten rows pen.old
+        → OnOk result (HasWritten (rows ++ row.now ∷ []) pen.new) }
+    ensures form { pen.new.form ≡ pen.old.form }
+    ensures tracks { pen.new.tracks ≡ pen.old.tracks }
+    ensures count { OnOk result (pen.new.count ≡ pen.old.count + 1) }
+    ensures size { vec_len pen.new.before ≡ vec_len pen.old.before }
+    ensures cause { IfErr result (IsWriteCause (K.faults out.old) (K.faults out.new)) }
+    ensures later { K.faults out.old ≤ K.faults out.new }
 {
-    line.clear();
-    match put_numbers(line, numbers) {
-        Ok(()) => Ok(()),
+    match pen.write(row) {
+        Ok(()) => put_text(out, &pen.line),
         Err(_) => Err(Answer::Memory),
     }
 }
 
-/// Writes the line of numbers.
-fn put_row<K: Sink>(line: &mut Vec<u8>, numbers: &[Num], out: &mut K) -> Result<(), Answer>
-    ensures all { OnOk result (Appends (K.told out.old) (K.told out.new) (numbers_line numbers.now)) }
-    ensures front { OnErr result (AppendsFront (K.told out.old) (K.told out.new) (numbers_line numbers.now)) }
-    ensures cause { IfErr result (IsWriteCause (K.faults out.old) (K.faults out.new)) }
-    ensures later { K.faults out.old ≤ K.faults out.new }
-{
-    match make_line(line, numbers) {
-        Ok(()) => put_text(out, line.as_slice()),
-        Err(answer) => Err(answer),
-    }
-}
-
-/// Writes the lines of the instances, behind so many outputs, sample by sample. `sample` and `row` have room for one of each.
+/// Writes the numbers of the instances, which stand behind so many outputs, sample by sample. `sample` and `row` have room
+/// for one of each.
 pub fn put_rows<S: Shelf, K: Sink>(
     showing: &Showing,
     work: &mut Work,
@@ -79,12 +78,14 @@ pub fn put_rows<S: Shelf, K: Sink>(
     requires feed { IsLongFeed (inputs_of showing.now.probed.scoped.program) work.old.feed }
     requires evaluator { (widths : List ℕ) →
         Stands (flat_equations showing.now.probed.flat) widths [] work.old.evaluator }
+    requires pen { IsPen showing.now work.old.pen }
     requires sample { length sample.old ≡ vec_len showing.now.probed.scoped.inputs }
     requires row { length row.old ≡ vec_len showing.now.probed.flat.outputs }
     ensures ended { IfOk result
         (λ end. end ≢ Got.ReadFault
         → HasEnded (S.told shelf.old) showing.now.probed.scoped.program (front_of showing.now)
-        work.old.feed work.new.feed end (Appends (K.told out.old) (K.told out.new))) }
+        work.old.feed work.new.feed end (λ rows. Appends (K.told out.old) (K.told out.new)
+        (rows_text work.old.pen.form work.old.pen.tracks.items rows))) }
     ensures there { IfOk result
         (λ end. end ≢ Got.ReadFault → IsMissing (S.told shelf.old) (name_of work.old.feed) → ⊥) }
     ensures read { IfOk result
@@ -93,10 +94,12 @@ pub fn put_rows<S: Shelf, K: Sink>(
     ensures begun { IfOk result
         (λ end. end ≡ Got.ReadFault
         → HasBegun (S.told shelf.old) showing.now.probed.scoped.program (front_of showing.now)
-        work.old.feed work.new.feed (Appends (K.told out.old) (K.told out.new))) }
+        work.old.feed work.new.feed (λ rows. Appends (K.told out.old) (K.told out.new)
+        (rows_text work.old.pen.form work.old.pen.tracks.items rows))) }
     ensures cut { OnErr result
         (HasBegun (S.told shelf.old) showing.now.probed.scoped.program (front_of showing.now)
-        work.old.feed work.new.feed (AppendsFront (K.told out.old) (K.told out.new))) }
+        work.old.feed work.new.feed (λ rows. AppendsFront (K.told out.old) (K.told out.new)
+        (rows_text work.old.pen.form work.old.pen.tracks.items rows))) }
     ensures cause { IfErr result (IsWriteCause (K.faults out.old) (K.faults out.new)) }
     ensures file { SameFile work.old.feed work.new.feed }
     ensures later { S.faults shelf.old ≤ S.faults shelf.new }
@@ -110,7 +113,7 @@ pub fn put_rows<S: Shelf, K: Sink>(
             Got::Sample => {
                 work.evaluator
                     .next(&showing.probed.flat, &showing.widths, sample, row);
-                match put_row(&mut work.line, &row[front..], out) {
+                match put_row(&mut work.pen, &row[front..], out) {
                     Ok(()) => {}
                     Err(answer) => return Err(answer),
                 }

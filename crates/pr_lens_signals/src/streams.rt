@@ -1,6 +1,6 @@
 //! The streams of a program's names on the samples of a file.
 
-ghost use Rattle.std.specs.Prelude.{◌≡◌, ◌≢◌, ◌≤◌, [], ℕ, List, None, length, vec_len, IfErr, IfOk, OnErr, OnOk};
+ghost use Rattle.std.specs.Prelude.{◌≡◌, ◌≢◌, ◌≤◌, [], ℕ, List, None, length, vec_len, IfErr, IfNone, IfOk, IfSome, OnErr, OnOk, option_map};
 ghost use Rattle.pr_edge.specs.Tape.{Appends, AppendsFront};
 ghost use Rattle.pr_lang.specs.declared.trees.Program.{Program};
 ghost use Rattle.pr_scope.specs.Walk.{offence};
@@ -10,19 +10,20 @@ ghost use Rattle.pr_expand_spec.specs.Programs.{equations_of};
 ghost use Rattle.pr_samples.specs.Feed.{name_of};
 ghost use Rattle.pr_source.specs.Standing.{Stands};
 ghost use Rattle.pr_tool_modes.specs.Programs.{inputs_of};
+ghost use Rattle.pr_lens_tracks.specs.Texts.{head_text};
 ghost use Rattle.pr_lens_signals.specs.Calls.{call};
-ghost use Rattle.pr_lens_signals.specs.Reading.{IsLongFeed, IsReady, IsShowing, IsWriteCause};
+ghost use Rattle.pr_lens_signals.specs.Manners.{AreKnown, IsForeign, IsUnknownOf, Manner, manner_of};
+ghost use Rattle.pr_lens_signals.specs.Reading.{IsLongFeed, IsPen, IsReady, IsSetUp, IsWriteCause};
 ghost use Rattle.pr_lens_signals.specs.Signals.{IsShown};
-ghost use Rattle.pr_lens_signals.specs.Texts.{names_line};
 
 use crate::probing::{Showing, showing_of};
 use crate::rows::{Work, put_rows, put_text};
-use crate::texts::put_names;
+use crate::tracks::{NoStream, Style, tracks_of};
 use pr_base::Num;
 use pr_compile_front::Front;
 use pr_edge::{Shelf, Sink};
+use pr_lens_tracks::{Pen, Track, put_head, unknown_in};
 use pr_samples::Feed;
-use pr_scope_names::Instance;
 use pr_source::Evaluator;
 use pr_tool_answers::Answer;
 use pr_tool_modes::answer_of;
@@ -38,13 +39,14 @@ struct Start {
     row: Vec<Num>,
 }
 
-/// What the samples of a file are read and evaluated with.
-fn start_of(alloc: Global, showing: &Showing, samples: &str) -> Result<Start, AllocError>
+/// What the samples of a file are read, evaluated and written with.
+fn start_of(alloc: Global, showing: &Showing, pen: Pen, samples: &str) -> Result<Start, AllocError>
     ensures feed { IfOk result
         (λ s. IsLongFeed (inputs_of showing.now.probed.scoped.program) s.work.feed) }
     ensures name { IfOk result (λ s. name_of s.work.feed ≡ samples.now) }
     ensures evaluator { IfOk result
         (λ s. (widths : List ℕ) → Stands (flat_equations showing.now.probed.flat) widths [] s.work.evaluator) }
+    ensures pen { IfOk result (λ s. s.work.pen ≡ pen) }
     ensures sample { IfOk result (λ s. length s.sample.items ≡ vec_len showing.now.probed.scoped.inputs) }
     ensures row { IfOk result (λ s. length s.row.items ≡ vec_len showing.now.probed.flat.outputs) }
 {
@@ -52,25 +54,26 @@ fn start_of(alloc: Global, showing: &Showing, samples: &str) -> Result<Start, Al
     let evaluator = Evaluator::new(alloc, &showing.probed.flat)?;
     let sample = vec![in alloc; 0; showing.probed.scoped.inputs.len()]?;
     let row = vec![in alloc; 0; showing.probed.flat.outputs.len()]?;
-    let line = Vec::new(alloc);
     let work = Work {
         feed,
         evaluator,
-        line,
+        pen,
     };
     Ok(Start { work, sample, row })
 }
 
-/// Writes the line of names.
-fn put_header<K: Sink>(alloc: Global, instances: &[Instance], out: &mut K) -> Result<(), Answer>
-    ensures all { OnOk result (Appends (K.told out.old) (K.told out.new) (names_line instances.now)) }
-    ensures front { OnErr result (AppendsFront (K.told out.old) (K.told out.new) (names_line instances.now)) }
+/// Writes all that stands before the first row.
+fn put_start<K: Sink>(alloc: Global, pen: &Pen, out: &mut K) -> Result<(), Answer>
+    ensures all { OnOk result
+        (Appends (K.told out.old) (K.told out.new) (head_text pen.now.form pen.now.tracks.items)) }
+    ensures front { OnErr result
+        (AppendsFront (K.told out.old) (K.told out.new) (head_text pen.now.form pen.now.tracks.items)) }
     ensures cause { IfErr result (IsWriteCause (K.faults out.old) (K.faults out.new)) }
     ensures later { K.faults out.old ≤ K.faults out.new }
 {
-    let mut line = Vec::new(alloc);
-    match put_names(&mut line, instances) {
-        Ok(()) => put_text(out, line.as_slice()),
+    let mut text = Vec::new(alloc);
+    match put_head(&mut text, pen.form, &pen.tracks) {
+        Ok(()) => put_text(out, text.as_slice()),
         Err(_) => Err(Answer::Memory),
     }
 }
@@ -79,13 +82,15 @@ fn put_header<K: Sink>(alloc: Global, instances: &[Instance], out: &mut K) -> Re
 fn show<S: Shelf, K: Sink>(
     alloc: Global,
     showing: &Showing,
+    pen: Pen,
     samples: &str,
     shelf: &mut S,
     out: &mut K,
 ) -> Answer
     requires ready { IsReady showing.now }
-    ensures shown { (program : Program) → offence program ≡ None → IsShowing program showing.now
-        → IsShown samples.now program (call
+    requires pen { IsPen showing.now pen }
+    ensures shown { (manner : Manner) → (program : Program) → offence program ≡ None
+        → IsSetUp manner program showing.now pen → IsShown manner samples.now program (call
         (S.told shelf.old) (S.faults shelf.old) (S.faults shelf.new)
         (K.told out.old) (K.told out.new) (K.faults out.old) (K.faults out.new)) result }
     ensures later { S.faults shelf.old ≤ S.faults shelf.new }
@@ -93,11 +98,11 @@ fn show<S: Shelf, K: Sink>(
     ensures others { (q : List ℕ) → q ≢ samples.now → S.reach shelf.new q ≡ S.reach shelf.old q }
     ensures out_later { K.faults out.old ≤ K.faults out.new }
 {
-    let mut start = match start_of(alloc, showing, samples) {
+    let mut start = match start_of(alloc, showing, pen, samples) {
         Ok(start) => start,
         Err(_) => return Answer::Memory,
     };
-    match put_header(alloc, &showing.probed.instances, out) {
+    match put_start(alloc, &start.work.pen, out) {
         Ok(()) => {}
         Err(answer) => return answer,
     }
@@ -114,30 +119,57 @@ fn show<S: Shelf, K: Sink>(
     }
 }
 
-/// Writes the names of a program's stream instances, and then a line of their numbers for each sample of a file.
+/// The place of the first name of a list, where there is one, that no stream has.
+fn foreign_in(signed: Option<&str>, tracks: &[Track]) -> Option<usize>
+    ensures some { IfSome result (IsUnknownOf (option_map (λ s. s.now) signed.entry) tracks.now) }
+    ensures none { IfNone result (AreKnown (option_map (λ s. s.now) signed.entry) tracks.now) }
+{
+    match signed {
+        None => None,
+        Some(list) => unknown_in(list, tracks),
+    }
+}
+
+/// Writes the names of a program's stream instances, and then their numbers at each sample of a file.
 ///
-/// Each line is written before the next sample is read. Where a line is no sample, the lines of the samples before it stand
-/// written.
+/// The numbers at a sample are written before the next sample is read. Where a line is no sample, the text on the samples
+/// before it stands written.
 pub fn signals<S: Shelf, K: Sink>(
     alloc: Global,
     front: Front,
+    style: &Style,
     samples: &str,
     shelf: &mut S,
     out: &mut K,
-) -> Answer
+) -> Result<Answer, NoStream>
     requires few { length (equations_of front.scoped.program).equations ≤ 16384 }
     requires widths { AreWidths (equations_of front.scoped.program).equations front.widths }
     // The text is that of the streams of the program's names on all samples of the file, or on the first of them.
-    ensures shown { IsShown samples.now front.scoped.program (call
+    ensures shown { IfOk result (λ answer. IsShown (manner_of style.now) samples.now front.scoped.program (call
         (S.told shelf.old) (S.faults shelf.old) (S.faults shelf.new)
-        (K.told out.old) (K.told out.new) (K.faults out.old) (K.faults out.new)) result }
+        (K.told out.old) (K.told out.new) (K.faults out.old) (K.faults out.new)) answer) }
+    // A name that is to be shown as two's complement is that of no stream, and nothing is read or written.
+    ensures foreign { IfErr result (λ e. IsForeign (manner_of style.now) front.scoped.program e.place) }
+    ensures unwritten { OnErr result (K.told out.new ≡ K.told out.old) }
+    ensures unread { OnErr result (S.faults shelf.new ≡ S.faults shelf.old) }
     ensures later { S.faults shelf.old ≤ S.faults shelf.new }
     ensures same { S.told shelf.new ≡ S.told shelf.old }
     ensures others { (q : List ℕ) → q ≢ samples.now → S.reach shelf.new q ≡ S.reach shelf.old q }
     ensures out_later { K.faults out.old ≤ K.faults out.new }
 {
-    match showing_of(alloc, front) {
-        Ok(showing) => show(alloc, &showing, samples, shelf, out),
-        Err(answer) => answer,
+    let showing = match showing_of(alloc, front) {
+        Ok(showing) => showing,
+        Err(answer) => return Ok(answer),
+    };
+    let tracks = match tracks_of(alloc, &showing, style.signed) {
+        Ok(tracks) => tracks,
+        Err(_) => return Ok(Answer::Memory),
+    };
+    if let Some(place) = foreign_in(style.signed, &tracks) {
+        return Err(NoStream { place });
+    }
+    match Pen::make(alloc, style.form, tracks) {
+        Ok(pen) => Ok(show(alloc, &showing, pen, samples, shelf, out)),
+        Err(_) => Ok(Answer::Memory),
     }
 }

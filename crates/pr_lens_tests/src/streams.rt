@@ -80,6 +80,112 @@ fn streams(rt: HostRuntime) -> Result<(), AllocError> {
     check_calls(&rt, rt.alloc(), "", STREAMS)
 }
 
+/// Programs whose streams are shown as waveforms, and some of them as two's complement.
+const SHOWN: &str = "\
+$ pipelens signals p s --signed d
+input x:4;
+let d = x - 3;
+let s[0] = d == 15;
+output y = s[0];
+---
+2
+2
+3
+= 0
+$comment the named streams of a program, a step of time for each sample $end
+$timescale 1 ns $end
+$scope module program $end
+$var wire 4 0 x [3:0] $end
+$var integer 4 1 d [3:0] $end
+$var wire 1 2 s[0] [0:0] $end
+$var wire 1 3 y $end
+$upscope $end
+$enddefinitions $end
+#0
+b0010 0
+b1111 1
+b1 2
+b1 3
+#1
+#2
+b0011 0
+b0000 1
+b0 2
+b0 3
+#3
+$ pipelens signals p s --signed s
+input x:9;
+for i in 0..2 { let s[i] = x + i; }
+output y = 5;
+---
+256
+257
+1000
+= 7
+$comment the named streams of a program, a step of time for each sample $end
+$timescale 1 ns $end
+$scope module program $end
+$var wire 9 0 x [8:0] $end
+$var integer 10 1 s[0] [9:0] $end
+$var integer 10 2 s[1] [9:0] $end
+$var wire 3 3 y [2:0] $end
+$upscope $end
+$enddefinitions $end
+#0
+b100000000 0
+b0100000000 1
+b0100000001 2
+b101 3
+#1
+b100000001 0
+b0100000001 1
+b0100000010 2
+#2
+! bad sample: line 3
+$ pipelens signals p s --csv --signed d,y
+input x:4;
+let d = x - 3;
+output y = d;
+---
+2
+3
+10
+11
+= 0
+x,d,y
+2,-1,-1
+3,0,0
+10,7,7
+11,-8,-8
+$ pipelens signals p s --csv --signed x
+input x:128;
+output y = x;
+---
+170141183460469231731687303715884105727
+170141183460469231731687303715884105728
+340282366920938463463374607431768211455
+= 0
+x,y
+170141183460469231731687303715884105727,170141183460469231731687303715884105727
+-170141183460469231731687303715884105728,170141183460469231731687303715884105728
+-1,340282366920938463463374607431768211455
+$ pipelens signals p s --csv --signed c
+input c:1;
+output y = c;
+---
+1
+0
+= 0
+c,y
+-1,1
+0,0
+";
+
+#[test]
+fn shown(rt: HostRuntime) -> Result<(), AllocError> {
+    check_calls(&rt, rt.alloc(), "", SHOWN)
+}
+
 /// Calls that end otherwise than with the samples' end.
 const ENDINGS: &str = "\
 $ pipelens signals p s --csv
@@ -106,6 +212,22 @@ output y = x;
 ! syntax: token 4
 `pipelens why p` tells more
 $ pipelens signals p s
+= 0
+$comment the named streams of a program, a step of time for each sample $end
+$timescale 1 ns $end
+$scope module program $end
+$var wire 8 0 x [7:0] $end
+$var wire 8 1 y [7:0] $end
+$upscope $end
+$enddefinitions $end
+#0
+$ pipelens signals p s --csv --signed y,d,e
+= 2
+! no stream: d
+$ pipelens signals p none --signed x[0]
+= 2
+! no stream: x[0]
+$ pipelens signals p
 = 2
 ...
 $ pipelens signals p --csv

@@ -11,25 +11,35 @@ use Rattle.pr_tool_modes.proofs.FileLemmas.{cause_earlier}
 use Rattle.pr_lens_signals.specs.Calls.{call}
 use Rattle.pr_lens_signals.specs.Signals.{IsShown}
 use Rattle.pr_lens_tool.specs.Orders.{Asked}
-use Rattle.pr_lens_tool.specs.Streams.{HasStreams}
+use Rattle.pr_lens_signals.specs.Manners.{IsForeign, Manner}
+use Rattle.pr_lens_tool.specs.Streams.{HasForeign, HasStreams, manner_in}
 
 -- samples that are read after the program
-shown_earlier : (name : List ℕ) (program : Program) (told : Told) (a b now : ℕ) (old new : Tape) (wb wn : ℕ) (answer : Answer) → a ≤ b → IsShown name program (call told b now old new wb wn) answer → IsShown name program (call told a now old new wb wn) answer
-shown_earlier name program told a b now old new wb wn Answer.ReadFault h shown = (cause_earlier told name a b now h shown.0, shown.1)
-shown_earlier name program told a b now old new wb wn Answer.Ok h shown = shown
-shown_earlier name program told a b now old new wb wn (Answer.BadSample line) h shown = shown
-shown_earlier name program told a b now old new wb wn (Answer.Limit which) h shown = shown
-shown_earlier name program told a b now old new wb wn Answer.WriteFault h shown = shown
-shown_earlier name program told a b now old new wb wn Answer.Memory h shown = shown
-shown_earlier name program told a b now old new wb wn answer h shown = absurd shown
+shown_earlier : (manner : Manner) (name : List ℕ) (program : Program) (told : Told) (a b now : ℕ) (old new : Tape) (wb wn : ℕ) (answer : Answer) → a ≤ b → IsShown manner name program (call told b now old new wb wn) answer → IsShown manner name program (call told a now old new wb wn) answer
+shown_earlier manner name program told a b now old new wb wn Answer.ReadFault h shown = (cause_earlier told name a b now h shown.0, shown.1)
+shown_earlier manner name program told a b now old new wb wn Answer.Ok h shown = shown
+shown_earlier manner name program told a b now old new wb wn (Answer.BadSample line) h shown = shown
+shown_earlier manner name program told a b now old new wb wn (Answer.Limit which) h shown = shown
+shown_earlier manner name program told a b now old new wb wn Answer.WriteFault h shown = shown
+shown_earlier manner name program told a b now old new wb wn Answer.Memory h shown = shown
+shown_earlier manner name program told a b now old new wb wn answer h shown = absurd shown
 
 pub has_streams : (order : Asked) (samples : Text) (f : Front) (told told' : Told) (a b now : ℕ) (old new : Tape) (wb wn : ℕ) (answer : Answer) → IsLoaded told order.file f → order.second ≡ Some samples → told' ≡ told → a ≤ b
-    → IsShown samples f.scoped.program (call told' b now old new wb wn) answer → HasStreams order (call told a now old new wb wn) answer
+    → IsShown (manner_in order) samples f.scoped.program (call told' b now old new wb wn) answer → HasStreams order (call told a now old new wb wn) answer
 has_streams order samples f told told' a b now old new wb wn answer loaded second same later shown = record {
   program = f.scoped.program;
   widths = f.widths;
   has = record { text = loaded.text; file = loaded.file; short = loaded.short; has = loaded.passed.widths };
   samples = samples;
   second = second;
-  shown = shown_earlier samples f.scoped.program told a b now old new wb wn answer later (subst (λ (t : Told). IsShown samples f.scoped.program (call t b now old new wb wn) answer) same shown);
+  shown = shown_earlier (manner_in order) samples f.scoped.program told a b now old new wb wn answer later (subst (λ (t : Told). IsShown (manner_in order) samples f.scoped.program (call t b now old new wb wn) answer) same shown);
+}
+
+pub has_foreign : (order : Asked) (f : Front) (told : Told) (a now : ℕ) (old new : Tape) (wb wn place : ℕ) → IsLoaded told order.file f → IsForeign (manner_in order) f.scoped.program place → new ≡ old → HasForeign order (call told a now old new wb wn) place
+has_foreign order f told a now old new wb wn place loaded foreign same = record {
+  program = f.scoped.program;
+  widths = f.widths;
+  has = record { text = loaded.text; file = loaded.file; short = loaded.short; has = loaded.passed.widths };
+  foreign = foreign;
+  unwritten = same;
 }

@@ -1,13 +1,14 @@
 -- What is told of an answer to an order, with the name of the file.
-use Rattle.std.specs.Prelude.{◌≡◌, ℕ, Bool, List, [], ◌++◌, codes, if◌then◌else◌, Option, Some, None, option_and_then, option_map, IfSome}
+use Rattle.std.specs.Prelude.{◌≡◌, ℕ, Bool, List, [], ◌++◌, codes, if◌then◌else◌, Option, Some, None, option_and_then, option_map, IfSome, slice_get}
 use Rattle.pr_base.specs.declared.caps.Cap.{Cap}
 use Rattle.pr_base.specs.declared.fabrics.Fabric.{Fabric}
 use Rattle.pr_tool_answers.specs.declared.answers.Answer.{Answer}
 use Rattle.pr_tool.specs.Notes.{note_of}
 use Rattle.pr_lens_tool.specs.declared.outcomes.Outcome.{Outcome}
-use Rattle.pr_lens_tool.specs.declared.outcomes.Outcome.TheVariants.{Plain, Streamed}
+use Rattle.pr_lens_tool.specs.declared.outcomes.Outcome.TheVariants.{NoStream, Plain, Streamed}
 use Rattle.pr_lens_tool.specs.declared.outcomes.Reply.{Reply}
 use Rattle.pr_lens_tool.specs.Orders.{Asked}
+use Rattle.pr_lens_tracks.specs.Names.{names_in}
 use Rattle.pr_lens_tool.specs.Programs.{bounds_for}
 
 -- ---- a program that is refused
@@ -29,6 +30,13 @@ refused_line asked answer = note_of (bounds_for asked.fabric) answer ++ why_line
 abbrev pub fault_line : List ℕ → List ℕ
 fault_line name = codes "read fault: " ++ name ++ codes "\n"
 
+-- ---- a name that no stream has
+abbrev pub stream_line : List ℕ → List ℕ
+stream_line name = codes "no stream: " ++ name ++ codes "\n"
+
+abbrev pub foreign_line : Asked → ℕ → Option (List ℕ)
+foreign_line asked place = option_map stream_line (option_and_then (λ list. slice_get (names_in list) place) asked.signed)
+
 -- ---- either; other answers have their own line
 abbrev pub answer_line : Asked → Answer → Option (List ℕ)
 answer_line asked Answer.ReadFault = Some (fault_line asked.file)
@@ -43,6 +51,7 @@ answer_line asked answer = None
 abbrev pub line_for : Asked → Outcome → Option (List ℕ)
 line_for asked (Plain answer) = answer_line asked answer
 line_for asked (Streamed Answer.ReadFault) = option_map fault_line asked.second
+line_for asked (NoStream place) = foreign_line asked place
 line_for asked outcome = None
 
 -- a line that a reply has in place of the outcome's own is the one for what was asked

@@ -3,7 +3,7 @@
 ghost use Rattle.std.specs.Prelude.{◌≡◌, IfOk, IsErrOf, Some, None, true, false, option_map};
 ghost use Rattle.clap.specs.Words.{app_of, rule_of, found_of};
 ghost use Rattle.pr_tool_words.specs.Lawful.{is_true};
-ghost use Rattle.pr_tool_words.specs.Shape.{place, option_or, flag};
+ghost use Rattle.pr_tool_words.specs.Shape.{place, option, option_or, flag};
 ghost use Rattle.pr_lens_tool.specs.Tasks.{module_named};
 ghost use Rattle.pr_lens_tool.specs.Orders.{app, asked_in, asked_of, asked_by, fit, is_fit};
 
@@ -54,6 +54,14 @@ fn place<'a>(alloc: Global, name: &'a str, required: bool) -> Arg<'a>
     Arg::new(alloc, name).required(required)
 }
 
+/// An option with a value, which may be left out.
+fn option<'a>(alloc: Global, name: &'a str) -> Arg<'a>
+    ensures rule { rule_of result ≡ option name.entry.now }
+    ensures local { result.global ≡ false }
+{
+    Arg::new(alloc, name).long(name)
+}
+
 /// An option with a value, and the value where it is not given.
 fn option_or<'a>(alloc: Global, name: &'a str, usual: &'a str) -> Arg<'a>
     ensures rule { rule_of result ≡ option_or name.entry.now usual.entry.now }
@@ -83,7 +91,8 @@ fn command<'a>(alloc: Global) -> Result<Command<'a>, AllocError>
     let json = samples.arg(flag(alloc, "json"))?;
     let csv = json.arg(flag(alloc, "csv"))?;
     let warnings = csv.arg(flag(alloc, "no-warnings"))?;
-    warnings.arg(option_or(alloc, "name", NAME))
+    let name = warnings.arg(option_or(alloc, "name", NAME))?;
+    name.arg(option(alloc, "signed"))
 }
 
 /// Whether the value of an option without one is `true`.
@@ -96,22 +105,22 @@ fn is_true(value: Option<&str>) -> bool
     }
 }
 
-/// Whether a task is asked for with the files and the form that it needs.
-fn is_fit(task: Task, second: Option<&str>, csv: bool) -> bool
-    ensures { result ≡ is_fit task (option_map (λ s. s.now) second.entry) csv }
+/// Whether a task is asked for with the files that it needs.
+fn is_fit(task: Task, second: Option<&str>) -> bool
+    ensures { result ≡ is_fit task (option_map (λ s. s.now) second.entry) }
 {
     match task {
-        Task::Signals => second.is_some() && csv,
+        Task::Signals => second.is_some(),
         Task::Program(_) => second.is_none(),
         Task::Log(_) => second.is_none(),
     }
 }
 
-/// An order, where it is asked for with the files and the form that it needs.
+/// An order, where it is asked for with the files that it needs.
 fn fit<'a>(order: Order<'a>) -> Option<Order<'a>>
     ensures { option_map asked_in result ≡ fit (asked_in order.entry) }
 {
-    if is_fit(order.task, order.second, order.csv) {
+    if is_fit(order.task, order.second) {
         return Some(order);
     }
     None
@@ -146,6 +155,7 @@ fn found<'a>(matches: &ArgMatches<'a>) -> Option<Order<'a>>
         samples,
         json: is_true(matches.get_str("json")),
         csv: is_true(matches.get_str("csv")),
+        signed: matches.get_str("signed"),
         warnings: !is_true(matches.get_str("no-warnings")),
         name,
     })

@@ -28,7 +28,7 @@ use std::alloc::Global;
 const HELP: &[u8] = b"\
 pipelens looks at programs and runs of piperench
 
-usage: pipelens TASK FILE [SAMPLES] [--fabric F] [--narrow] [--samples N] [--json] [--csv] [--no-warnings] [--name MODULE]
+usage: pipelens TASK FILE [SAMPLES] [--fabric F] [--narrow] [--samples N] [--json] [--csv] [--signed NAME,..] [--no-warnings] [--name MODULE]
 
   why PROGRAM    where and why a program is refused, or what to look at again
   cost PROGRAM   equations, units and stages, and cycles by stripes
@@ -36,8 +36,8 @@ usage: pipelens TASK FILE [SAMPLES] [--fabric F] [--narrow] [--samples N] [--jso
   rtl PROGRAM    its stages as a module in Verilog
   wave LOG       the log of `piperench trace` as a waveform (VCD)
   chart LOG      the log of `piperench trace` as a picture (SVG)
-  signals PROGRAM SAMPLES --csv
-                 what every named stream is at every sample, as lines of numbers
+  signals PROGRAM SAMPLES
+                 what every named stream is at every sample, as a waveform (VCD)
 
   --fabric F     base has 16 columns and 8 registers, wide 32 and 16; base without it
   --narrow       leaves out what no output shows
@@ -45,6 +45,9 @@ usage: pipelens TASK FILE [SAMPLES] [--fabric F] [--narrow] [--samples N] [--jso
   --json         `why` tells each finding as a line of JSON
   --no-warnings  `why` points out nothing in a program that is accepted
   --name MODULE  how the module of `rtl` is named; pipeline without it
+  --csv          `signals` writes lines of numbers in place of a waveform
+  --signed NAME,..
+                 `signals` shows the streams of these names as two's complement
 ";
 
 /// What is asked of the program of a file; else the answer to it.

@@ -57,6 +57,8 @@ pub struct Order<'a> {
     pub json: bool,
     /// Whether streams are told as lines of numbers.
     pub csv: bool,
+    /// The names of streams that are shown as two's complement, with a comma between.
+    pub signed: Option<&'a str>,
     /// Whether something is pointed out in programs that are accepted.
     pub warnings: bool,
     /// The name of a module.

@@ -29,6 +29,8 @@ pub enum Outcome {
     LongLog,
     /// A module has too many bytes.
     LongModule,
+    /// The name at a place of the list of names, counted from 0, is that of no stream.
+    NoStream { place: usize },
 }
 
 /// A text that is made whole, and what the call comes to where it is written.
@@ -50,7 +52,7 @@ pub struct Reply {
 
 /// The line for words that are no lawful command line.
 const USAGE: &str =
-    "usage: pipelens TASK FILE [SAMPLES] [--fabric F] [--narrow] [--samples N] [--json] [--csv] [--no-warnings] [--name MODULE]; pipelens --help says more\n";
+    "usage: pipelens TASK FILE [SAMPLES] [--fabric F] [--narrow] [--samples N] [--json] [--csv] [--signed NAME,..] [--no-warnings] [--name MODULE]; pipelens --help says more\n";
 
 /// The line for a log without a cycle.
 const NO_CYCLE: &str = "bad log: no cycle\n";
@@ -61,6 +63,9 @@ const LONG: &str = "limit: log-bytes 16777216\n";
 /// The line for a module with too many bytes.
 const LONG_MODULE: &str = "limit: module-bytes 16777216\n";
 
+/// The line for a name that no stream has, where memory wants for the name.
+const NO_STREAM: &str = "no stream\n";
+
 impl Outcome {
     /// The status with which a process ends.
     pub fn status(&self) -> u8
@@ -69,7 +74,7 @@ impl Outcome {
         match self {
             Outcome::Plain(answer) | Outcome::Explained(answer) => answer.status(),
             Outcome::Streamed(answer) => answer.status(),
-            Outcome::Usage => 2,
+            Outcome::Usage | Outcome::NoStream { .. } => 2,
             Outcome::BadLog { .. } | Outcome::NoCycle => 15,
             Outcome::LongLog | Outcome::LongModule => 6,
         }
@@ -131,6 +136,7 @@ impl Reply {
             Outcome::NoCycle => put_bytes(note, NO_CYCLE.as_bytes()),
             Outcome::LongLog => put_bytes(note, LONG.as_bytes()),
             Outcome::LongModule => put_bytes(note, LONG_MODULE.as_bytes()),
+            Outcome::NoStream { .. } => put_bytes(note, NO_STREAM.as_bytes()),
         }
     }
 }

@@ -2,13 +2,14 @@
 
 ghost use Rattle.std.specs.Prelude.{◌≡◌, ◌++◌, Some, None, option_map, IfOk, IfSome, OnOk};
 ghost use Rattle.pr_lens_tool.specs.Orders.{asked_in};
-ghost use Rattle.pr_lens_tool.specs.Replies.{answer_line, fabric_words, fault_line, line_for, narrow_words, refused_line, why_line};
+ghost use Rattle.pr_lens_tool.specs.Replies.{answer_line, fabric_words, fault_line, foreign_line, line_for, narrow_words, refused_line, stream_line, why_line};
 
 use crate::orders::Order;
 use crate::outcomes::{Outcome, Reply};
 use crate::programs::bounds_of;
 use pr_base::{Cap, Fabric};
 use pr_lens_text::put;
+use pr_lens_tracks::name_at;
 use pr_tool::{Answer, Bounds, note_line};
 use std::alloc::{AllocError, Global};
 
@@ -62,6 +63,28 @@ fn fault_line(alloc: Global, name: &str) -> Result<Vec<u8>, AllocError>
     Ok(line)
 }
 
+/// The line for a name that no stream has.
+fn stream_line(alloc: Global, name: &str) -> Result<Vec<u8>, AllocError>
+    ensures { IfOk result (λ line. line.items ≡ stream_line name.now) }
+{
+    let mut line = Vec::new(alloc);
+    put(&mut line, "no stream: ")?;
+    put(&mut line, name)?;
+    put(&mut line, "\n")?;
+    Ok(line)
+}
+
+/// The line for a name that no stream has, where memory does not want.
+fn foreign_line(alloc: Global, order: &Order, place: usize) -> Option<Vec<u8>>
+    ensures { IfSome result (λ line. foreign_line (asked_in order.now) place ≡ Some line.items) }
+{
+    let name = name_at(order.signed?, place)?;
+    match stream_line(alloc, name) {
+        Ok(line) => Some(line),
+        Err(_) => None,
+    }
+}
+
 /// The line of an answer to an order, where it tells more than the answer's own.
 fn answer_line(alloc: Global, order: &Order, answer: Answer) -> Result<Option<Vec<u8>>, AllocError>
     ensures { IfOk result (λ line. option_map (λ v. v.items) line ≡ answer_line (asked_in order.now) answer) }
@@ -102,6 +125,7 @@ fn line_for(alloc: Global, order: &Order, outcome: Outcome) -> Option<Vec<u8>>
             Err(_) => None,
         },
         Outcome::Streamed(Answer::ReadFault) => second_line(alloc, order),
+        Outcome::NoStream { place } => foreign_line(alloc, order, place),
         _ => None,
     }
 }

@@ -4,7 +4,7 @@ ghost use Rattle.std.specs.Prelude.{◌≡◌, ◌≤◌, IfErr, IfOk};
 ghost use Rattle.pr_tool_modes.specs.Programs.{IsLoaded, IsNotLoaded};
 ghost use Rattle.pr_lens_signals.specs.Calls.{call};
 ghost use Rattle.pr_lens_tool.specs.Orders.{asked_in};
-ghost use Rattle.pr_lens_tool.specs.Streams.{TellsStreams};
+ghost use Rattle.pr_lens_tool.specs.Streams.{TellsStreams, form_of};
 
 use crate::orders::Order;
 use crate::outcomes::Outcome;
@@ -13,7 +13,8 @@ use pr_base::Cap;
 use pr_compile::CompileFault;
 use pr_compile_front::{Front, read_program};
 use pr_edge::{Shelf, Sink};
-use pr_lens_signals::signals;
+use pr_lens_signals::{NoStream, Style, signals};
+use pr_lens_tracks::Form;
 use pr_tool::Answer;
 use pr_tool_modes::read_file;
 use std::alloc::Global;
@@ -32,6 +33,13 @@ fn load<S: Shelf>(alloc: Global, shelf: &mut S, name: &str) -> Result<Front, Ans
         Ok(front) => Ok(front),
         Err(fault) => Err(answer_of(&CompileFault::from(fault))),
     }
+}
+
+/// The kind of the text of streams.
+fn form_of(csv: bool) -> Form
+    ensures { result ≡ form_of csv }
+{
+    if csv { Form::Csv } else { Form::Wave }
 }
 
 /// Writes what every named stream of the program of a file is at every sample of another, and says what it comes to.
@@ -56,5 +64,12 @@ pub fn of_samples<S: Shelf, K: Sink>(
         Ok(front) => front,
         Err(answer) => return Outcome::Plain(answer),
     };
-    Outcome::Streamed(signals(alloc, front, samples, shelf, out))
+    let style = Style {
+        form: form_of(order.csv),
+        signed: order.signed,
+    };
+    match signals(alloc, front, &style, samples, shelf, out) {
+        Ok(answer) => Outcome::Streamed(answer),
+        Err(NoStream { place }) => Outcome::NoStream { place },
+    }
 }

@@ -1,7 +1,6 @@
-use Rattle.std.proofs.Common.{◌≡◌, ◌++◌, ℕ, List, length, refl, sym, ap, subst, ◌∙◌, arith}
+use Rattle.std.proofs.Common.{◌≡◌, ◌++◌, ◌∷◌, [], ℕ, List, drop, length, refl, sym, ap, subst, ◌∙◌, arith}
 use Rattle.pr_edge.specs.Files.{Told}
 use Rattle.pr_edge.specs.Tape.{Appends, AppendsFront}
-use Rattle.pr_edge.proofs.Appending.{Appends-append}
 use Rattle.pr_flat.specs.Shape.{EquationShape, shapes_of}
 use Rattle.pr_flat.specs.Values.{input_widths}
 use Rattle.pr_flat.specs.Widths.{AreWidths}
@@ -15,8 +14,11 @@ use Rattle.pr_tool_modes.specs.Programs.{inputs_of}
 use Rattle.pr_tool_modes.proofs.FileLemmas.{cause_earlier}
 use Rattle.pr_tool_modes.proofs.SampleLemmas.{lawful_next, same_later}
 use Rattle.pr_lens_signals.specs.Reading.{front_of}
-use Rattle.pr_lens_signals.specs.Texts.{numbers_line}
-use Rattle.pr_lens_signals.proofs.RowLemmas.{front_more, put_broken, put_ended, put_faulted, put_more, put_nothing, row-rest}
+use Rattle.std.specs.Prelude.{Vec}
+use Rattle.std.specs.declared.alloc.Global.{Global}
+use Rattle.pr_lens_tracks.specs.declared.looks.Track.{Track}
+use Rattle.pr_lens_tracks.specs.Texts.{HasWritten, rows_text}
+use Rattle.pr_lens_signals.proofs.RowLemmas.{put-less, put_broken, put_ended, put_faulted, put_more, put_nothing, row-appended, row-front, row-rest, rows_shown}
 use Rattle.pr_lens_signals.proofs.rows.put_rows.Goals as goal
 
 pub samples-init : goal.samples-init
@@ -25,7 +27,11 @@ samples-init g c =
     let tape = g.K.Sink.told c.args.out.now in
     record {
       put = put_nothing (g.S.Shelf.told c.args.shelf.now) (shapes_of showing.probed.flat.equations.items) showing.probed.flat.outputs.items showing.widths (inputs_of showing.probed.scoped.program) (front_of showing) c.args.work.now.feed c.args.work.now.evaluator
-          (Appends tape tape) c.requires.feed (c.requires.evaluator showing.widths) (nothing_appended tape);
+          (λ rows. Appends tape tape (rows_text c.args.work.now.pen.form c.args.work.now.pen.tracks.items rows) × HasWritten rows c.args.work.now.pen) c.requires.feed (c.requires.evaluator showing.widths) (nothing_appended tape, c.requires.pen.none);
+      form = refl;
+      tracks = refl;
+      before = c.requires.pen.before;
+      count = c.requires.pen.none.count ∙ sym c.requires.feed.fresh.samples;
       there = λ missing. c.requires.feed.fresh.bytes;
       sample = c.requires.sample;
       row = c.requires.row;
@@ -67,15 +73,33 @@ samples-preserved g c =
     let f' = c.next.new.self in
     let told = g.S.Shelf.told c.args.shelf.now in
     let put = c.samples.invariant.put in
-    let flat = c.args.showing.now.probed.flat in
+    let showing = c.args.showing.now in
+    let flat = showing.probed.flat in
+    let equations = shapes_of flat.equations.items in
+    let front = front_of showing in
+    let pen = c.samples.work.pen in
+    let first = c.args.work.now.pen in
+    let old = g.K.Sink.told c.args.out.now in
+    let new = g.K.Sink.told c.put_row.new.out in
+    let rows = rows_shown front equations flat.outputs.items showing.widths put.taken.samples in
+    let row = c.next-in-Sample.new.into in
+    let rest = row-rest row _ front (omega (arith, c.len.ensures, c.len-2.ensures)) in
     let same = same_later c.args.work.now.feed f f' c.samples.invariant.file c.next.ensures.file in
     let seen = subst (λ (t : Told). (bytes : List ℕ) → IsSeen t bytes f → ReadsOn t bytes f f' (λ file. StandsFor f file → IsGiven f' (given_of f) c.next.new.into file)) c.samples.invariant.same c.in-Sample.ensures.seen in
     record {
-      put = put_more told (shapes_of flat.equations.items) flat.outputs.items c.args.showing.now.widths (front_of c.args.showing.now) c.args.work.now.feed f f' _ _ c.next.new.into c.next-in-Sample.new.into _
-          (Appends (g.K.Sink.told c.args.out.now) (g.K.Sink.told c.put_row.new.out)) put same c.in-Sample.ensures.given seen
+      put = put_more told equations flat.outputs.items showing.widths front c.args.work.now.feed f f' _ _ c.next.new.into row
+          (λ rows. Appends old (g.K.Sink.told c.samples.out) (rows_text first.form first.tracks.items rows) × HasWritten rows pen)
+          (λ rows. Appends old new (rows_text first.form first.tracks.items rows) × HasWritten rows c.put_row.new.pen) put same c.in-Sample.ensures.given seen
           (c.next-in-Sample.ensures.stands put.taken.samples put.taken.stands) (c.next-in-Sample.ensures.given put.taken.samples put.taken.stands)
-          (λ text done. subst (λ (r : List ℕ). Appends (g.K.Sink.told c.args.out.now) (g.K.Sink.told c.put_row.new.out) (text ++ numbers_line r)) (row-rest c.next-in-Sample.new.into _ (front_of c.args.showing.now) (omega (arith, c.len.ensures, c.len-2.ensures)))
-          (Appends-append _ _ _ text _ done c.in-Ok.ensures.all));
+          (λ h. (
+            row-appended first.form pen.form first.tracks.items pen.tracks.items rows (drop front row) _ c.samples.invariant.form (ap (λ (v : Vec Track Global). v.items) c.samples.invariant.tracks) rest old (g.K.Sink.told c.samples.out) new h.0
+                (c.in-Ok.ensures.all rows h.1),
+            subst (λ (r : List ℕ). HasWritten (rows ++ r ∷ []) c.put_row.new.pen) rest (c.in-Ok.ensures.written rows h.1),
+          ));
+      form = c.put_row.ensures.form ∙ c.samples.invariant.form;
+      tracks = c.put_row.ensures.tracks ∙ c.samples.invariant.tracks;
+      before = c.put_row.ensures.size ∙ c.samples.invariant.before;
+      count = omega (arith, c.in-Ok.ensures.count, c.samples.invariant.count, c.in-Sample.ensures.given);
       there = λ missing.
           absurd (let no : Got.Sample ≡ Got.ReadFault = sym c.in-Sample.is ∙ c.next.ensures.missing (rw (← c.samples.invariant.file.name, ← c.samples.invariant.same) at missing) (c.samples.invariant.there missing) in cc);
       sample = c.next.auto.into ∙ c.samples.invariant.sample;
@@ -91,7 +115,9 @@ pub returns-in_default-clause-ended : goal.returns-in_default-clause-ended
 returns-in_default-clause-ended g c = λ no_fault.
     let f = c.samples.work.feed in
     let f' = c.next.new.self in
-    let put = c.samples.invariant.put in
+    let pen = c.args.work.now.pen in
+    let fact : List (List ℕ) → Type 0 = λ rows. Appends (g.K.Sink.told c.args.out.now) (g.K.Sink.told c.samples.out) (rows_text pen.form pen.tracks.items rows) in
+    let put = put-less (g.S.Shelf.told c.args.shelf.now) _ _ _ _ _ _ _ _ fact c.samples.invariant.put (λ rows h. h.0) in
     let showing = c.args.showing.now in
     let scoped = showing.probed.scoped in
     let flat = showing.probed.flat in
@@ -111,7 +137,9 @@ pub returns-in_default-clause-begun : goal.returns-in_default-clause-begun
 returns-in_default-clause-begun g c = λ fault.
     let f = c.samples.work.feed in
     let f' = c.next.new.self in
-    let put = c.samples.invariant.put in
+    let pen = c.args.work.now.pen in
+    let fact : List (List ℕ) → Type 0 = λ rows. Appends (g.K.Sink.told c.args.out.now) (g.K.Sink.told c.samples.out) (rows_text pen.form pen.tracks.items rows) in
+    let put = put-less (g.S.Shelf.told c.args.shelf.now) _ _ _ _ _ _ _ _ fact c.samples.invariant.put (λ rows h. h.0) in
     let showing = c.args.showing.now in
     let scoped = showing.probed.scoped in
     let flat = showing.probed.flat in
@@ -143,11 +171,19 @@ returns-in-Err-clause-cut g c =
     let flat = showing.probed.flat in
     let same = same_later c.args.work.now.feed f f' c.samples.invariant.file c.next.ensures.file in
     let seen = subst (λ (t : Told). (bytes : List ℕ) → IsSeen t bytes f → ReadsOn t bytes f f' (λ file. StandsFor f file → IsGiven f' (given_of f) c.next.new.into file)) c.samples.invariant.same c.in-Sample.ensures.seen in
-    let broken = put_more told (shapes_of flat.equations.items) flat.outputs.items showing.widths (front_of showing) c.args.work.now.feed f f' _ _ c.next.new.into c.next-in-Sample.new.into _
-    (AppendsFront (g.K.Sink.told c.args.out.now) (g.K.Sink.told c.put_row.new.out)) put same c.in-Sample.ensures.given seen
-    (c.next-in-Sample.ensures.stands put.taken.samples put.taken.stands) (c.next-in-Sample.ensures.given put.taken.samples put.taken.stands)
-    (λ text done. subst (λ (r : List ℕ). AppendsFront (g.K.Sink.told c.args.out.now) (g.K.Sink.told c.put_row.new.out) (text ++ numbers_line r)) (row-rest c.next-in-Sample.new.into _ (front_of showing) (omega (arith, c.len.ensures, c.len-2.ensures)))
-    (front_more _ _ _ text _ done c.in-Err.ensures.front)) in
+    let front = front_of showing in
+    let pen = c.samples.work.pen in
+    let first = c.args.work.now.pen in
+    let old = g.K.Sink.told c.args.out.now in
+    let new = g.K.Sink.told c.put_row.new.out in
+    let rows = rows_shown front (shapes_of flat.equations.items) flat.outputs.items showing.widths put.taken.samples in
+    let row = c.next-in-Sample.new.into in
+    let rest = row-rest row _ front (omega (arith, c.len.ensures, c.len-2.ensures)) in
+    let broken = put_more told (shapes_of flat.equations.items) flat.outputs.items showing.widths front c.args.work.now.feed f f' _ _ c.next.new.into row
+    (λ rows. Appends old (g.K.Sink.told c.samples.out) (rows_text first.form first.tracks.items rows) × HasWritten rows pen) (λ rows. AppendsFront old new (rows_text first.form first.tracks.items rows)) put same
+    c.in-Sample.ensures.given seen (c.next-in-Sample.ensures.stands put.taken.samples put.taken.stands) (c.next-in-Sample.ensures.given put.taken.samples put.taken.stands)
+    (λ h. row-front first.form pen.form first.tracks.items pen.tracks.items rows (drop front row) _ c.samples.invariant.form (ap (λ (v : Vec Track Global). v.items) c.samples.invariant.tracks) rest old
+    (g.K.Sink.told c.samples.out) new h.0 (c.in-Err.ensures.front rows h.1)) in
     let means = rows_mean scoped.program flat showing.widths broken.taken.samples (record {
       lawful = scoped.lawful;
       equations = c.requires.ready.flat.equations;

@@ -4,6 +4,7 @@ use Rattle.pr_edge.specs.Files.{IsMissing}
 use Rattle.pr_edge.specs.Tape.{Appends}
 use Rattle.pr_flat.specs.Shape.{shapes_of}
 use Rattle.pr_samples.specs.Feed.{name_of, given_of, most_of, reads_nothing, SameFile}
+use Rattle.pr_lens_tracks.specs.Texts.{HasWritten, rows_text}
 use Rattle.pr_lens_signals.specs.Reading.{front_of}
 use Rattle.pr_lens_signals.proofs.RowLemmas.{HasPut}
 use Rattle.pr_lens_signals.proofs.rows.put_rows.Given as goal
@@ -11,7 +12,11 @@ use Rattle.pr_lens_signals.proofs.rows.put_rows.Given as goal
 abbrev pub invariant-samples : goal.invariant-samples
 invariant-samples g l = record {
   put : HasPut (g.S.Shelf.told l.initial.shelf) (shapes_of l.showing.probed.flat.equations.items) l.showing.probed.flat.outputs.items l.showing.widths (front_of l.showing) l.initial.work.feed l.work.feed l.work.evaluator
-      (Appends (g.K.Sink.told l.initial.out) (g.K.Sink.told l.out));
+      (λ rows. Appends (g.K.Sink.told l.initial.out) (g.K.Sink.told l.out) (rows_text l.initial.work.pen.form l.initial.work.pen.tracks.items rows) × HasWritten rows l.work.pen);
+  form : l.work.pen.form ≡ l.initial.work.pen.form;
+  tracks : l.work.pen.tracks ≡ l.initial.work.pen.tracks;
+  before : vec_len l.work.pen.before ≡ vec_len l.showing.probed.instances;
+  count : l.work.pen.count ≡ given_of l.work.feed;
   there : IsMissing (g.S.Shelf.told l.initial.shelf) (name_of l.initial.work.feed) → reads_nothing l.work.feed;
   sample : length l.sample ≡ vec_len l.showing.probed.scoped.inputs;
   row : length l.row ≡ vec_len l.showing.probed.flat.outputs;

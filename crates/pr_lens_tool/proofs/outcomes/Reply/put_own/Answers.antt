@@ -18,3 +18,6 @@ returns-in-NoCycle-clause-gains g c = rw c.in-NoCycle.is (rw c.as_bytes-in-NoCyc
 
 pub returns-in-LongModule-clause-gains : goal.returns-in-LongModule-clause-gains
 returns-in-LongModule-clause-gains g c = rw c.in-LongModule.is (rw c.as_bytes-in-LongModule.ensures.value at c.put_bytes-in-LongModule.ensures.gains)
+
+pub returns-in-NoStream-clause-gains : goal.returns-in-NoStream-clause-gains
+returns-in-NoStream-clause-gains g c = rw c.in-NoStream.is (rw c.as_bytes-in-NoStream.ensures.value at c.put_bytes-in-NoStream.ensures.gains)

@@ -1,0 +1,5 @@
+pub mod Looks
+pub mod Names
+pub mod Tables
+pub mod Waves
+pub mod Texts
