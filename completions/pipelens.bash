@@ -7,6 +7,7 @@ _pipelens() {
         graph
         signals
         rtl
+        testbench
         wave
         why
     '
@@ -19,6 +20,7 @@ _pipelens() {
         --narrow
         --no-warnings
         --samples
+        --seed
         --signed
     '
     # (a word is cut at `=`)
@@ -27,7 +29,7 @@ _pipelens() {
     COMPREPLY=()
     case $before in
     --fabric) mapfile -t COMPREPLY < <(compgen -W 'base wide' -- "$word") && return ;;
-    --name | --samples | --signed) return ;;
+    --name | --samples | --signed | --seed) return ;;
     esac
     case $word in
     -*) mapfile -t COMPREPLY < <(compgen -W "$options" -- "$word") && return ;;

@@ -377,6 +377,10 @@ next_law m d now ports s fit =
 pub driven_kept : (K : Net → Bool) (m : Module) → IsDriven m → IsDriven (kept K m)
 driven_kept K m d = record { end = d.end; wires = rise_kept IsWire K 1 d.end m.wires d.wires; registers = rise_kept IsRegister K 1 d.end m.registers d.registers }
 
+pub end_kept : (K : Net → Bool) (m : Module) (d : IsDriven m) → (driven_kept K m d).end ≡ d.end
+unfolding driven_kept
+end_kept K m d = refl
+
 -- ---- a set of vectors that is closed
 module _ (K : Net → Bool) where
   abbrev Agree : Values → Values → Type 0

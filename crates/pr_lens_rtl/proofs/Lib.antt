@@ -7,3 +7,4 @@ pub mod TraceLaws
 pub mod KeptLaws
 pub mod OrderLaws
 pub mod MarksLaws
+pub mod DrivenLaws

@@ -261,3 +261,7 @@ driven_law N P c lawful bytes =
           (rise_both IsWire 67110912 67110914 end (hand_wires (last_of c)) (tap_wires N (last_of c) 0 (taps_of c)) (hand_rise (last_of c) few) (taps_rise N P (bytes_in c.inputs) lawful.most_columns lawful.most_registers (last_of c) 0 (taps_of c) few taps));
       registers = rise_to IsRegister 1 ((0 + length c.stages) * 2048 + 1) end (stages_registers N P 0 c.stages) (all_rise N P (bytes_in c.inputs) lawful.most_columns lawful.most_registers 0 c.stages are) (let f = lawful.few in omega (arith, f));
     }
+
+pub driven_end : (N P : ℕ) (c : Shape) (lawful : IsLawful N P c) (bytes : has_bytes c ≡ true) → (driven_law N P c lawful bytes).end ≡ 67110914 + length (taps_of c)
+unfolding driven_law
+driven_end N P c lawful bytes = omega arith

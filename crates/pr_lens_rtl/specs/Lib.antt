@@ -3,3 +3,4 @@ pub mod Module
 pub mod Kept
 pub mod Traces
 pub mod Bytes
+pub mod Driven

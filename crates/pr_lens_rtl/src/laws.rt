@@ -1,6 +1,6 @@
 //! What the module of a configuration makes of samples. Nothing here runs.
 
-ghost use Rattle.std.specs.Prelude.{ℕ, ◌≡◌, ◌<◌, ◌≤◌, ◌*◌, Bool, true, List, ◌++◌, length};
+ghost use Rattle.std.specs.Prelude.{ℕ, ◌≡◌, ◌≢◌, ◌<◌, ◌≤◌, ◌*◌, ◌^◌, Bool, true, false, List, ◌++◌, length};
 ghost use Rattle.pr_base.specs.Pe.{looked_up};
 ghost use Rattle.pr_lens_rtl.specs.Bytes.{has_bytes};
 ghost use Rattle.pr_conf.specs.Shape.{Shape};
@@ -10,6 +10,8 @@ ghost use Rattle.pr_lens_clocked.specs.Clocked.{clock};
 ghost use Rattle.pr_lens_rtl.specs.declared.vectors.Net.{Net};
 ghost use Rattle.pr_lens_rtl.specs.Verilog.{Values, Expr, value, Fit, IsSettled, IsClock};
 ghost use Rattle.pr_lens_rtl.specs.Module.{four_of, module_of};
+ghost use Rattle.std.specs.List.{All, AllPairs};
+ghost use Rattle.pr_lens_rtl.specs.Driven.{driven, is_given, IsBelow};
 ghost use Rattle.pr_lens_rtl.specs.Kept.{kept, is_kept, marks_of, IsClosed};
 ghost use Rattle.pr_lens_rtl.specs.Traces.{all_held, pins, samples_in, results_in, IsRunFromReset, end_of, offers_none, ready_clocks, AgreeAtInputs, AgreeAtRegisters};
 
@@ -56,4 +58,15 @@ pub fn kept_law()
         → (now ports : Values)
         → IsSettled (kept K (module_of N P c)) now → Fit ports
         → (after : Values) × IsClock (kept K (module_of N P c)) now after × AgreeAtInputs ports after }
+{}
+
+/// Each vector of the module, and of any part of it, is driven once. What is driven from outside is not driven inside. The
+/// numbers of a vector have 32 bits.
+pub fn driven_law()
+    ensures once { (N P : ℕ) (c : Shape) → IsLawful N P c → has_bytes c ≡ true → (K : Net → Bool)
+        → AllPairs (λ m n. m ≢ n) (driven (kept K (module_of N P c))) }
+    ensures inside { (N P : ℕ) (c : Shape) → IsLawful N P c → has_bytes c ≡ true → (K : Net → Bool)
+        → All (λ n. is_given n ≡ false) (driven (kept K (module_of N P c))) }
+    ensures numbers { (N P : ℕ) (c : Shape) → IsLawful N P c → has_bytes c ≡ true → (K : Net → Bool)
+        → All (IsBelow (2 ^ 32)) (driven (kept K (module_of N P c))) }
 {}

@@ -4,5 +4,5 @@
 mod laws;
 mod vectors;
 
-pub use laws::{kept_law, module_law, table_law};
+pub use laws::{driven_law, kept_law, module_law, table_law};
 pub use vectors::{Net, Part};

@@ -8,7 +8,7 @@ ghost use Rattle.pr_lens_rtl.specs.Kept.{place_in, is_kept, marked, all_marked, 
 ghost use Rattle.pr_lens_rtl_terms.specs.Terms.{assign_of, assigns_of, atom_expr, factor_expr, form_expr, term_expr};
 
 use crate::edges::tap_lines;
-use crate::stages::{stage_rows, stage_wires};
+use crate::stages::{add_rows, stage_wires};
 use crate::terms::{Atom, Change, Factor, Form, Line, Term};
 use pr_base::Next;
 use pr_conf::{Configuration, Pe, Stage};
@@ -228,7 +228,8 @@ fn mark_stage(
     requires few { length pes.now ≤ 64 }
     ensures { OnOk result (marks.new ≡ stage_needed columns registers stage pes.now marks.old) }
 {
-    let rows = stage_rows(alloc, columns, registers, stage, pes)?;
+    let mut rows = Vec::new(alloc);
+    add_rows(&mut rows, columns, stage, registers.saturating_sub(1), pes)?;
     let wires = stage_wires(alloc, columns, stage, pes)?;
     mark_lines(marks, &rows);
     mark_changes(marks, stage, pes);

@@ -199,7 +199,7 @@ fn add_bank(
 }
 
 /// Adds the assignments to the first so many registers of the columns.
-fn add_rows(
+pub fn add_rows(
     lines: &mut Vec<Line>,
     columns: u32,
     stage: u32,
@@ -216,25 +216,6 @@ fn add_rows(
         add_bank(lines, stage, before + 1, before * columns, pes)?;
     }
     Ok(())
-}
-
-/// The assignments to the row that a stage shows.
-pub fn stage_rows(
-    alloc: Global,
-    columns: u32,
-    registers: u32,
-    stage: u32,
-    pes: &[Pe],
-) -> Result<Vec<Line>, AllocError>
-    requires columns { columns ≤ 64 }
-    requires registers { registers ≤ 16 }
-    requires few { length pes.now ≤ 64 }
-    ensures { IfOk result (λ lines.
-        assigns_of lines.items ≡ row_registers columns stage (registers - 1) pes.now) }
-{
-    let mut lines = Vec::new(alloc);
-    add_rows(&mut lines, columns, stage, registers.saturating_sub(1), pes)?;
-    Ok(lines)
 }
 
 /// The assignments to the registers of a stage.

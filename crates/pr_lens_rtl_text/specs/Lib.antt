@@ -2,4 +2,5 @@ pub mod Printed
 pub mod Signs
 pub mod Names
 pub mod Ports
+pub mod Limits
 pub mod Modules

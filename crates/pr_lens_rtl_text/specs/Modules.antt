@@ -1,8 +1,10 @@
 -- The text of a whole module.
-use Rattle.std.specs.Prelude.{ℕ, List, ◌++◌, codes, map}
+use Rattle.std.specs.Prelude.{◌≡◌, ℕ, true, List, ◌++◌, codes, map}
 use Rattle.pr_lang.specs.declared.trees.Program.{Program}
 use Rattle.pr_conf.specs.Shape.{Shape}
+use Rattle.pr_conf.specs.Rules.{IsLawful}
 use Rattle.pr_conf.specs.Through.{output_widths}
+use Rattle.pr_lens_rtl.specs.Bytes.{has_bytes}
 use Rattle.pr_lens_rtl.specs.Verilog.{Module}
 use Rattle.pr_lens_rtl.specs.Kept.{kept_module}
 use Rattle.pr_lens_rtl_text.specs.declared.lines.Way.{Way}
@@ -11,10 +13,6 @@ use Rattle.pr_lens_rtl_text.specs.declared.ports.Port.{Port}
 use Rattle.pr_lens_rtl_text.specs.Names.{names_in, port_name}
 use Rattle.pr_lens_rtl_text.specs.Ports.{ports_text, side_lines, zipped}
 use Rattle.pr_lens_rtl_text.specs.Printed.{lines_text}
-
--- the most bytes of a text
-abbrev pub most_text_bytes : ℕ
-most_text_bytes = 16777216
 
 -- the ports of a program's inputs or outputs, in the order in which the program has them
 abbrev pub ports_by : Side → Program → List ℕ → List Port
@@ -35,7 +33,13 @@ module_text name inputs outputs m =
     ++ side_lines Side.Output 0 outputs
     ++ codes "always @(posedge clock) begin\n" ++ lines_text Way.Clocked m.registers ++ codes "end\nendmodule\n"
 
--- the module that is written for a program and its configuration
+-- the module that is written for a program and its configuration; a name that no port may have gets an underscore behind it
 abbrev pub rtl_text : ℕ → ℕ → List ℕ → Program → Shape → List ℕ
 rtl_text N P name program conf =
-    module_text name (ports_by Side.Input program conf.inputs) (ports_by Side.Output program (output_widths conf)) (kept_module N P conf)
+    module_text (port_name name) (ports_by Side.Input program conf.inputs) (ports_by Side.Output program (output_widths conf)) (kept_module N P conf)
+
+-- a text is that module, of a configuration that keeps the rules of a fabric and whose constants are bytes
+pub record IsRtlText (N P : ℕ) (name : List ℕ) (program : Program) (conf : Shape) (text : List ℕ) : Type 0 where
+  pub is : text ≡ rtl_text N P name program conf
+  pub lawful : IsLawful N P conf
+  pub bytes : has_bytes conf ≡ true

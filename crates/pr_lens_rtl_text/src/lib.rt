@@ -1,9 +1,16 @@
 //! The text of the module of a configuration, in Verilog.
 #![tactic(auto)]
 
+mod bytes;
+mod faults;
+mod laws;
 mod lines;
 mod names;
 mod ports;
 mod whole;
 
-pub use whole::rtl;
+pub use faults::NoText;
+pub use laws::{names_law, written_law};
+pub use names::Side;
+pub use ports::Port;
+pub use whole::{MOST_TEXT_BYTES, input_ports, module_name, output_ports, rtl};

@@ -2,7 +2,7 @@
 
 ghost use Rattle.std.specs.Prelude.{◌≡◌, ◌+◌, ◌*◌, ◌-◌, ◌^◌, ◌<◌, ◌≤◌, ◌++◌, IfOk, OnOk, codes, decimal, length};
 ghost use Rattle.pr_base.specs.Numbers.{slices_of};
-ghost use Rattle.pr_lens_rtl_text.specs.Ports.{bits_text, byte_bits, byte_text, byte_lines, in_line, out_line, port_text, ports_text, side_line, side_lines, side_words, zipped};
+ghost use Rattle.pr_lens_rtl_text.specs.Ports.{bits_text, byte_bits, byte_text, byte_lines, port_text, ports_text, side_line, side_lines, side_words, zipped};
 
 use crate::names::Side;
 use pr_base::slices;
@@ -108,43 +108,8 @@ fn put_byte(text: &mut Vec<u8>, name: &Name, place: usize, bits: usize) -> Resul
     put(text, "}")
 }
 
-/// Adds the line of a byte of a sample.
-#[tactic(auto, unfolding(crate::specs::Ports::in_line))]
-fn put_in_line(
-    text: &mut Vec<u8>,
-    port: &Port,
-    place: usize,
-    number: usize,
-) -> Result<(), AllocError>
-    requires { place < 32 }
-    ensures { OnOk result (text.new.items ≡ text.old.items ++ in_line port.now place number) }
-{
-    put_counted(text, "wire [7:0] in$", number)?;
-    put(text, " = ")?;
-    put_byte(text, &port.name, place, byte_bits(port.width, place))?;
-    put(text, ";\n")
-}
-
-/// Adds the line of a byte of a result.
-#[tactic(auto, unfolding(crate::specs::Ports::out_line))]
-fn put_out_line(
-    text: &mut Vec<u8>,
-    port: &Port,
-    place: usize,
-    number: usize,
-) -> Result<(), AllocError>
-    requires { place < 32 }
-    ensures { OnOk result (text.new.items ≡ text.old.items ++ out_line port.now place number) }
-{
-    let bits = byte_bits(port.width, place);
-    put(text, "assign ")?;
-    put_bits(text, &port.name, place, bits)?;
-    put_counted(text, " = out$", number)?;
-    put_counted(text, "[", bits.saturating_sub(1))?;
-    put(text, ":0];\n")
-}
-
 /// Adds the line of a byte of a sample or a result.
+#[tactic(auto, unfolding(crate::specs::Ports::in_line, crate::specs::Ports::out_line))]
 fn put_side_line(
     text: &mut Vec<u8>,
     side: Side,
@@ -155,9 +120,21 @@ fn put_side_line(
     requires { place < 32 }
     ensures { OnOk result (text.new.items ≡ text.old.items ++ side_line side port.now place number) }
 {
+    let bits = byte_bits(port.width, place);
     match side {
-        Side::Input => put_in_line(text, port, place, number),
-        Side::Output => put_out_line(text, port, place, number),
+        Side::Input => {
+            put_counted(text, "wire [7:0] in$", number)?;
+            put(text, " = ")?;
+            put_byte(text, &port.name, place, bits)?;
+            put(text, ";\n")
+        }
+        Side::Output => {
+            put(text, "assign ")?;
+            put_bits(text, &port.name, place, bits)?;
+            put_counted(text, " = out$", number)?;
+            put_counted(text, "[", bits.saturating_sub(1))?;
+            put(text, ":0];\n")
+        }
     }
 }
 

@@ -1,6 +1,6 @@
 //! The whole text.
 
-ghost use Rattle.std.specs.Prelude.{◌≡◌, ◌≤◌, ◌++◌, IfOk, OnOk, codes, length, map};
+ghost use Rattle.std.specs.Prelude.{◌≡◌, ◌≤◌, ◌++◌, IfErr, IfOk, OnOk, codes, length, map};
 ghost use Rattle.pr_conf.specs.Configuration.{pes_of, shape_of};
 ghost use Rattle.pr_conf.specs.Through.{output_widths};
 ghost use Rattle.pr_lens_rtl.specs.Module.{module_of, stages_registers, stages_wires};
@@ -8,18 +8,38 @@ ghost use Rattle.pr_lens_rtl_text.specs.declared.lines.Way.{Way};
 ghost use Rattle.pr_lens_rtl_text.specs.declared.names.Side.{Side};
 ghost use Rattle.pr_lens_rtl_text.specs.Printed.{kept_text};
 ghost use Rattle.pr_lens_rtl_text.specs.Ports.{ports_text};
-ghost use Rattle.pr_lens_rtl_text.specs.Modules.{head_text, ports_by, rtl_text};
+ghost use Rattle.pr_lens_rtl_text.specs.Names.{port_name};
+ghost use Rattle.pr_lens_rtl_terms.specs.Terms.{assigns_of};
+ghost use Rattle.pr_lens_rtl_text.specs.Limits.{IsTooLong, most_text_bytes};
+ghost use Rattle.pr_lens_rtl_text.specs.Modules.{head_text, ports_by, rtl_text, IsRtlText};
 
+use crate::bytes::see_bytes;
+use crate::faults::NoText;
 use crate::lines::{Way, put_lines};
-use crate::names::{Side, port_names};
+use crate::names::{Side, port_bytes, port_names};
 use crate::ports::{Port, ports_of, put_ports, put_side_lines};
 use pr_conf::{Configuration, Output, Stage};
 use pr_lang::Program;
 use pr_lens_rtl_terms::{
-    hand_lines, last_stage, marks_of, stage_registers, stage_wires, tap_lines,
+    Line, hand_lines, last_stage, marks_of, stage_registers, stage_wires, tap_lines,
 };
 use pr_lens_text::put;
 use std::alloc::{AllocError, Global};
+
+/// The bytes of a text, at most.
+pub const MOST_TEXT_BYTES: usize = 16_777_216;
+
+/// Adds the lines of those assignments whose vectors are marked, unless the text gets too many bytes.
+fn put_short(text: &mut Vec<u8>, marks: &[bool], way: Way, lines: &[Line]) -> Result<(), NoText>
+    ensures text { OnOk result (text.new.items ≡ text.old.items ++ kept_text way marks.now (assigns_of lines.now)) }
+    ensures refused { IfErr result (IsTooLong (text.old.items ++ kept_text way marks.now (assigns_of lines.now))) }
+{
+    put_lines(text, marks, way, lines)?;
+    if MOST_TEXT_BYTES < text.len() {
+        return Err(NoText::Long);
+    }
+    Ok(())
+}
 
 /// Adds the lines of the registers of stages, which are counted from 0.
 fn put_registers<const N: usize>(
@@ -29,17 +49,19 @@ fn put_registers<const N: usize>(
     way: Way,
     registers: u32,
     stages: &[Stage<N>],
-) -> Result<(), AllocError>
+) -> Result<(), NoText>
     requires columns { N ≤ 64 }
     requires registers { registers ≤ 16 }
     requires few { length stages.now ≤ 32768 }
-    ensures { OnOk result (text.new.items
+    ensures text { OnOk result (text.new.items
         ≡ text.old.items ++ kept_text way marks.now (stages_registers N registers 0 (map pes_of stages.now))) }
+    ensures refused { IfErr result (IsTooLong
+        (text.old.items ++ kept_text way marks.now (stages_registers N registers 0 (map pes_of stages.now)))) }
 {
     for number in 0..stages.len() {
         let pes = stages[number].pes.as_slice();
         let lines = stage_registers(alloc, N as u32, registers, number as u32, pes)?;
-        put_lines(text, marks, way, &lines)?;
+        put_short(text, marks, way, &lines)?;
     }
     Ok(())
 }
@@ -50,16 +72,18 @@ fn put_stages<const N: usize>(
     text: &mut Vec<u8>,
     marks: &[bool],
     stages: &[Stage<N>],
-) -> Result<(), AllocError>
+) -> Result<(), NoText>
     requires columns { N ≤ 64 }
     requires few { length stages.now ≤ 32768 }
-    ensures { OnOk result (text.new.items
+    ensures text { OnOk result (text.new.items
         ≡ text.old.items ++ kept_text Way.Wire marks.now (stages_wires N 0 (map pes_of stages.now))) }
+    ensures refused { IfErr result (IsTooLong
+        (text.old.items ++ kept_text Way.Wire marks.now (stages_wires N 0 (map pes_of stages.now)))) }
 {
     for number in 0..stages.len() {
         let pes = stages[number].pes.as_slice();
         let lines = stage_wires(alloc, N as u32, number as u32, pes)?;
-        put_lines(text, marks, Way::Wire, &lines)?;
+        put_short(text, marks, Way::Wire, &lines)?;
     }
     Ok(())
 }
@@ -71,9 +95,11 @@ fn put_all_registers<const N: usize, const P: usize>(
     marks: &[bool],
     way: Way,
     conf: &Configuration<N, P>,
-) -> Result<(), AllocError>
-    ensures { OnOk result (text.new.items
+) -> Result<(), NoText>
+    ensures text { OnOk result (text.new.items
         ≡ text.old.items ++ kept_text way marks.now (module_of N P (shape_of conf.now)).registers) }
+    ensures refused { IfErr result (IsTooLong
+        (text.old.items ++ kept_text way marks.now (module_of N P (shape_of conf.now)).registers)) }
 {
     put_registers::<N>(alloc, text, marks, way, P as u32, &conf.stages)
 }
@@ -84,9 +110,11 @@ fn put_all_wires<const N: usize, const P: usize>(
     text: &mut Vec<u8>,
     marks: &[bool],
     conf: &Configuration<N, P>,
-) -> Result<(), AllocError>
-    ensures { OnOk result (text.new.items
+) -> Result<(), NoText>
+    ensures text { OnOk result (text.new.items
         ≡ text.old.items ++ kept_text Way.Wire marks.now (module_of N P (shape_of conf.now)).wires) }
+    ensures refused { IfErr result (IsTooLong
+        (text.old.items ++ kept_text Way.Wire marks.now (module_of N P (shape_of conf.now)).wires)) }
 {
     let taps = tap_lines::<N, P>(alloc, conf)?;
     put_stages::<N>(alloc, text, marks, &conf.stages)?;
@@ -96,7 +124,8 @@ fn put_all_wires<const N: usize, const P: usize>(
         Way::Wire,
         &hand_lines(last_stage::<N, P>(conf)),
     )?;
-    put_lines(text, marks, Way::Wire, &taps)
+    put_lines(text, marks, Way::Wire, &taps)?;
+    Ok(())
 }
 
 /// The widths of outputs.
@@ -111,7 +140,7 @@ fn widths_of(alloc: Global, outputs: &[Output]) -> Result<Vec<u8>, AllocError>
 }
 
 /// The ports of a program's inputs.
-fn input_ports<const N: usize, const P: usize>(
+pub fn input_ports<const N: usize, const P: usize>(
     alloc: Global,
     program: &Program,
     conf: &Configuration<N, P>,
@@ -125,7 +154,7 @@ fn input_ports<const N: usize, const P: usize>(
 }
 
 /// The ports of a program's outputs.
-fn output_ports<const N: usize, const P: usize>(
+pub fn output_ports<const N: usize, const P: usize>(
     alloc: Global,
     program: &Program,
     conf: &Configuration<N, P>,
@@ -139,12 +168,19 @@ fn output_ports<const N: usize, const P: usize>(
     ports_of(alloc, &names, &widths)
 }
 
+/// Adds bytes.
+fn put_bytes(text: &mut Vec<u8>, bytes: &[u8]) -> Result<(), AllocError>
+    ensures { OnOk result (text.new.items ≡ text.old.items ++ bytes.now) }
+{
+    text.extend_from_slice(bytes)
+}
+
 /// Adds the head of a module.
-fn put_head(text: &mut Vec<u8>, name: &str) -> Result<(), AllocError>
+fn put_head(text: &mut Vec<u8>, name: &[u8]) -> Result<(), AllocError>
     ensures { OnOk result (text.new.items ≡ text.old.items ++ head_text name.now) }
 {
     put(text, "/* verilator lint_off UNUSED */\nmodule ")?;
-    put(text, name)?;
+    put_bytes(text, name)?;
     put(
         text,
         "(\n  input clock,\n  input reset,\n  input in_valid,\n  output in_ready,\n  output out_valid,\n  input out_ready",
@@ -155,7 +191,7 @@ fn put_head(text: &mut Vec<u8>, name: &str) -> Result<(), AllocError>
 /// Adds the head of a module with its ports.
 fn put_heading(
     text: &mut Vec<u8>,
-    name: &str,
+    name: &[u8],
     inputs: &[Port],
     outputs: &[Port],
 ) -> Result<(), AllocError>
@@ -168,26 +204,50 @@ fn put_heading(
     put(text, "\n);\n")
 }
 
-/// The module of a program and its configuration, with this name.
+/// Adds the end of a module, unless the text gets too many bytes.
+fn put_end(text: &mut Vec<u8>) -> Result<(), NoText>
+    ensures text { OnOk result (text.new.items ≡ text.old.items ++ codes "end\nendmodule\n") }
+    ensures short { OnOk result (length text.new.items ≤ most_text_bytes) }
+    ensures refused { IfErr result (IsTooLong (text.old.items ++ codes "end\nendmodule\n")) }
+{
+    put(text, "end\nendmodule\n")?;
+    if MOST_TEXT_BYTES < text.len() {
+        return Err(NoText::Long);
+    }
+    Ok(())
+}
+
+/// The name of the module for a name.
+pub fn module_name(alloc: Global, name: &str) -> Result<Vec<u8>, AllocError>
+    ensures { IfOk result (λ bytes. bytes.items ≡ port_name name.now) }
+{
+    port_bytes(alloc, name.as_bytes())
+}
+
+/// The module of a program and its configuration, with this name, unless it has too many bytes. Then most of it is not made.
 pub fn rtl<const N: usize, const P: usize>(
     alloc: Global,
     name: &str,
     program: &Program,
     conf: &Configuration<N, P>,
-) -> Result<Vec<u8>, AllocError>
-    ensures { IfOk result (λ text. text.items ≡ rtl_text N P name.now program.now (shape_of conf.now)) }
+) -> Result<Vec<u8>, NoText>
+    ensures made { IfOk result (λ text. IsRtlText N P name.now program.now (shape_of conf.now) text.items) }
+    ensures short { IfOk result (λ text. length text.items ≤ most_text_bytes) }
+    ensures refused { IfErr result (IsTooLong (rtl_text N P name.now program.now (shape_of conf.now))) }
 {
+    let name = module_name(alloc, name)?;
     let inputs = input_ports::<N, P>(alloc, program, conf)?;
     let outputs = output_ports::<N, P>(alloc, program, conf)?;
     let marks = marks_of::<N, P>(alloc, conf)?;
     let mut text = Vec::new(alloc);
-    put_heading(&mut text, name, &inputs, &outputs)?;
+    put_heading(&mut text, &name, &inputs, &outputs)?;
     put_side_lines(&mut text, Side::Input, &inputs)?;
     put_all_registers::<N, P>(alloc, &mut text, &marks, Way::Declared, conf)?;
     put_all_wires::<N, P>(alloc, &mut text, &marks, conf)?;
     put_side_lines(&mut text, Side::Output, &outputs)?;
     put(&mut text, "always @(posedge clock) begin\n")?;
     put_all_registers::<N, P>(alloc, &mut text, &marks, Way::Clocked, conf)?;
-    put(&mut text, "end\nendmodule\n")?;
+    put_end(&mut text)?;
+    see_bytes::<N, P>(conf);
     Ok(text)
 }

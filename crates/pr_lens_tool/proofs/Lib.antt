@@ -4,3 +4,4 @@ mod ProgramLemmas
 mod LogLemmas
 mod StreamLemmas
 mod ModuleLemmas
+mod BenchLemmas

@@ -1,12 +1,21 @@
 -- The module of a program, from what is known of its parts.
-use Rattle.std.proofs.Common.{◌≡◌, ℕ, Bool, List}
+use Rattle.std.proofs.Common.{◌≡◌, ◌<◌, ◌≤◌, ℕ, Bool, List, [], length}
 use Rattle.pr_lang.specs.declared.trees.Program.{Program}
 use Rattle.pr_conf.specs.Shape.{Shape}
 use Rattle.pr_compile_front.specs.Refusals.{HasWidths}
 use Rattle.pr_compile.specs.Configured.{IsConfiguredBy}
-use Rattle.pr_lens_rtl_text.specs.Modules.{rtl_text}
-use Rattle.pr_lens_tool.specs.Modules.{IsModuleText}
+use Rattle.pr_lens_rtl_text.specs.Limits.{most_text_bytes}
+use Rattle.pr_lens_rtl_text.specs.Modules.{IsRtlText, rtl_text}
+use Rattle.pr_lens_tool.specs.Modules.{IsCompilation, IsLongModule, IsModule}
 
-pub module_is : (N P : ℕ) (narrow : Bool) (text name : List ℕ) (program : Program) (widths : List ℕ) (conf : Shape) (written : List ℕ) → HasWidths text program widths → IsConfiguredBy N P narrow program widths conf
-    → written ≡ rtl_text N P name program conf → IsModuleText N P narrow text name written
-module_is N P narrow text name program widths conf written has configured is = record { program = program; widths = widths; has = has; conf = conf; configured = configured; is = is }
+module _ (N P : ℕ) (narrow : Bool) (text : List ℕ) where
+  pub compilation_is : (program : Program) (widths : List ℕ) (conf : Shape) → HasWidths text program widths → IsConfiguredBy N P narrow program widths conf → IsCompilation N P narrow text program conf
+  compilation_is program widths conf has configured = record { widths = widths; has = has; configured = configured }
+
+  pub module_is : (name : List ℕ) (program : Program) (conf : Shape) (written : List ℕ) → IsCompilation N P narrow text program conf → IsRtlText N P name program conf written → length written ≤ most_text_bytes
+      → IsModule N P narrow text name written
+  module_is name program conf written compiled is short = record { program = program; conf = conf; compiled = compiled; is = is; short = short }
+
+  pub long_is : (name : List ℕ) (program : Program) (conf : Shape) (written : List ℕ) → IsCompilation N P narrow text program conf → most_text_bytes < length (rtl_text N P name program conf) → written ≡ []
+      → IsLongModule N P narrow text name written
+  long_is name program conf written compiled long none = record { program = program; conf = conf; compiled = compiled; long = long; none = none }

@@ -4,7 +4,7 @@ use Rattle.pr_edge.specs.Files.{Told}
 use Rattle.pr_tool_answers.specs.declared.answers.Answer.{Answer}
 use Rattle.pr_lens_signals.specs.Calls.{Call}
 use Rattle.pr_lens_tool.specs.declared.orders.Task.{Task}
-use Rattle.pr_lens_tool.specs.declared.orders.Task.TheVariants.{Program, Log, Signals}
+use Rattle.pr_lens_tool.specs.declared.orders.Task.TheVariants.{Program, Log, Signals, Bench}
 use Rattle.pr_lens_tool.specs.declared.outcomes.Outcome.{Outcome}
 use Rattle.pr_lens_tool.specs.declared.outcomes.Outcome.TheVariants.{Plain, Usage}
 use Rattle.pr_lens_tool.specs.Orders.{Asked}
@@ -12,11 +12,13 @@ use Rattle.pr_lens_tool.specs.Outcomes.{IsWritten, help_text}
 use Rattle.pr_lens_tool.specs.Programs.{IsToldOf, IsUntold}
 use Rattle.pr_lens_tool.specs.Logs.{IsDrawing, IsNoLog}
 use Rattle.pr_lens_tool.specs.Streams.{TellsStreams}
+use Rattle.pr_lens_tool.specs.Benches.{IsBenchOf, IsNoBenchOf}
 
 -- ---- what is made for an order
 abbrev pub IsMadeFor : Task → Told → Asked → Outcome → List ℕ → Type 0
 IsMadeFor (Program question) told order outcome written = IsToldOf question told order outcome written
 IsMadeFor Signals told order outcome written = ⊥
+IsMadeFor Bench told order outcome written = (outcome ≡ Plain Answer.Ok) × IsBenchOf told order written
 IsMadeFor (Log drawing) told order outcome written = (outcome ≡ Plain Answer.Ok) × IsDrawing drawing told order.file written
 
 abbrev pub IsMade : Told → Asked → Outcome → List ℕ → Type 0
@@ -31,6 +33,7 @@ IsPlain P outcome = ⊥
 abbrev pub IsUnmadeFor : Task → Told → Asked → ℕ → ℕ → Outcome → Type 0
 IsUnmadeFor (Program question) told order before now outcome = IsPlain (IsUntold told order before now) outcome
 IsUnmadeFor Signals told order before now outcome = ⊥
+IsUnmadeFor Bench told order before now outcome = IsNoBenchOf told order before now outcome
 IsUnmadeFor (Log drawing) told order before now outcome = IsNoLog told order.file before now outcome
 
 abbrev pub IsUnmade : Told → Asked → ℕ → ℕ → Outcome → Type 0

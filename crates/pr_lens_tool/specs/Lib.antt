@@ -8,3 +8,4 @@ pub mod Replies
 pub mod Logs
 pub mod Streams
 pub mod Calls
+pub mod Benches

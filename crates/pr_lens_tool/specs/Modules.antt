@@ -5,33 +5,31 @@ use Rattle.pr_conf.specs.Shape.{Shape}
 use Rattle.pr_compile_front.specs.Refusals.{HasWidths}
 use Rattle.pr_compile.specs.Configured.{IsConfiguredBy}
 use Rattle.pr_tool_answers.specs.declared.answers.Answer.{Answer}
-use Rattle.pr_lens_rtl_text.specs.Modules.{rtl_text}
+use Rattle.pr_lens_rtl_text.specs.Limits.{most_text_bytes}
+use Rattle.pr_lens_rtl_text.specs.Modules.{IsRtlText, rtl_text}
 use Rattle.pr_lens_tool.specs.declared.outcomes.Outcome.{Outcome}
 use Rattle.pr_lens_tool.specs.declared.outcomes.Outcome.TheVariants.{Plain, LongModule}
 
--- the bytes of a module, at most
-abbrev pub most_module_bytes : ℕ
-most_module_bytes = 16777216
-
--- no point refuses a text, and this is the module of its program and its configuration, with a name
-pub record IsModuleText (N P : ℕ) (narrow : Bool) (text name written : List ℕ) : Type 0 where
-  pub program : Program
+-- no point refuses a text of this program, and this is its configuration
+pub record IsCompilation (N P : ℕ) (narrow : Bool) (text : List ℕ) (program : Program) (conf : Shape) : Type 0 where
   pub widths : List ℕ
   pub has : HasWidths text program widths
-  pub conf : Shape
   pub configured : IsConfiguredBy N P narrow program widths conf
-  pub is : written ≡ rtl_text N P name program conf
 
--- it is written
+-- the module of the program and its configuration is written, with a name
 pub record IsModule (N P : ℕ) (narrow : Bool) (text name written : List ℕ) : Type 0 where
-  pub is : IsModuleText N P narrow text name written
-  pub short : length written ≤ most_module_bytes
+  pub program : Program
+  pub conf : Shape
+  pub compiled : IsCompilation N P narrow text program conf
+  pub is : IsRtlText N P name program conf written
+  pub short : length written ≤ most_text_bytes
 
 -- it is too long, and nothing is written
 pub record IsLongModule (N P : ℕ) (narrow : Bool) (text name written : List ℕ) : Type 0 where
-  pub whole : List ℕ
-  pub is : IsModuleText N P narrow text name whole
-  pub long : most_module_bytes < length whole
+  pub program : Program
+  pub conf : Shape
+  pub compiled : IsCompilation N P narrow text program conf
+  pub long : most_text_bytes < length (rtl_text N P name program conf)
   pub none : written ≡ []
 
 abbrev pub IsModuleOrLong : ℕ → ℕ → Bool → (text name : List ℕ) → Outcome → List ℕ → Type 0

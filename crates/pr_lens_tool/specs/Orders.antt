@@ -13,11 +13,11 @@ use Rattle.pr_lens_tool.specs.declared.orders.Task.{Task}
 use Rattle.pr_lens_tool.specs.declared.orders.Order.{Order}
 use Rattle.pr_lens_tool.specs.Tasks.{module_named, task_named}
 
--- pipelens TASK FILE [SECOND] [--fabric F] [--narrow] [--samples N] [--json] [--csv] [--no-warnings] [--name MODULE] [--signed NAME,..]
+-- pipelens TASK FILE [SECOND] [--fabric F] [--narrow] [--samples N] [--json] [--csv] [--no-warnings] [--name MODULE] [--signed NAME,..] [--seed N]
 unfoldable pub app : App
 app =
-    with_rule (with_rule (with_rule (with_rule (with_rule (with_rule (with_rule (with_rule (with_rule (with_rule (with_rule (new_app (codes "pipelens")) (place (codes "task") true)) (place (codes "file") true))
-    (place (codes "second") false)) (option_or (codes "fabric") (codes "base"))) (flag (codes "narrow"))) (option_or (codes "samples") (codes "1000"))) (flag (codes "json"))) (flag (codes "csv"))) (flag (codes "no-warnings"))) (option_or (codes "name") (codes "pipeline"))) (option (codes "signed"))
+    with_rule (with_rule (with_rule (with_rule (with_rule (with_rule (with_rule (with_rule (with_rule (with_rule (with_rule (with_rule (new_app (codes "pipelens")) (place (codes "task") true)) (place (codes "file") true))
+    (place (codes "second") false)) (option_or (codes "fabric") (codes "base"))) (flag (codes "narrow"))) (option_or (codes "samples") (codes "1000"))) (flag (codes "json"))) (flag (codes "csv"))) (flag (codes "no-warnings"))) (option_or (codes "name") (codes "pipeline"))) (option (codes "signed"))) (option_or (codes "seed") (codes "1"))
 
 pub record Asked : Type 0 where
   pub task : Task
@@ -31,6 +31,7 @@ pub record Asked : Type 0 where
   pub signed : Option Text
   pub warnings : Bool
   pub name : Text
+  pub seed : ℕ
 
 abbrev pub asked_in : Order → Asked
 asked_in order = record {
@@ -45,20 +46,22 @@ asked_in order = record {
   signed = option_map (λ s. s.now) order.signed;
   warnings = order.warnings;
   name = order.name.now;
+  seed = order.seed;
 }
 
--- streams are told of two files, all else of one
+-- streams are told of two files, and a bench is made of two; all else of one
 abbrev pub is_fit : Task → Option Text → Bool
 is_fit Task.Signals second = is_some second
+is_fit Task.Bench second = is_some second
 is_fit task second = is_none second
 
 abbrev pub fit : Asked → Option Asked
 fit asked = if is_fit asked.task asked.second then Some asked else None
 
 -- by the values of the options and the places, where all are lawful
-abbrev pub asked_from : (task file second fabric narrow samples json csv no_warnings name signed : Option Text) → Option Asked
-asked_from task file second fabric narrow samples json csv no_warnings name signed =
-    option_and_then fit (option_and_then (λ t. option_and_then (λ f. option_and_then (λ b. option_and_then (λ n. option_map (λ m. record {
+abbrev pub asked_from : (task file second fabric narrow samples json csv no_warnings name signed seed : Option Text) → Option Asked
+asked_from task file second fabric narrow samples json csv no_warnings name signed seed =
+    option_and_then fit (option_and_then (λ t. option_and_then (λ f. option_and_then (λ b. option_and_then (λ n. option_and_then (λ m. option_map (λ k. record {
       task = t;
       file = f;
       second = second;
@@ -70,17 +73,18 @@ asked_from task file second fabric narrow samples json csv no_warnings name sign
       signed = signed;
       warnings = not (is_true no_warnings);
       name = m;
-    }) (option_and_then module_named name)) (option_and_then (number_in 0 4294967295) samples)) (option_and_then fabric_named fabric)) file) (option_and_then task_named task))
+      seed = k;
+    }) (option_and_then (number_in 0 4294967295) seed)) (option_and_then module_named name)) (option_and_then (number_in 0 4294967295) samples)) (option_and_then fabric_named fabric)) file) (option_and_then task_named task))
 
 abbrev pub asked_of : Found → Option Asked
 asked_of f = asked_from
     (first_value f (codes "task")) (first_value f (codes "file")) (first_value f (codes "second")) (first_value f (codes "fabric")) (first_value f (codes "narrow"))
-    (first_value f (codes "samples")) (first_value f (codes "json")) (first_value f (codes "csv")) (first_value f (codes "no-warnings")) (first_value f (codes "name")) (first_value f (codes "signed"))
+    (first_value f (codes "samples")) (first_value f (codes "json")) (first_value f (codes "csv")) (first_value f (codes "no-warnings")) (first_value f (codes "name")) (first_value f (codes "signed")) (first_value f (codes "seed"))
 
 abbrev pub asked_rows : List Row → Option Asked
 asked_rows rows = asked_from
     (first_of (codes "task") rows) (first_of (codes "file") rows) (first_of (codes "second") rows) (first_of (codes "fabric") rows) (first_of (codes "narrow") rows)
-    (first_of (codes "samples") rows) (first_of (codes "json") rows) (first_of (codes "csv") rows) (first_of (codes "no-warnings") rows) (first_of (codes "name") rows) (first_of (codes "signed") rows)
+    (first_of (codes "samples") rows) (first_of (codes "json") rows) (first_of (codes "csv") rows) (first_of (codes "no-warnings") rows) (first_of (codes "name") rows) (first_of (codes "signed") rows) (first_of (codes "seed") rows)
 
 -- unless the command line has a fault with the words
 abbrev pub asked_without : Kinds → Option Asked → Option Asked

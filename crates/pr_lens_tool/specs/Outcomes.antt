@@ -7,7 +7,7 @@ use Rattle.pr_tool_answers.specs.declared.answers.Answer.{Answer}
 use Rattle.pr_tool_answers.specs.Statuses as answers
 use Rattle.pr_tool.specs.Notes.{note_of}
 use Rattle.pr_lens_tool.specs.declared.outcomes.Outcome.{Outcome}
-use Rattle.pr_lens_tool.specs.declared.outcomes.Outcome.TheVariants.{Plain, Explained, Streamed, Usage, BadLog, NoCycle, LongLog, LongModule, NoStream}
+use Rattle.pr_lens_tool.specs.declared.outcomes.Outcome.TheVariants.{Plain, Explained, Streamed, Usage, BadLog, NoCycle, LongLog, LongModule, LongBench, NoStream}
 use Rattle.pr_lens_tool.specs.declared.outcomes.Reply.{Reply}
 
 -- the status with which the process ends
@@ -20,6 +20,7 @@ status_of (BadLog line) = 15
 status_of NoCycle = 15
 status_of LongLog = 6
 status_of LongModule = 6
+status_of LongBench = 6
 status_of (NoStream place) = 2
 
 -- ---- the line that is told beside what is written
@@ -30,11 +31,12 @@ abbrev pub line_by : Reply → Outcome → List ℕ
 line_by reply (Plain answer) = note_of reply.bounds answer
 line_by reply (Explained answer) = []
 line_by reply (Streamed answer) = note_of reply.bounds answer
-line_by reply Usage = codes "usage: pipelens TASK FILE [SAMPLES] [--fabric F] [--narrow] [--samples N] [--json] [--csv] [--signed NAME,..] [--no-warnings] [--name MODULE]; pipelens --help says more\n"
+line_by reply Usage = codes "usage: pipelens TASK FILE [SAMPLES] [--fabric F] [--narrow] [--samples N] [--json] [--csv] [--signed NAME,..] [--no-warnings] [--name MODULE] [--seed N]; pipelens --help says more\n"
 line_by reply (BadLog line) = bad_log_line line
 line_by reply NoCycle = codes "bad log: no cycle\n"
 line_by reply LongLog = codes "limit: log-bytes 16777216\n"
 line_by reply LongModule = codes "limit: module-bytes 16777216\n"
+line_by reply LongBench = codes "limit: bench-bytes 16777216\n"
 line_by reply (NoStream place) = codes "no stream\n"
 
 abbrev pub own_line : Reply → List ℕ
@@ -52,7 +54,7 @@ line_of reply = line_or (own_line reply) reply.line
 -- the help
 unfoldable pub help_text : List ℕ
 help_text =
-    codes "pipelens looks at programs and runs of piperench\n\nusage: pipelens TASK FILE [SAMPLES] [--fabric F] [--narrow] [--samples N] [--json] [--csv] [--signed NAME,..] [--no-warnings] [--name MODULE]\n\n"
+    codes "pipelens looks at programs and runs of piperench\n\nusage: pipelens TASK FILE [SAMPLES] [--fabric F] [--narrow] [--samples N] [--json] [--csv] [--signed NAME,..] [--no-warnings] [--name MODULE] [--seed N]\n\n"
     ++ codes "  why PROGRAM    where and why a program is refused, or what to look at again\n"
     ++ codes "  cost PROGRAM   equations, units and stages, and cycles by stripes\n"
     ++ codes "  graph PROGRAM  the units by stage with their wires, for Graphviz\n"
@@ -60,7 +62,9 @@ help_text =
     ++ codes "  wave LOG       the log of `piperench trace` as a waveform (VCD)\n"
     ++ codes "  chart LOG      the log of `piperench trace` as a picture (SVG)\n"
     ++ codes "  signals PROGRAM SAMPLES\n"
-    ++ codes "                 what every named stream is at every sample, as a waveform (VCD)\n\n"
+    ++ codes "                 what every named stream is at every sample, as a waveform (VCD)\n"
+    ++ codes "  testbench PROGRAM SAMPLES\n"
+    ++ codes "                 a test bench for the module of `rtl`, with the results of `eval`\n\n"
     ++ codes "  --fabric F     base has 16 columns and 8 registers, wide 32 and 16; base without it\n"
     ++ codes "  --narrow       leaves out what no output shows\n"
     ++ codes "  --samples N    how long the run is whose cycles `cost` tells; 1000 without it\n"
@@ -70,6 +74,7 @@ help_text =
     ++ codes "  --csv          `signals` writes lines of numbers in place of a waveform\n"
     ++ codes "  --signed NAME,..\n"
     ++ codes "                 `signals` shows the streams of these names as two's complement\n"
+    ++ codes "  --seed N       when `testbench` offers samples and takes results; 1 without it\n"
 
 -- a text was written whole, and this is the outcome; or a write failed
 pub record IsWhole (old new : Tape) (text : List ℕ) (outcome result : Outcome) : Type 0 where

@@ -4,7 +4,7 @@ use Rattle.std.specs.List.{list_all}
 use Rattle.pr_lens_tool.specs.declared.orders.Question.TheVariants.{Why, Cost, Graph, Rtl}
 use Rattle.pr_lens_tool.specs.declared.orders.Drawing.TheVariants.{Wave, Chart}
 use Rattle.pr_lens_tool.specs.declared.orders.Task.{Task}
-use Rattle.pr_lens_tool.specs.declared.orders.Task.TheVariants.{Program, Log, Signals}
+use Rattle.pr_lens_tool.specs.declared.orders.Task.TheVariants.{Program, Log, Signals, Bench}
 
 abbrev pub task_named : List ℕ → Option Task
 task_named name =
@@ -15,6 +15,7 @@ task_named name =
     else if bytes_eq name (codes "wave") then Some (Log Wave)
     else if bytes_eq name (codes "chart") then Some (Log Chart)
     else if bytes_eq name (codes "signals") then Some Signals
+    else if bytes_eq name (codes "testbench") then Some Bench
     else None
 
 -- ---- the name of a module

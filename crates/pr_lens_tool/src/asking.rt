@@ -45,6 +45,8 @@ const FABRIC: &str = "base";
 const SAMPLES: &str = "1000";
 /// The name of a module where none is given.
 const NAME: &str = "pipeline";
+/// The seed of a bench where none is given.
+const SEED: &str = "1";
 
 /// A place for a word, which has to be there or not.
 fn place<'a>(alloc: Global, name: &'a str, required: bool) -> Arg<'a>
@@ -92,7 +94,8 @@ fn command<'a>(alloc: Global) -> Result<Command<'a>, AllocError>
     let csv = json.arg(flag(alloc, "csv"))?;
     let warnings = csv.arg(flag(alloc, "no-warnings"))?;
     let name = warnings.arg(option_or(alloc, "name", NAME))?;
-    name.arg(option(alloc, "signed"))
+    let signed = name.arg(option(alloc, "signed"))?;
+    signed.arg(option_or(alloc, "seed", SEED))
 }
 
 /// Whether the value of an option without one is `true`.
@@ -110,7 +113,7 @@ fn is_fit(task: Task, second: Option<&str>) -> bool
     ensures { result ≡ is_fit task (option_map (λ s. s.now) second.entry) }
 {
     match task {
-        Task::Signals => second.is_some(),
+        Task::Signals | Task::Bench => second.is_some(),
         Task::Program(_) => second.is_none(),
         Task::Log(_) => second.is_none(),
     }
@@ -146,6 +149,7 @@ fn found<'a>(matches: &ArgMatches<'a>) -> Option<Order<'a>>
     let fabric = fabric_named(matches.get_str("fabric")?)?;
     let samples = number_in(matches.get_str("samples")?, 0, u32::MAX)?;
     let name = module_named(matches.get_str("name")?)?;
+    let seed = number_in(matches.get_str("seed")?, 0, u32::MAX)?;
     fit(Order {
         task,
         file,
@@ -158,6 +162,7 @@ fn found<'a>(matches: &ArgMatches<'a>) -> Option<Order<'a>>
         signed: matches.get_str("signed"),
         warnings: !is_true(matches.get_str("no-warnings")),
         name,
+        seed,
     })
 }
 

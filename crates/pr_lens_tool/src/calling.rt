@@ -12,6 +12,7 @@ ghost use Rattle.pr_lens_tool.specs.Replies.{HasLine};
 ghost use Rattle.pr_lens_tool.specs.Calls.{IsMade, IsUnmade, IsFollowed, IsCalled};
 
 use crate::asking::{OrderFault, read_order};
+use crate::benches::bench_of;
 use crate::logs::of_log;
 use crate::orders::{Order, Question, Task};
 use crate::outcomes::{Outcome, Output, Reply};
@@ -28,7 +29,7 @@ use std::alloc::Global;
 const HELP: &[u8] = b"\
 pipelens looks at programs and runs of piperench
 
-usage: pipelens TASK FILE [SAMPLES] [--fabric F] [--narrow] [--samples N] [--json] [--csv] [--signed NAME,..] [--no-warnings] [--name MODULE]
+usage: pipelens TASK FILE [SAMPLES] [--fabric F] [--narrow] [--samples N] [--json] [--csv] [--signed NAME,..] [--no-warnings] [--name MODULE] [--seed N]
 
   why PROGRAM    where and why a program is refused, or what to look at again
   cost PROGRAM   equations, units and stages, and cycles by stripes
@@ -38,6 +39,8 @@ usage: pipelens TASK FILE [SAMPLES] [--fabric F] [--narrow] [--samples N] [--jso
   chart LOG      the log of `piperench trace` as a picture (SVG)
   signals PROGRAM SAMPLES
                  what every named stream is at every sample, as a waveform (VCD)
+  testbench PROGRAM SAMPLES
+                 a test bench for the module of `rtl`, with the results of `eval`
 
   --fabric F     base has 16 columns and 8 registers, wide 32 and 16; base without it
   --narrow       leaves out what no output shows
@@ -48,6 +51,7 @@ usage: pipelens TASK FILE [SAMPLES] [--fabric F] [--narrow] [--samples N] [--jso
   --csv          `signals` writes lines of numbers in place of a waveform
   --signed NAME,..
                  `signals` shows the streams of these names as two's complement
+  --seed N       when `testbench` offers samples and takes results; 1 without it
 ";
 
 /// What is asked of the program of a file; else the answer to it.
@@ -87,6 +91,7 @@ fn made<S: Shelf>(alloc: Global, order: &Order, shelf: &mut S) -> Result<Output,
             Err(answer) => Err(Outcome::Plain(answer)),
         },
         Task::Log(drawing) => of_log(alloc, drawing, shelf, order.file),
+        Task::Bench => bench_of(alloc, order, shelf),
         Task::Signals => unreachable!(),
     }
 }

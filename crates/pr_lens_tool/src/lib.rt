@@ -3,7 +3,9 @@
 
 mod accepted;
 mod asking;
+mod benches;
 mod calling;
+mod compiling;
 mod logs;
 mod orders;
 mod outcomes;

@@ -37,6 +37,8 @@ pub enum Task {
     Log(Drawing),
     /// It is a program, and its streams are told on the samples of a second file.
     Signals,
+    /// It is a program, and its module is tried by a bench on the samples of a second file.
+    Bench,
 }
 
 /// What the words of a command line ask for.
@@ -63,6 +65,8 @@ pub struct Order<'a> {
     pub warnings: bool,
     /// The name of a module.
     pub name: &'a str,
+    /// What decides when a bench offers samples and takes results.
+    pub seed: u32,
 }
 
 /// The task of this name.
@@ -77,6 +81,7 @@ pub fn task_named(name: &str) -> Option<Task>
         "wave" => Some(Task::Log(Drawing::Wave)),
         "chart" => Some(Task::Log(Drawing::Chart)),
         "signals" => Some(Task::Signals),
+        "testbench" => Some(Task::Bench),
         _ => None,
     }
 }

@@ -17,7 +17,7 @@ pub enum Outcome {
     Plain(Answer),
     /// The same, and what was written explains it.
     Explained(Answer),
-    /// As `piperench` answers, of samples on which streams are told.
+    /// As `piperench` answers, of samples on which streams are told or a bench is made.
     Streamed(Answer),
     /// The words are no lawful command line.
     Usage,
@@ -29,6 +29,8 @@ pub enum Outcome {
     LongLog,
     /// A module has too many bytes.
     LongModule,
+    /// A bench has too many bytes.
+    LongBench,
     /// The name at a place of the list of names, counted from 0, is that of no stream.
     NoStream { place: usize },
 }
@@ -52,7 +54,7 @@ pub struct Reply {
 
 /// The line for words that are no lawful command line.
 const USAGE: &str =
-    "usage: pipelens TASK FILE [SAMPLES] [--fabric F] [--narrow] [--samples N] [--json] [--csv] [--signed NAME,..] [--no-warnings] [--name MODULE]; pipelens --help says more\n";
+    "usage: pipelens TASK FILE [SAMPLES] [--fabric F] [--narrow] [--samples N] [--json] [--csv] [--signed NAME,..] [--no-warnings] [--name MODULE] [--seed N]; pipelens --help says more\n";
 
 /// The line for a log without a cycle.
 const NO_CYCLE: &str = "bad log: no cycle\n";
@@ -63,6 +65,8 @@ const LONG: &str = "limit: log-bytes 16777216\n";
 /// The line for a module with too many bytes.
 const LONG_MODULE: &str = "limit: module-bytes 16777216\n";
 
+/// The line for a bench with too many bytes.
+const LONG_BENCH: &str = "limit: bench-bytes 16777216\n";
 /// The line for a name that no stream has, where memory wants for the name.
 const NO_STREAM: &str = "no stream\n";
 
@@ -76,7 +80,7 @@ impl Outcome {
             Outcome::Streamed(answer) => answer.status(),
             Outcome::Usage | Outcome::NoStream { .. } => 2,
             Outcome::BadLog { .. } | Outcome::NoCycle => 15,
-            Outcome::LongLog | Outcome::LongModule => 6,
+            Outcome::LongLog | Outcome::LongModule | Outcome::LongBench => 6,
         }
     }
 }
@@ -136,6 +140,7 @@ impl Reply {
             Outcome::NoCycle => put_bytes(note, NO_CYCLE.as_bytes()),
             Outcome::LongLog => put_bytes(note, LONG.as_bytes()),
             Outcome::LongModule => put_bytes(note, LONG_MODULE.as_bytes()),
+            Outcome::LongBench => put_bytes(note, LONG_BENCH.as_bytes()),
             Outcome::NoStream { .. } => put_bytes(note, NO_STREAM.as_bytes()),
         }
     }

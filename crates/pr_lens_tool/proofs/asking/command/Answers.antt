@@ -17,4 +17,5 @@ returns c =
     let csv = c.in_ok-csv.ensures.shape c.flag-3.ensures.local ∙ ap₂ with_rule json c.flag-3.ensures.rule in
     let warnings = c.in_ok-warnings.ensures.shape c.flag-4.ensures.local ∙ ap₂ with_rule csv c.flag-4.ensures.rule in
     let name = c.in_ok-name.ensures.shape c.option_or-3.ensures.local ∙ ap₂ with_rule warnings c.option_or-3.ensures.rule in
-    IfOk-weaker c.arg-11.result _ _ (λ r h. h.shape c.option.ensures.local ∙ ap₂ with_rule name c.option.ensures.rule) c.arg-11.ensures
+    let signed = c.in_ok-signed.ensures.shape c.option.ensures.local ∙ ap₂ with_rule name c.option.ensures.rule in
+    IfOk-weaker c.arg-12.result _ _ (λ r h. h.shape c.option_or-4.ensures.local ∙ ap₂ with_rule signed c.option_or-4.ensures.rule) c.arg-12.ensures

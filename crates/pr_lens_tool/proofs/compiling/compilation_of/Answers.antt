@@ -1,8 +1,8 @@
 use Rattle.std.proofs.Common.{arith, rules}
 use Rattle.std.proofs.lemmas.Result.{err_from_is_err_and}
 use Rattle.pr_compile.proofs.Steps.{front_answer, net_answer, at_exit}
-use Rattle.pr_lens_tool.proofs.ModuleLemmas.{module_is}
-use Rattle.pr_lens_tool.proofs.rtl.module_text.Goals as goal
+use Rattle.pr_lens_tool.proofs.ModuleLemmas.{compilation_is}
+use Rattle.pr_lens_tool.proofs.compiling.compilation_of.Goals as goal
 
 pub compile_front-requires : goal.compile_front-requires
 compile_front-requires g c =
@@ -21,6 +21,6 @@ returns-in_err-compiled-clause-refused g c =
     let p = err_from_is_err_and r.result r.ensures.1 in
     at_exit g.row.N g.row.P c.args.narrowed c.args.text.now r.result _ p (net_answer g.row.N g.row.P c.args.narrowed c.args.text.now front.scoped.program front.widths _ c.in_ok-front.ensures.passed.widths c.in_err-compiled.ensures.refused)
 
-pub returns-clause-made : goal.returns-clause-made
-returns-clause-made g c =
-    module_is g.row.N g.row.P c.args.narrowed c.args.text.now c.args.name.now c.in_ok-front.front.scoped.program c.in_ok-front.front.widths _ _ c.in_ok-front.ensures.passed.widths c.in_ok-compiled.ensures.configured c.in_ok-made.ensures
+pub returns-clause-compiled : goal.returns-clause-compiled
+returns-clause-compiled g c =
+    compilation_is g.row.N g.row.P c.args.narrowed c.args.text.now c.in_ok-front.front.scoped.program c.in_ok-front.front.widths _ c.in_ok-front.ensures.passed.widths c.in_ok-compiled.ensures.configured

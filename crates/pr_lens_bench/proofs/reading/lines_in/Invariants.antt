@@ -1,0 +1,25 @@
+use Rattle.std.proofs.Common.{◌≡◌, ◌≢◌, ◌≤◌, ◌-◌, ℕ, List, length}
+use Rattle.std.specs.Prelude.{vec_len}
+use Rattle.pr_edge.specs.Files.{IsMissing}
+use Rattle.pr_flat.specs.Shape.{shapes_of}
+use Rattle.pr_samples.specs.Feed.{name_of, given_of, most_of, reads_nothing, SameFile}
+use Rattle.pr_lens_rtl_text.specs.Limits.{most_text_bytes}
+use Rattle.pr_lens_bench.proofs.BenchLemmas.{HasMade}
+use Rattle.pr_lens_bench.proofs.reading.lines_in.Given as goal
+
+abbrev pub invariant-samples : goal.invariant-samples
+invariant-samples g l = record {
+  made : HasMade (g.S.Shelf.told l.initial.shelf) (shapes_of l.trial.front.flat.equations.items) l.trial.front.flat.outputs.items l.trial.front.widths l.trial.plan l.initial.feed l.feed l.evaluator l.text.items l.count;
+  few : l.count ≤ length l.text.items;
+  short : length l.text.items ≤ most_text_bytes;
+  there : IsMissing (g.S.Shelf.told l.initial.shelf) (name_of l.initial.feed) → reads_nothing l.feed;
+  sample : length l.sample ≡ vec_len l.trial.front.scoped.inputs;
+  row : length l.row ≡ vec_len l.trial.front.flat.outputs;
+  file : SameFile l.initial.feed l.feed;
+  later : g.S.Shelf.faults l.initial.shelf ≤ g.S.Shelf.faults l.shelf;
+  same : g.S.Shelf.told l.shelf ≡ g.S.Shelf.told l.initial.shelf;
+  others : (q : List ℕ) → q ≢ name_of l.initial.feed → g.S.Shelf.reach l.shelf q ≡ g.S.Shelf.reach l.initial.shelf q;
+}
+
+abbrev pub decreases-samples : goal.decreases-samples
+decreases-samples g l = most_of l.feed - given_of l.feed

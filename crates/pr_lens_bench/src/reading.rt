@@ -1,0 +1,72 @@
+//! The lines of a bench, which are made while the samples are read.
+
+ghost use Rattle.std.specs.Prelude.{◌≡◌, ◌≢◌, ◌≤◌, ℕ, List, length, vec_len, IfErr, IfOk};
+ghost use Rattle.pr_edge.specs.Files.{HasReadCause, IsMissing};
+ghost use Rattle.pr_samples.specs.declared.feed.Got.{Got};
+ghost use Rattle.pr_samples.specs.Feed.{name_of, SameFile};
+ghost use Rattle.pr_tool_modes.specs.Programs.{inputs_of};
+ghost use Rattle.pr_lens_signals.specs.Reading.{IsLongFeed};
+ghost use Rattle.pr_lens_bench.specs.Reading.{HasLines, IsCut, IsFit};
+
+use crate::cells::put_row;
+use crate::trials::{NoBench, Trial};
+use pr_base::Num;
+use pr_edge::Shelf;
+use pr_lens_rtl_text::MOST_TEXT_BYTES;
+use pr_samples::{Feed, Got};
+use pr_source::Evaluator;
+use std::alloc::Global;
+
+/// The lines of samples, how many they are, and how the samples end.
+#[derive(Drop)]
+pub struct Lines {
+    pub text: Vec<u8>,
+    pub count: usize,
+    pub end: Got,
+}
+
+/// The lines of the samples of a feed, unless they have too many bytes. `sample` and `row` have room for one of each.
+pub fn lines_in<S: Shelf>(
+    alloc: Global,
+    trial: &Trial,
+    feed: &mut Feed,
+    shelf: &mut S,
+    sample: &mut [Num],
+    row: &mut [Num],
+) -> Result<Lines, NoBench>
+    requires fit { IsFit trial.now }
+    requires feed { IsLongFeed (inputs_of trial.now.front.scoped.program) feed.old }
+    requires sample { length sample.old ≡ vec_len trial.now.front.scoped.inputs }
+    requires row { length row.old ≡ vec_len trial.now.front.flat.outputs }
+    ensures lines { IfOk result
+        (λ r. r.end ≢ Got.ReadFault
+        → HasLines (S.told shelf.old) trial.now.front.scoped.program trial.now.plan feed.old feed.new
+        r.text.items r.count r.end) }
+    ensures there { IfOk result (λ r. r.end ≢ Got.ReadFault → IsMissing (S.told shelf.old) (name_of feed.old) → ⊥) }
+    ensures cause { IfOk result
+        (λ r. r.end ≡ Got.ReadFault
+        → HasReadCause (S.told shelf.old) (name_of feed.old) (S.faults shelf.old) (S.faults shelf.new)) }
+    ensures cut { IfErr result
+        (IsCut (S.told shelf.old) trial.now.front.scoped.program trial.now.plan feed.old feed.new) }
+    ensures file { SameFile feed.old feed.new }
+    ensures later { S.faults shelf.old ≤ S.faults shelf.new }
+    ensures same { S.told shelf.new ≡ S.told shelf.old }
+    ensures others { (q : List ℕ) → q ≢ name_of feed.old → S.reach shelf.new q ≡ S.reach shelf.old q }
+{
+    let mut evaluator = Evaluator::new(alloc, &trial.front.flat)?;
+    let mut text = Vec::new(alloc);
+    let mut count = 0;
+    'samples: loop {
+        match feed.next(shelf, sample) {
+            Got::Sample => {
+                evaluator.next(&trial.front.flat, &trial.front.widths, sample, row);
+                put_row(&mut text, &trial.plan, count, sample, row)?;
+                count += 1;
+                if MOST_TEXT_BYTES < text.len() {
+                    return Err(NoBench::Long);
+                }
+            }
+            end => return Ok(Lines { text, count, end }),
+        }
+    }
+}

@@ -1,0 +1,135 @@
+//! The bench for the module of a program.
+
+ghost use Rattle.std.specs.Prelude.{◌≡◌, ◌≤◌, ◌⊎◌, length, IfOk, IfErr};
+ghost use Rattle.pr_base.specs.Fabrics.{columns, registers};
+ghost use Rattle.pr_conf.specs.Configuration.{shape_of};
+ghost use Rattle.pr_tool_answers.specs.declared.answers.Answer.{Answer};
+ghost use Rattle.pr_tool_modes.specs.Programs.{IsUncompiled};
+ghost use Rattle.pr_lens_bench.specs.Reading.{IsFit};
+ghost use Rattle.pr_lens_bench.specs.Benches.{IsBench, IsUnbenched};
+ghost use Rattle.pr_lens_tool.specs.declared.outcomes.Outcome.TheVariants.{Plain};
+ghost use Rattle.pr_lens_tool.specs.Orders.{asked_in};
+ghost use Rattle.pr_lens_tool.specs.Benches.{IsBenchOf, IsNoBenchOf, IsPlan, IsPlanned, IsUntried};
+
+use crate::compiling::{Compilation, compilation_of};
+use crate::orders::Order;
+use crate::outcomes::{Outcome, Output};
+use crate::programs::answer_of;
+use pr_base::{Cap, Fabric};
+use pr_conf::Configuration;
+use pr_edge::Shelf;
+use pr_lang::Program;
+use pr_lens_bench::{NoBench, Plan, Trial, bench};
+use pr_lens_rtl_text::{input_ports, module_name, output_ports};
+use pr_tool::Answer;
+use pr_tool_modes::read_file;
+use std::alloc::{AllocError, Global};
+
+/// The plan for the module of a program and its configuration.
+fn plan_of<const N: usize, const P: usize>(
+    alloc: Global,
+    order: &Order,
+    program: &Program,
+    conf: &Configuration<N, P>,
+) -> Result<Plan, AllocError>
+    ensures { IfOk result (IsPlan order.now.name.now order.now.seed program.now (shape_of conf.now)) }
+{
+    Ok(Plan {
+        name: module_name(alloc, order.name)?,
+        inputs: input_ports::<N, P>(alloc, program, conf)?,
+        outputs: output_ports::<N, P>(alloc, program, conf)?,
+        seed: order.seed,
+    })
+}
+
+/// The program of a text with the plan for its module; else the answer to it.
+fn planned<const N: usize, const P: usize>(
+    alloc: Global,
+    order: &Order,
+    text: &[u8],
+) -> Result<Trial, Answer>
+    requires short { length text.now ≤ 1048576 }
+    requires columns { 1 ≤ N }
+    requires most_columns { N ≤ 64 }
+    requires registers { 2 ≤ P }
+    requires most_registers { P ≤ 16 }
+    ensures planned { IfOk result (λ t. IsPlanned N P (asked_in order.now) text.now t.front.scoped.program t.plan) }
+    ensures fit { IfOk result IsFit }
+    ensures refused { IfErr result (λ a. IsUncompiled N P order.now.narrowed text.now a ⊎ (a ≡ Answer.Memory)) }
+{
+    let made = match compilation_of::<N, P>(alloc, text, order.narrowed) {
+        Ok(made) => made,
+        Err(fault) => return Err(answer_of(&fault)),
+    };
+    let Compilation { front, conf } = made;
+    let plan = plan_of::<N, P>(alloc, order, &front.scoped.program, &conf)?;
+    Ok(Trial { front, plan })
+}
+
+/// The program of a text with the plan for its module, on the fabric that is asked for.
+fn planned_on(alloc: Global, order: &Order, text: &[u8]) -> Result<Trial, Answer>
+    requires { length text.now ≤ 1048576 }
+    ensures planned { IfOk result (λ t. IsPlanned (columns order.now.fabric) (registers order.now.fabric)
+        (asked_in order.now) text.now t.front.scoped.program t.plan) }
+    ensures fit { IfOk result IsFit }
+    ensures refused { IfErr result (λ a.
+        IsUncompiled (columns order.now.fabric) (registers order.now.fabric) order.now.narrowed text.now a
+        ⊎ (a ≡ Answer.Memory)) }
+{
+    match order.fabric {
+        Fabric::Base => planned::<16, 8>(alloc, order, text),
+        Fabric::Wide => planned::<32, 16>(alloc, order, text),
+    }
+}
+
+/// The bench of a trial on the samples of a file; else what the call comes to.
+fn tried<S: Shelf>(
+    alloc: Global,
+    trial: &Trial,
+    samples: &str,
+    shelf: &mut S,
+) -> Result<Output, Outcome>
+    requires { IsFit trial.now }
+    ensures well { IfOk result (λ o. o.outcome ≡ Plain Answer.Ok) }
+    ensures made { IfOk result (λ o.
+        IsBench (S.told shelf.old) samples.now trial.now.front.scoped.program trial.now.plan o.text.items) }
+    ensures refused { IfErr result (λ o. IsUntried
+        (IsUnbenched (S.told shelf.old) samples.now trial.now.front.scoped.program trial.now.plan
+        (S.faults shelf.old) (S.faults shelf.new)) o) }
+    ensures later { S.faults shelf.old ≤ S.faults shelf.new }
+    ensures same { S.told shelf.new ≡ S.told shelf.old }
+{
+    match bench(alloc, trial, samples, shelf) {
+        Ok(text) => Ok(Output {
+            text,
+            outcome: Outcome::Plain(Answer::Ok),
+        }),
+        Err(NoBench::Long) => Err(Outcome::LongBench),
+        Err(NoBench::Ended(answer)) => Err(Outcome::Streamed(answer)),
+    }
+}
+
+/// The bench for the module of the program of a file on the samples of another; else what the call comes to.
+pub fn bench_of<S: Shelf>(alloc: Global, order: &Order, shelf: &mut S) -> Result<Output, Outcome>
+    ensures well { IfOk result (λ o. o.outcome ≡ Plain Answer.Ok) }
+    ensures made { IfOk result (λ o. IsBenchOf (S.told shelf.old) (asked_in order.now) o.text.items) }
+    ensures refused { IfErr result
+        (IsNoBenchOf (S.told shelf.old) (asked_in order.now) (S.faults shelf.old) (S.faults shelf.new)) }
+    ensures later { S.faults shelf.old ≤ S.faults shelf.new }
+    ensures same { S.told shelf.new ≡ S.told shelf.old }
+{
+    let samples = match order.second {
+        Some(samples) => samples,
+        None => return Err(Outcome::Usage),
+    };
+    let most = Cap::MOST_PROGRAM_BYTES;
+    let text = match read_file(alloc, shelf, order.file, most, Cap::ProgramBytes) {
+        Ok(text) => text,
+        Err(answer) => return Err(Outcome::Plain(answer)),
+    };
+    let trial = match planned_on(alloc, order, &text) {
+        Ok(trial) => trial,
+        Err(answer) => return Err(Outcome::Plain(answer)),
+    };
+    tried(alloc, &trial, samples, shelf)
+}
