@@ -1,7 +1,7 @@
 -- Marks, one set after the other.
 use Rattle.std.proofs.Common.{◌≡◌, ◌∙◌, ◌+◌, ◌-◌, ◌<◌, ◌≤◌, ◌++◌, ℕ, zero, suc, Bool, true, false, List, [], ◌∷◌, length, map, take, drop, get_or, set, inl, inr, refl, sym, ap, subst, arith, get_or-set_same, get_or-set_other}
 use Rattle.std.specs.Prelude.{not}
-use Rattle.std.proofs.lemmas.Bool.{cases_eq}
+use Rattle.std.proofs.lemmas.Bool.{cases_eq, cases_lt}
 use Rattle.std.proofs.lemmas.List.{length-map, take-append-le, take_all}
 use Rattle.std.proofs.lemmas.List.Sums.{sum_by-set}
 use Rattle.pr_lang.specs.declared.tokens.Token.{Token}
@@ -9,7 +9,7 @@ use Rattle.pr_lens_source.specs.declared.sources.Span.{Span}
 use Rattle.pr_lens_source.specs.Ranges.{one_where}
 use Rattle.pr_lens_source.specs.Tokens.{kind_of}
 use Rattle.pr_lens_warn.specs.Kinds.{yields}
-use Rattle.pr_lens_warn.specs.Needs.{AreNeeded, AreSettled, AreSound, IsNeeded, IsSettled, IsUsed, Yields, Serves, Uses, is_assigned, is_marked, unmarked}
+use Rattle.pr_lens_warn.specs.Needs.{AreNeeded, AreSettled, AreSound, IsNeeded, IsSettled, IsUnusedBetween, IsUsed, Yields, Serves, Uses, is_assigned, is_marked, unmarked}
 
 -- a mark that is set is one less that is not
 pub marked_fewer : (marks : List Bool) (at : ℕ) → at < length marks → is_marked marks at ≡ false → unmarked (set marks at true) + 1 ≡ unmarked marks
@@ -37,6 +37,12 @@ yields_at (t ∷ ts) zero = refl
 yields_at (t ∷ ts) (suc k) = yields_at ts k
 
 module _ (text : List ℕ) (tokens : List Token) (spans : List Span) where
+  pub used_nowhere : (marks : List Bool) (assigned : ℕ) → length marks ≡ length tokens → IsUnusedBetween text tokens spans marks assigned (length marks) assigned → IsUnusedBetween text tokens spans marks 0 assigned assigned → IsUsed text tokens spans marks assigned → ⊥
+  used_nowhere marks assigned count behind before used = elim (cases_lt used.by assigned) [
+    | inl less ↦ before used.by (omega arith) less used.marked used.uses
+    | inr past ↦ behind used.by past (omega (arith, count, used.uses.behind, used.uses.within)) used.marked used.uses
+  ]
+
   pub sound_more : (marks : List Bool) (at : ℕ) → at < length marks → AreSound text tokens spans marks → is_assigned tokens at ≡ true → IsUsed text tokens spans marks at → AreSound text tokens spans (set marks at true)
   sound_more marks at less sound assigned used k held = elim (cases_eq k at) [
     | inl same ↦ subst (λ (n : ℕ). IsNeeded text tokens spans n) (sym same) (Serves used.by at (sound used.by used.marked) assigned used.uses)

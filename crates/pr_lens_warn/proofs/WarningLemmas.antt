@@ -3,6 +3,12 @@ use Rattle.std.proofs.Common.{◌≡◌, ◌∙◌, ◌+◌, ◌-◌, ◌<◌, �
 use Rattle.std.specs.Prelude.{filter_map}
 use Rattle.std.specs.List.{range_with_len}
 use Rattle.std.proofs.lemmas.List.{append-nil}
+use Rattle.pr_lang.specs.declared.trees.Program.{Program}
+use Rattle.pr_lang.specs.Shape.{program_shape}
+use Rattle.pr_lang.specs.Syntax.{IsProgram}
+use Rattle.pr_lens_extents.specs.declared.verdicts.Verdict.{Verdict}
+use Rattle.pr_lens_extents.specs.Programs.{program_verdicts}
+use Rattle.pr_lens_warn.specs.Comparisons.{AreVerdicts}
 
 pub none_of : {X : Type 0} (o : Option X) → ((x : X) → o ≡ Some x → ⊥) → o ≡ None
 none_of None not = refl
@@ -35,3 +41,7 @@ module _ {X : Type 0} (h : ℕ → Option X) (n : ℕ) where
   rest_none found whole at past rest =
       let none : n - at ≡ 0 = omega arith in
       sym (append-nil found) ∙ (ap (λ (k : ℕ). found ++ filter_map h (range_with_len at k)) (sym none) ∙ rest)
+
+-- the verdicts of a program are those of its text
+pub verdicts_read : (text : List ℕ) (program : Program) (verdicts : List Verdict) → IsProgram text (program_shape program) → verdicts ≡ program_verdicts program → AreVerdicts text verdicts
+verdicts_read text program verdicts read are = record { program = Some program; read = read; are = are }

@@ -8,7 +8,9 @@ use Rattle.pr_lens_show.specs.Findings.{IsPut}
 use Rattle.pr_lens_source.specs.declared.sources.Span.{Span}
 use Rattle.pr_lens_source.specs.Items.{AreItems}
 use Rattle.pr_lens_source.specs.Tokens.{start_of, end_of}
+use Rattle.pr_lens_extents.specs.declared.verdicts.Verdict.{Verdict}
 use Rattle.pr_lens_warn.specs.declared.remarks.Warning.{Warning}
+use Rattle.pr_lens_warn.specs.Comparisons.{AreVerdicts}
 use Rattle.pr_lens_warn.specs.Texts.{code_of, heading_of, message_of}
 use Rattle.pr_lens_warn.specs.Warnings.{AreWarnings}
 
@@ -42,6 +44,8 @@ AreTold json name text tokens (w ∷ ws) old new =
 pub record WarnsOf (json : Bool) (name text old new : List ℕ) : Type 0 where
   pub spans : List Span
   pub items : AreItems (tokens_of text) 0 spans
+  pub verdicts : List Verdict
+  pub judged : AreVerdicts text verdicts
   pub warnings : List Warning
-  pub are : AreWarnings text (tokens_of text) spans warnings
+  pub are : AreWarnings text (tokens_of text) spans verdicts warnings
   pub told : AreTold json name text (tokens_of text) warnings old new

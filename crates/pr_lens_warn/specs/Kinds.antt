@@ -55,6 +55,35 @@ begins_sum (Word keyword.Return) = true
 begins_sum (Mark sign) = begins_behind sign
 begins_sum _ = false
 
+abbrev pub is_let : Kind → Bool
+is_let (Word keyword.Let) = true
+is_let _ = false
+
+abbrev pub is_shift : Kind → Bool
+is_shift (Mark symbol.ShiftLeft) = true
+is_shift (Mark symbol.ShiftRight) = true
+is_shift _ = false
+
+-- a name before this token is not the whole of an operand of a shift
+abbrev pub goes_on : Kind → Bool
+goes_on (Mark symbol.Plus) = true
+goes_on (Mark symbol.Minus) = true
+goes_on (Mark symbol.Star) = true
+goes_on (Mark symbol.OpenRound) = true
+goes_on (Mark symbol.OpenSquare) = true
+goes_on (Mark symbol.OpenCurly) = true
+goes_on (Mark symbol.At) = true
+goes_on _ = false
+
+abbrev pub is_comparison : Kind → Bool
+is_comparison (Mark symbol.Equal) = true
+is_comparison (Mark symbol.NotEqual) = true
+is_comparison (Mark symbol.Less) = true
+is_comparison (Mark symbol.LessEqual) = true
+is_comparison (Mark symbol.Greater) = true
+is_comparison (Mark symbol.GreaterEqual) = true
+is_comparison _ = false
+
 -- what stands before this token is an operand of it, before one of a difference
 abbrev pub binds_closer : Kind → Bool
 binds_closer (Mark symbol.Star) = true

@@ -66,6 +66,11 @@ pub record IsUsed (text : List ℕ) (tokens : List Token) (spans : List Span) (m
   pub marked : is_marked marks by ≡ true
   pub uses : Uses text tokens spans by assigned
 
+-- no marked statement from one token up to before another does
+abbrev pub IsUnusedBetween : List ℕ → List Token → List Span → List Bool → ℕ → ℕ → ℕ → Type 0
+IsUnusedBetween text tokens spans marks from to assigned =
+    (k : ℕ) → from ≤ k → k < to → is_marked marks k ≡ true → Uses text tokens spans k assigned → ⊥
+
 -- marks for all tokens, of which those of needed statements are set
 pub record AreNeeded (text : List ℕ) (tokens : List Token) (spans : List Span) (marks : List Bool) : Type 0 where
   pub count : length marks ≡ length tokens

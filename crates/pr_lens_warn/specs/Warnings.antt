@@ -1,12 +1,16 @@
 -- What is pointed out in a program, token by token.
-use Rattle.std.specs.Prelude.{ℕ, ◌≡◌, ◌+◌, ◌-◌, ◌&&◌, Bool, not, List, Option, None, Some, length, option_map, filter_map, if◌then◌else◌}
+use Rattle.std.specs.Prelude.{ℕ, ◌≡◌, ◌+◌, ◌-◌, ◌&&◌, Bool, not, List, Option, None, Some, length, option_map, filter_map, slice_index_or, if◌then◌else◌}
 use Rattle.std.specs.List.{range_with_len}
 use Rattle.pr_lang.specs.declared.tokens.Token.{Token}
 use Rattle.pr_lens_source.specs.declared.sources.Span.{Span}
+use Rattle.pr_lens_extents.specs.declared.verdicts.Verdict.{Verdict}
+use Rattle.pr_lens_extents.specs.declared.verdicts.Verdict.TheVariants.{Unseen}
 use Rattle.pr_lens_warn.specs.declared.remarks.Remark.{Remark}
 use Rattle.pr_lens_warn.specs.declared.remarks.Remark.TheVariants.{Unneeded}
 use Rattle.pr_lens_warn.specs.declared.remarks.Warning.{Warning}
 use Rattle.pr_lens_warn.specs.Constants.{constant_at, is_difference, is_signed_token, negative_of, wrapping_of}
+use Rattle.pr_lens_warn.specs.Comparisons.{by_tokens, settled}
+use Rattle.pr_lens_warn.specs.Shifts.{amount_remark, is_amount}
 use Rattle.pr_lens_warn.specs.Needs.{AreNeeded, is_assigned, is_marked}
 
 -- a remark on the tokens from one up to another, this one included
@@ -26,15 +30,27 @@ difference_warning text tokens spans at =
 abbrev pub name_warning : List Token → List Bool → ℕ → Option Warning
 name_warning tokens needed at = if is_assigned tokens at && not (is_marked needed at) then Some (warning at at Unneeded) else None
 
--- where these are the marks of needed statements
-unfoldable pub warning_at : List ℕ → List Token → List Span → List Bool → ℕ → Option Warning
-warning_at text tokens spans needed at =
+-- on a comparison, by its sign
+abbrev pub comparison_warning : List Verdict → ℕ → Option Warning
+comparison_warning verdicts at = option_map (warning at at) (settled (slice_index_or verdicts at Unseen))
+
+-- on a name that a shift has for its amount
+abbrev pub amount_warning : List ℕ → List Token → List Span → ℕ → Option Warning
+amount_warning text tokens spans at = option_map (warning at at) (amount_remark text tokens spans at)
+
+abbrev pub last_warning : List Token → List Bool → List Verdict → ℕ → Option Warning
+last_warning tokens needed verdicts at = if is_assigned tokens at then name_warning tokens needed at else comparison_warning verdicts at
+
+-- where these are the marks of needed statements, and the verdicts by tokens
+unfoldable pub warning_at : List ℕ → List Token → List Span → List Bool → List Verdict → ℕ → Option Warning
+warning_at text tokens spans needed verdicts at =
     if is_signed_token text tokens at then signed_warning text tokens spans at
     else if is_difference tokens at then difference_warning text tokens spans at
-    else name_warning tokens needed at
+    else if is_amount tokens at then amount_warning text tokens spans at
+    else last_warning tokens needed verdicts at
 
 -- in the order of the text
-pub record AreWarnings (text : List ℕ) (tokens : List Token) (spans : List Span) (warnings : List Warning) : Type 0 where
+pub record AreWarnings (text : List ℕ) (tokens : List Token) (spans : List Span) (verdicts : List Verdict) (warnings : List Warning) : Type 0 where
   pub needed : List Bool
   pub are_needed : AreNeeded text tokens spans needed
-  pub is : warnings ≡ filter_map (warning_at text tokens spans needed) (range_with_len 0 (length tokens))
+  pub is : warnings ≡ filter_map (warning_at text tokens spans needed (by_tokens tokens verdicts)) (range_with_len 0 (length tokens))

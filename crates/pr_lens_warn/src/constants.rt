@@ -15,7 +15,7 @@ use pr_lang::Kind;
 use pr_lens_source::{Source, introduced_before};
 
 /// A number that a semicolon follows.
-fn sole_number(kind: Kind, behind: Kind) -> Option<u64>
+pub fn sole_number(kind: Kind, behind: Kind) -> Option<u64>
     ensures { result ≡ sole_number kind behind }
 {
     match kind {

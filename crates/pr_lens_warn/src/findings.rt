@@ -3,6 +3,7 @@
 ghost use Rattle.std.specs.Prelude.{◌≡◌, ◌≤◌, OnOk, length};
 ghost use Rattle.pr_lens_warn.specs.Findings.{AreTold, IsTold, WarnsOf};
 
+use crate::comparisons::verdicts_in;
 use crate::remarks::Warning;
 use crate::telling::{code_of, heading_of, put_message};
 use crate::warnings::warnings_of;
@@ -73,6 +74,7 @@ pub fn put_warnings(
         tokens: &found,
         spans: &spans,
     };
-    let warnings = warnings_of(alloc, &source)?;
+    let verdicts = verdicts_in(alloc, text, &found)?;
+    let warnings = warnings_of(alloc, &source, &verdicts)?;
     put_all(alloc, told, json, name, &source, &warnings)
 }

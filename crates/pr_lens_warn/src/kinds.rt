@@ -3,7 +3,7 @@
 ghost use Rattle.std.specs.Prelude.{◌≡◌};
 ghost use Rattle.pr_lens_source.specs.Introduced.{is_fn, is_name, is_open_round};
 ghost use Rattle.pr_lens_source.specs.Items.{is_semi};
-ghost use Rattle.pr_lens_warn.specs.Kinds.{assigns, begins_behind, begins_sum, binds_closer, is_close_round, is_const, is_minus, yields};
+ghost use Rattle.pr_lens_warn.specs.Kinds.{assigns, begins_behind, begins_sum, binds_closer, goes_on, is_close_round, is_comparison, is_const, is_let, is_minus, is_shift, yields};
 
 use pr_lang::{Keyword, Kind, Symbol};
 
@@ -100,6 +100,49 @@ pub fn begins_sum(kind: Kind) -> bool
             _ => false,
         },
         Kind::Mark(symbol) => begins_behind(symbol),
+        _ => false,
+    }
+}
+
+pub fn is_let(kind: Kind) -> bool
+    ensures { result ≡ is_let kind }
+{
+    matches!(kind, Kind::Word(Keyword::Let))
+}
+
+pub fn is_shift(kind: Kind) -> bool
+    ensures { result ≡ is_shift kind }
+{
+    matches!(
+        kind,
+        Kind::Mark(Symbol::ShiftLeft) | Kind::Mark(Symbol::ShiftRight)
+    )
+}
+
+/// Whether a name before this token is not the whole of an operand of a shift.
+pub fn goes_on(kind: Kind) -> bool
+    ensures { result ≡ goes_on kind }
+{
+    match kind {
+        Kind::Mark(symbol) => match symbol {
+            Symbol::Plus | Symbol::Minus | Symbol::Star | Symbol::At => true,
+            Symbol::OpenRound | Symbol::OpenSquare | Symbol::OpenCurly => true,
+            _ => false,
+        },
+        _ => false,
+    }
+}
+
+/// Whether this token is the sign of a comparison.
+pub fn is_comparison(kind: Kind) -> bool
+    ensures { result ≡ is_comparison kind }
+{
+    match kind {
+        Kind::Mark(symbol) => match symbol {
+            Symbol::Equal | Symbol::NotEqual => true,
+            Symbol::Less | Symbol::LessEqual | Symbol::Greater | Symbol::GreaterEqual => true,
+            _ => false,
+        },
         _ => false,
     }
 }

@@ -1,13 +1,16 @@
 //! What a careful reader points out in a program that is accepted all the same.
 //!
-//! What is pointed out is decided on the tokens of the text and its names.
+//! What is pointed out is decided on the tokens of the text and its names, and of comparisons by what `pr_lens_extents`
+//! knows of their sides.
 #![tactic(auto)]
 
+mod comparisons;
 mod constants;
 mod findings;
 mod kinds;
 mod needs;
 mod remarks;
+mod shifts;
 mod telling;
 mod warnings;
 

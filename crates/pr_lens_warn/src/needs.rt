@@ -4,7 +4,7 @@ ghost use Rattle.std.specs.Prelude.{◌≡◌, ◌+◌, ◌<◌, ◌≤◌, ℕ,
 ghost use Rattle.pr_lens_source.specs.Introduced.{is_same_name};
 ghost use Rattle.pr_lens_source.specs.Ranges.{one_where};
 ghost use Rattle.pr_lens_warn.specs.Kinds.{yields};
-ghost use Rattle.pr_lens_warn.specs.Needs.{AreNeeded, AreSettled, AreSound, IsSettled, IsUsed, Uses, is_assigned, is_marked, is_use, scope_of, unmarked};
+ghost use Rattle.pr_lens_warn.specs.Needs.{AreNeeded, AreSettled, AreSound, IsSettled, IsUnusedBetween, IsUsed, Uses, is_assigned, is_marked, is_use, scope_of, unmarked};
 
 use crate::kinds::{assigns, is_fn, is_name, is_semi, yields};
 use pr_lang::Token;
@@ -66,20 +66,36 @@ fn uses(source: &Source, statement: usize, assigned: usize) -> bool
     false
 }
 
-/// Whether a marked statement uses the name that is assigned at a token.
-fn is_used(source: &Source, marks: &[bool], assigned: usize) -> bool
-    requires { length marks.now ≡ length source.now.tokens.now }
+/// Whether a marked statement from one token up to before another uses the name that is assigned at a token.
+fn is_used_between(source: &Source, marks: &[bool], from: usize, to: usize, assigned: usize) -> bool
+    requires count { length marks.now ≡ length source.now.tokens.now }
+    requires within { to ≤ length marks.now }
     ensures yes { let source = source.now in IsTrue result
         → IsUsed source.text.now source.tokens.now source.spans.now marks.now assigned }
     ensures no { let source = source.now in IsFalse result
-        → IsUsed source.text.now source.tokens.now source.spans.now marks.now assigned → ⊥ }
+        → IsUnusedBetween source.text.now source.tokens.now source.spans.now marks.now from to assigned }
 {
-    for statement in 0..marks.len() {
+    for statement in from..to {
         if marks[statement] && uses(source, statement, assigned) {
             return true;
         }
     }
     false
+}
+
+/// Whether a marked statement uses the name that is assigned at a token. Mostly one does that stands soon behind it, so
+/// these come first.
+#[tactic(auto, using(crate::proofs::NeedLemmas::used_nowhere))]
+fn is_used(source: &Source, marks: &[bool], assigned: usize) -> bool
+    requires count { length marks.now ≡ length source.now.tokens.now }
+    requires within { assigned < length marks.now }
+    ensures yes { let source = source.now in IsTrue result
+        → IsUsed source.text.now source.tokens.now source.spans.now marks.now assigned }
+    ensures no { let source = source.now in IsFalse result
+        → IsUsed source.text.now source.tokens.now source.spans.now marks.now assigned → ⊥ }
+{
+    is_used_between(source, marks, assigned, marks.len(), assigned)
+        || is_used_between(source, marks, 0, assigned, assigned)
 }
 
 /// Whether the name that is assigned at a token is to be marked: it is not, and a marked statement uses it.

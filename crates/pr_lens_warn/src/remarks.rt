@@ -1,5 +1,7 @@
 //! Remarks on a program.
 
+use pr_lens_extents::Extent;
+
 /// What is pointed out.
 #[derive(Clone, Copy, PartialEq, Eq, Debug)]
 pub enum Remark {
@@ -20,6 +22,16 @@ pub enum Remark {
     },
     /// No result needs a name.
     Unneeded,
+    /// The amount of a shift is a stream, and always this number.
+    Amount {
+        number: u64,
+    },
+    /// A comparison gives the same for all values of its sides.
+    Settled {
+        answer: bool,
+        left: Extent,
+        right: Extent,
+    },
 }
 
 /// A remark on a few tokens.

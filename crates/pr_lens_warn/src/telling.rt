@@ -1,9 +1,10 @@
 //! What is told of a warning.
 
 ghost use Rattle.std.specs.Prelude.{◌≡◌, ◌++◌, OnOk};
-ghost use Rattle.pr_lens_warn.specs.Texts.{code_of, heading_of, message_of, minus_text, unneeded_text, sign_text, unsigned_text, wrap_text};
+ghost use Rattle.pr_lens_warn.specs.Texts.{amount_text, answer_text, code_of, heading_of, message_of, minus_text, settled_text, side_text, sides_text, unneeded_text, sign_text, unsigned_text, wrap_text};
 
 use crate::remarks::{Remark, Warning};
+use pr_lens_extents::Extent;
 use pr_lens_rules::put_quoted;
 use pr_lens_source::Source;
 use pr_lens_text::{put, put_counted};
@@ -17,6 +18,8 @@ pub fn code_of(remark: &Remark) -> &'static [u8]
         Remark::Negative { .. } => b"signed-constant",
         Remark::Wrapping { .. } => b"wrapping-difference",
         Remark::Unneeded => b"unneeded",
+        Remark::Amount { .. } => b"constant-shift",
+        Remark::Settled { .. } => b"constant-comparison",
     }
 }
 
@@ -28,6 +31,8 @@ pub fn heading_of(remark: &Remark) -> &'static [u8]
         Remark::Negative { .. } => b"warning: signed-constant\n",
         Remark::Wrapping { .. } => b"warning: wrapping-difference\n",
         Remark::Unneeded => b"warning: unneeded\n",
+        Remark::Amount { .. } => b"warning: constant-shift\n",
+        Remark::Settled { .. } => b"warning: constant-comparison\n",
     }
 }
 
@@ -94,6 +99,87 @@ fn put_unneeded(message: &mut Vec<u8>, source: &Source, token: usize) -> Result<
     )
 }
 
+/// Tells that a shift's amount is one number.
+#[tactic(auto, unfolding(crate::specs::Texts::amount_text))]
+fn put_amount(
+    message: &mut Vec<u8>,
+    source: &Source,
+    token: usize,
+    number: u64,
+) -> Result<(), AllocError>
+    ensures { OnOk result (message.new.items
+        ≡ message.old.items ++ amount_text source.now.text.now source.now.tokens.now token number) }
+{
+    put(
+        message,
+        "A shift by a stream takes more units than one by a constant, and ",
+    )?;
+    put_quoted(message, source, token)?;
+    put_counted(message, " is always ", number as usize)?;
+    put(
+        message,
+        ".\nWrite `const` in place of `let` where it is introduced.\n",
+    )
+}
+
+/// Tells what one side of a comparison is.
+fn put_side(message: &mut Vec<u8>, side: Extent) -> Result<(), AllocError>
+    ensures { OnOk result (message.new.items ≡ message.old.items ++ side_text side) }
+{
+    match side.number {
+        Some(number) => put_counted(message, "the number ", number as usize),
+        None => {
+            let width = usize::from(side.form.width);
+            if side.form.signed {
+                return put_counted(message, "a signed stream of width ", width);
+            }
+            put_counted(message, "an unsigned stream of width ", width)
+        }
+    }
+}
+
+fn put_answer(message: &mut Vec<u8>, answer: bool) -> Result<(), AllocError>
+    ensures { OnOk result (message.new.items ≡ message.old.items ++ answer_text answer) }
+{
+    if answer {
+        return put(message, "This is always 1: on the left is ");
+    }
+    put(message, "This is always 0: on the left is ")
+}
+
+/// Tells what a comparison gives, and of what.
+#[tactic(auto, unfolding(crate::specs::Texts::sides_text))]
+fn put_sides(
+    message: &mut Vec<u8>,
+    answer: bool,
+    left: Extent,
+    right: Extent,
+) -> Result<(), AllocError>
+    ensures { OnOk result (message.new.items ≡ message.old.items ++ sides_text answer left right) }
+{
+    put_answer(message, answer)?;
+    put_side(message, left)?;
+    put(message, ", and on the right ")?;
+    put_side(message, right)
+}
+
+/// Tells that a comparison gives the same for all values.
+#[tactic(auto, unfolding(crate::specs::Texts::settled_text))]
+fn put_settled(
+    message: &mut Vec<u8>,
+    answer: bool,
+    left: Extent,
+    right: Extent,
+) -> Result<(), AllocError>
+    ensures { OnOk result (message.new.items ≡ message.old.items ++ settled_text answer left right) }
+{
+    put_sides(message, answer, left, right)?;
+    put(
+        message,
+        ".\nCompare with a number in reach, or take the comparison out. `signed(s)` reads the highest bit of `s` as its sign.\n",
+    )
+}
+
 /// Tells what is wrong, and what to do.
 pub fn put_message(
     message: &mut Vec<u8>,
@@ -117,5 +203,11 @@ pub fn put_message(
             put_minus(message, by)
         }
         Remark::Unneeded => put_unneeded(message, source, warning.first),
+        Remark::Amount { number } => put_amount(message, source, warning.first, number),
+        Remark::Settled {
+            answer,
+            left,
+            right,
+        } => put_settled(message, answer, left, right),
     }
 }

@@ -2,11 +2,14 @@
 
 ghost use Rattle.std.specs.Prelude.{◌≡◌, ◌<◌, IfOk, filter_map, length};
 ghost use Rattle.std.specs.List.{range_with_len};
-ghost use Rattle.pr_lens_warn.specs.Warnings.{AreWarnings, difference_warning, name_warning, signed_warning, warning_at};
+ghost use Rattle.pr_lens_warn.specs.Warnings.{AreWarnings, amount_warning, comparison_warning, difference_warning, last_warning, name_warning, signed_warning, warning_at};
 
+use crate::comparisons::{by_tokens, settled};
 use crate::constants::{constant_at, is_difference, is_signed_token, negative_of, wrapping_of};
 use crate::needs::{is_assigned, needed};
 use crate::remarks::{Remark, Warning};
+use crate::shifts::{amount_remark, is_amount};
+use pr_lens_extents::Verdict;
 use pr_lens_source::Source;
 use std::alloc::{AllocError, Global};
 
@@ -53,13 +56,57 @@ fn name_warning(source: &Source, needed: &[bool], at: usize) -> Option<Warning>
     })
 }
 
+/// The warning at a name that a shift has for its amount.
+fn amount_warning(source: &Source, at: usize) -> Option<Warning>
+    requires { at < length source.now.tokens.now }
+    ensures { result ≡ amount_warning source.now.text.now source.now.tokens.now source.now.spans.now at }
+{
+    let remark = amount_remark(source, at)?;
+    Some(Warning {
+        remark,
+        first: at,
+        last: at,
+    })
+}
+
+/// The warning at a token that is the sign of a comparison with this verdict.
+fn comparison_warning(verdicts: &[Verdict], at: usize) -> Option<Warning>
+    requires { at < length verdicts.now }
+    ensures { result ≡ comparison_warning verdicts.now at }
+{
+    let remark = settled(verdicts[at])?;
+    Some(Warning {
+        remark,
+        first: at,
+        last: at,
+    })
+}
+
+/// The warning at a name that is assigned, or at the sign of a comparison.
+fn last_warning(
+    source: &Source,
+    needed: &[bool],
+    verdicts: &[Verdict],
+    at: usize,
+) -> Option<Warning>
+    requires mark { at < length needed.now }
+    requires verdict { at < length verdicts.now }
+    ensures { result ≡ last_warning source.now.tokens.now needed.now verdicts.now at }
+{
+    if is_assigned(source, at) {
+        return name_warning(source, needed, at);
+    }
+    comparison_warning(verdicts, at)
+}
+
 /// The warning at a token.
 #[tactic(auto, unfolding(crate::specs::Warnings::warning_at))]
-fn warning_at(source: &Source, needed: &[bool], at: usize) -> Option<Warning>
+fn warning_at(source: &Source, needed: &[bool], verdicts: &[Verdict], at: usize) -> Option<Warning>
     requires token { at < length source.now.tokens.now }
     requires mark { at < length needed.now }
+    requires verdict { at < length verdicts.now }
     ensures { result
-        ≡ warning_at source.now.text.now source.now.tokens.now source.now.spans.now needed.now at }
+        ≡ warning_at source.now.text.now source.now.tokens.now source.now.spans.now needed.now verdicts.now at }
 {
     if is_signed_token(source, at) {
         return signed_warning(source, at);
@@ -67,19 +114,28 @@ fn warning_at(source: &Source, needed: &[bool], at: usize) -> Option<Warning>
     if is_difference(source, at) {
         return difference_warning(source, at);
     }
-    name_warning(source, needed, at)
+    if is_amount(source, at) {
+        return amount_warning(source, at);
+    }
+    last_warning(source, needed, verdicts, at)
 }
 
-/// The warnings at all tokens, where these marks are those of needed statements.
-fn warnings_by(alloc: Global, source: &Source, needed: &[bool]) -> Result<Vec<Warning>, AllocError>
-    requires { length needed.now ≡ length source.now.tokens.now }
+/// The warnings at all tokens, where these marks are those of needed statements, and these verdicts stand by tokens.
+fn warnings_by(
+    alloc: Global,
+    source: &Source,
+    needed: &[bool],
+    verdicts: &[Verdict],
+) -> Result<Vec<Warning>, AllocError>
+    requires marks { length needed.now ≡ length source.now.tokens.now }
+    requires verdicts { length verdicts.now ≡ length source.now.tokens.now }
     ensures { let source = source.now in IfOk result (λ found. found.items ≡ filter_map
-        (warning_at source.text.now source.tokens.now source.spans.now needed.now)
+        (warning_at source.text.now source.tokens.now source.spans.now needed.now verdicts.now)
         (range_with_len 0 (length source.tokens.now))) }
 {
     let mut found = Vec::new(alloc);
     for at in 0..needed.len() {
-        if let Some(warning) = warning_at(source, needed, at) {
+        if let Some(warning) = warning_at(source, needed, verdicts, at) {
             found.push(warning)?;
         }
     }
@@ -87,11 +143,17 @@ fn warnings_by(alloc: Global, source: &Source, needed: &[bool]) -> Result<Vec<Wa
 }
 
 /// What is pointed out in a program, in the order of its text: `signed` of a constant whose highest bit is 1, a
-/// difference of constants that wraps around, and a name that no result needs.
-pub fn warnings_of(alloc: Global, source: &Source) -> Result<Vec<Warning>, AllocError>
+/// difference of constants that wraps around, a name that no result needs, a shift by a stream that is one number, and a comparison whose verdict is that it gives
+/// always the same. The verdicts are those on the comparisons of the text, one after the other.
+pub fn warnings_of(
+    alloc: Global,
+    source: &Source,
+    verdicts: &[Verdict],
+) -> Result<Vec<Warning>, AllocError>
     ensures { let source = source.now in IfOk result (λ found.
-        AreWarnings source.text.now source.tokens.now source.spans.now found.items) }
+        AreWarnings source.text.now source.tokens.now source.spans.now verdicts.now found.items) }
 {
     let needed = needed(alloc, source)?;
-    warnings_by(alloc, source, &needed)
+    let by_tokens = by_tokens(alloc, source.tokens, verdicts)?;
+    warnings_by(alloc, source, &needed, &by_tokens)
 }

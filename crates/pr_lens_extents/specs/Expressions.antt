@@ -1,0 +1,90 @@
+-- What is known of expressions, and of the comparisons in them in the order of the text.
+use Rattle.std.specs.Prelude.{ℕ, Bool, true, false, List, [], ◌∷◌, ◌++◌, Option, Some, None, bytes_eq, codes, if◌then◌else◌}
+use Rattle.pr_lang.specs.declared.trees.BinOp.{BinOp}
+use Rattle.pr_lang.specs.declared.trees.BinOp.TheVariants.{Equal, NotEqual, Less, LessEqual, Greater, GreaterEqual}
+use Rattle.pr_lang.specs.declared.trees.Expr.{Expr}
+use Rattle.pr_lang.specs.declared.trees.Expr.TheOpen.{Expr-F}
+use Rattle.pr_lang.specs.declared.trees.Expr.TheFolds.{fold-Expr}
+use Rattle.pr_lens_extents.specs.declared.extents.Extent.{Extent}
+use Rattle.pr_lens_extents.specs.declared.verdicts.Verdict.{Verdict}
+use Rattle.pr_lens_extents.specs.declared.verdicts.Verdict.TheVariants.{Unseen}
+use Rattle.pr_lens_extents.specs.Extents.{constant, binary_of, choice_of, not_of, signed_of, slice_of, stream_of, width_beside, width_of}
+use Rattle.pr_lens_extents.specs.Verdicts.{verdict_on}
+use Rattle.pr_lens_extents.specs.Scenes.{Seen, fixed_value, known_of_target}
+
+abbrev pub compares : BinOp → Bool
+compares Equal = true
+compares NotEqual = true
+compares Less = true
+compares LessEqual = true
+compares Greater = true
+compares GreaterEqual = true
+compares o = false
+
+-- what is known of an expression, and the verdicts on its comparisons; they are not looked at where nothing is seen
+pub record Reading : Type 0 where
+  pub extent : Seen → Option Extent
+  pub verdicts : Option Seen → List Verdict
+
+abbrev pub judged : BinOp → Reading → Reading → Option Seen → Verdict
+judged o a b None = Unseen
+judged o a b (Some seen) = verdict_on o (a.extent seen) (b.extent seen)
+
+-- the sign of a comparison stands between its operands
+abbrev pub own_verdict : BinOp → Reading → Reading → Option Seen → List Verdict
+own_verdict o a b seen = if compares o then judged o a b seen ∷ [] else []
+
+abbrev pub all_verdicts : List Reading → Option Seen → List Verdict
+all_verdicts [] seen = []
+all_verdicts (r ∷ rs) seen = r.verdicts seen ++ all_verdicts rs seen
+
+abbrev pub verdicts_step : Expr-F Reading → Option Seen → List Verdict
+verdicts_step (Expr-F.Slice e high low) seen = e.value.verdicts seen
+verdicts_step (Expr-F.Not e) seen = e.value.verdicts seen
+verdicts_step (Expr-F.Binary o a b) seen = (a.value.verdicts seen ++ own_verdict o a.value b.value seen) ++ b.value.verdicts seen
+verdicts_step (Expr-F.Choose c a b) seen = (c.value.verdicts seen ++ a.value.verdicts seen) ++ b.value.verdicts seen
+verdicts_step (Expr-F.Call name args) seen = all_verdicts args.items seen
+verdicts_step (Expr-F.Cat parts) seen = all_verdicts parts.items seen
+verdicts_step (Expr-F.Paren e) seen = e.value.verdicts seen
+verdicts_step _ seen = []
+
+-- ---- extents
+-- the width of parts beside one another, and of what stands above them
+abbrev pub widths_beside : Option ℕ → List Reading → Seen → Option ℕ
+widths_beside width [] seen = width
+widths_beside width (r ∷ rs) seen = widths_beside (width_beside width (r.extent seen)) rs seen
+
+abbrev pub concatenated : List Reading → Seen → Option Extent
+concatenated rs seen = width_of (widths_beside (Some 0) rs seen)
+
+abbrev pub is_signed : List ℕ → Bool
+is_signed name = bytes_eq name (codes "signed")
+
+-- of the functions only `signed` is looked at
+abbrev pub called : List ℕ → List Reading → Seen → Option Extent
+called name (r ∷ []) seen = if is_signed name then signed_of (r.extent seen) else None
+called name _ seen = None
+
+abbrev pub extent_step : Expr-F Reading → Seen → Option Extent
+extent_step (Expr-F.Number n) seen = Some (constant n)
+extent_step (Expr-F.Refer r) seen = known_of_target r seen
+extent_step (Expr-F.Delay r k) seen = stream_of (known_of_target r seen)
+extent_step (Expr-F.Slice e high low) seen = slice_of (fixed_value high seen) (fixed_value low seen)
+extent_step (Expr-F.Not e) seen = not_of (e.value.extent seen)
+extent_step (Expr-F.Binary o a b) seen = binary_of o (a.value.extent seen) (b.value.extent seen)
+extent_step (Expr-F.Choose c a b) seen = choice_of (a.value.extent seen) (b.value.extent seen)
+extent_step (Expr-F.Call name args) seen = called name args.items seen
+extent_step (Expr-F.Cat parts) seen = concatenated parts.items seen
+extent_step (Expr-F.Paren e) seen = e.value.extent seen
+
+abbrev pub reading_step : Expr-F Reading → Reading
+reading_step e = record { extent = extent_step e; verdicts = verdicts_step e }
+
+abbrev pub reading_of : Expr → Reading
+reading_of = fold-Expr Reading reading_step
+
+abbrev pub extent_of : Expr → Seen → Option Extent
+extent_of e seen = (reading_of e).extent seen
+
+abbrev pub verdicts_of : Expr → Option Seen → List Verdict
+verdicts_of e seen = (reading_of e).verdicts seen

@@ -1,0 +1,143 @@
+//! What is known of expressions, and of the comparisons in them.
+
+ghost use Rattle.std.specs.Prelude.{◌≡◌, ◌++◌, map, option_map, OnOk};
+ghost use Rattle.pr_lens_extents.specs.Expressions.{all_verdicts, called, compares, concatenated, extent_of, is_signed, judged, reading_of, verdicts_of};
+ghost use Rattle.pr_lens_extents.specs.Scenes.{seen_in};
+
+use crate::extents::{
+    Extent, binary_of, choice_of, constant, not_of, signed_of, slice_of, stream_of, width_beside,
+    width_of,
+};
+use crate::scenes::{Scene, fixed_value, known_of};
+use crate::verdicts::{Verdict, verdict_on};
+use pr_lang::{BinOp, Expr, Name};
+use std::alloc::AllocError;
+
+fn compares(op: BinOp) -> bool
+    ensures { result ≡ compares op }
+{
+    match op {
+        BinOp::Equal | BinOp::NotEqual => true,
+        BinOp::Less | BinOp::LessEqual => true,
+        BinOp::Greater | BinOp::GreaterEqual => true,
+        _ => false,
+    }
+}
+
+fn is_signed(name: &Name) -> bool
+    ensures { result ≡ is_signed name.now }
+{
+    name.as_bytes() == b"signed".as_slice()
+}
+
+/// What is known of an expression.
+#[cycle(extent)]
+pub fn extent_of(scene: &Scene, value: &Expr) -> Option<Extent>
+    ensures { result ≡ extent_of value.now (seen_in scene.now) }
+{
+    match value {
+        Expr::Number(number) => Some(constant(*number)),
+        Expr::Refer(target) => known_of(scene, target),
+        Expr::Delay(target, _) => stream_of(known_of(scene, target)),
+        Expr::Slice(_, high, low) => slice_of(fixed_value(scene, high), fixed_value(scene, low)),
+        Expr::Not(inner) => not_of(extent_of(scene, inner)),
+        Expr::Binary(op, left, right) => {
+            let one = extent_of(scene, left);
+            let other = extent_of(scene, right);
+            binary_of(*op, one, other)
+        }
+        Expr::Choose(_, one, other) => {
+            let one = extent_of(scene, one);
+            let other = extent_of(scene, other);
+            choice_of(one, other)
+        }
+        Expr::Call(name, args) => called(scene, name, args),
+        Expr::Cat(parts) => concatenated(scene, parts),
+        Expr::Paren(inner) => extent_of(scene, inner),
+    }
+}
+
+/// What is known of a call: of the functions only `signed` is looked at.
+#[cycle(extent)]
+fn called(scene: &Scene, name: &Name, args: &[Expr]) -> Option<Extent>
+    ensures { result ≡ called name.now (map reading_of args.now) (seen_in scene.now) }
+{
+    match args {
+        [arg] => {
+            if is_signed(name) {
+                return signed_of(extent_of(scene, arg));
+            }
+            None
+        }
+        _ => None,
+    }
+}
+
+/// What is known of parts beside one another.
+#[cycle(extent)]
+fn concatenated(scene: &Scene, parts: &[Expr]) -> Option<Extent>
+    ensures { result ≡ concatenated (map reading_of parts.now) (seen_in scene.now) }
+{
+    let mut width = Some(0);
+    for part in parts {
+        width = width_beside(width, extent_of(scene, part));
+    }
+    width_of(width)
+}
+
+/// What is known of a comparison.
+fn judged(scene: Option<&Scene>, op: BinOp, left: &Expr, right: &Expr) -> Verdict
+    ensures { result ≡ judged op (reading_of left.now) (reading_of right.now) (option_map (λ s. seen_in s.now) scene.entry) }
+{
+    match scene {
+        None => Verdict::Unseen,
+        Some(scene) => verdict_on(op, extent_of(scene, left), extent_of(scene, right)),
+    }
+}
+
+/// Adds the verdicts on the comparisons of an expression.
+#[cycle(verdicts)]
+pub fn put_verdicts(
+    verdicts: &mut Vec<Verdict>,
+    scene: Option<&Scene>,
+    value: &Expr,
+) -> Result<(), AllocError>
+    ensures { OnOk result (verdicts.new.items ≡ verdicts.old.items ++ verdicts_of value.now (option_map (λ s. seen_in s.now) scene.entry)) }
+{
+    match value {
+        Expr::Number(_) | Expr::Refer(_) | Expr::Delay(_, _) => Ok(()),
+        Expr::Slice(inner, _, _) => put_verdicts(verdicts, scene, inner),
+        Expr::Not(inner) => put_verdicts(verdicts, scene, inner),
+        Expr::Binary(op, left, right) => {
+            put_verdicts(verdicts, scene, left)?;
+            if compares(*op) {
+                verdicts.push(judged(scene, *op, left, right))?;
+            }
+            put_verdicts(verdicts, scene, right)
+        }
+        Expr::Choose(condition, one, other) => {
+            put_verdicts(verdicts, scene, condition)?;
+            put_verdicts(verdicts, scene, one)?;
+            put_verdicts(verdicts, scene, other)
+        }
+        Expr::Call(_, args) => put_all(verdicts, scene, args),
+        Expr::Cat(parts) => put_all(verdicts, scene, parts),
+        Expr::Paren(inner) => put_verdicts(verdicts, scene, inner),
+    }
+}
+
+/// Adds the verdicts on the comparisons of expressions, one after the other.
+#[cycle(verdicts)]
+fn put_all(
+    verdicts: &mut Vec<Verdict>,
+    scene: Option<&Scene>,
+    parts: &[Expr],
+) -> Result<(), AllocError>
+    ensures { OnOk result (verdicts.new.items
+        ≡ verdicts.old.items ++ all_verdicts (map reading_of parts.now) (option_map (λ s. seen_in s.now) scene.entry)) }
+{
+    for part in parts {
+        put_verdicts(verdicts, scene, part)?;
+    }
+    Ok(())
+}
