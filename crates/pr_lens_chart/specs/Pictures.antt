@@ -1,10 +1,10 @@
 -- The text of a picture. Numbers are as far as 64 bits count.
-use Rattle.std.specs.Prelude.{ℕ, zero, suc, ◌+◌, ◌*◌, ◌/◌, ◌%◌, min, max, Bool, true, false, not, ◌&&◌, is_some, List, [], ◌∷◌, ◌++◌, length, take, replicate, Option, Some, None, codes, decimal, if◌then◌else◌}
+use Rattle.std.specs.Prelude.{ℕ, zero, suc, ◌+◌, ◌-◌, ◌==◌, ◌*◌, ◌/◌, ◌%◌, min, max, Bool, true, false, not, ◌&&◌, is_some, List, [], ◌∷◌, ◌++◌, length, take, replicate, Option, Some, None, codes, decimal, if◌then◌else◌}
 use Rattle.pr_conf.specs.declared.turns.Turn.{Turn}
 use Rattle.pr_lens_chart.specs.declared.pieces.Area.{Area}
 use Rattle.pr_lens_log.specs.declared.lines.Logged.{Logged}
 use Rattle.pr_lens_log.specs.Boards.{after_turn, stage_in}
-use Rattle.pr_lens_chart.specs.Charts.{area_text, words_text}
+use Rattle.pr_lens_chart.specs.Charts.{area_text, begin_text, words_text}
 use Rattle.pr_lens_log.specs.Lines.{is_into}
 
 abbrev pub counted : ℕ → ℕ
@@ -107,9 +107,17 @@ style_text =
     ++ codes ".s { font-size: 9px; fill: #222 }\n</style>\n"
     ++ codes "<rect width=\"100%\" height=\"100%\" fill=\"#fff\"/>\n"
 
-unfoldable pub picture_head : ℕ → ℕ → List ℕ
-picture_head cycles stripes =
-    svg_text (max (behind 100 30 cycles) 660) (lower (below stripes) 130) ++ style_text ++ words_text (codes "t") 8 32 (codes "cycle")
+-- how high the colours of so many stages are: 16 in a row
+abbrev pub legend_height : ℕ → ℕ
+legend_height stages = counted (max (counted (stages + 15) / 16) 1 * 24)
+
+-- and the line that says how many cycles are left out
+abbrev pub left_height : ℕ → ℕ
+left_height left = if left == 0 then 0 else 18
+
+unfoldable pub picture_head : ℕ → ℕ → ℕ → ℕ → List ℕ
+picture_head cycles stripes stages left =
+    svg_text (max (behind 100 30 cycles) 660) (lower (lower (lower (below stripes) (legend_height stages)) 106) (left_height left)) ++ style_text ++ words_text (codes "t") 8 32 (codes "cycle")
 
 unfoldable pub stripe_name : ℕ → List ℕ
 stripe_name stripe =
@@ -127,8 +135,8 @@ row_names stripes =
 
 unfoldable pub stage_key : ℕ → ℕ → ℕ → List ℕ
 stage_key stages y stage =
-    area_text (record { x = column_at stage; y = y; width = 24; height = 18 }) ++ fill_text stage stages true
-    ++ words_text (codes "n") (counted (column_at stage + 12)) (lower y 13) (decimal stage)
+    area_text (record { x = column_at (stage % 16); y = behind y 24 (stage / 16); width = 24; height = 18 }) ++ fill_text stage stages true
+    ++ words_text (codes "n") (counted (column_at (stage % 16) + 12)) (lower (behind y 24 (stage / 16)) 13) (decimal stage)
 
 -- the first so many stages
 unfoldable pub stage_keys : ℕ → ℕ → ℕ → List ℕ
@@ -140,17 +148,26 @@ legend_words y =
     words_text (codes "t") 8 y (codes "dark: the stage comes into the stripe; pale: it computes; a black corner: the state of the stage")
     ++ words_text (codes "t") 8 (lower y 18) (codes "before is saved; grey: the cycle is stalled, and nothing moves")
 
-unfoldable pub legend_text : ℕ → ℕ → List ℕ
-legend_text stages y =
-    words_text (codes "t") 8 (lower y 13) (codes "stage") ++ stage_keys (min stages 16) stages y ++ legend_words (lower y 38)
+-- how many cycles of so many are left out, where some are
+unfoldable pub left_words : ℕ → ℕ → ℕ → List ℕ
+left_words left cycles y =
+    if left == 0 then []
+    else begin_text (codes "t") 8 y ++ codes "left out: the last " ++ decimal left ++ codes " of " ++ decimal cycles ++ codes " cycles</text>\n"
 
--- the picture of these cycles, the first of a log
-unfoldable pub picture_text : ℕ → ℕ → List Logged → List ℕ
-picture_text stages stripes cycles =
-    picture_head (length cycles) stripes ++ row_names stripes
+-- of a log of so many cycles, of which so many are left out
+unfoldable pub legend_text : ℕ → ℕ → ℕ → ℕ → List ℕ
+legend_text stages cycles left y =
+    words_text (codes "t") 8 (lower y 13) (codes "stage") ++ stage_keys stages stages y
+    ++ legend_words (counted (legend_height stages + lower y 14))
+    ++ left_words left cycles (lower (counted (legend_height stages + lower y 14)) 36)
+
+-- the picture of these cycles, the first of a log of so many
+unfoldable pub picture_text : ℕ → ℕ → ℕ → List Logged → List ℕ
+picture_text stages stripes all cycles =
+    picture_head (length cycles) stripes stages (all - length cycles) ++ row_names stripes
     ++ columns_text stages stripes 0 (replicate stripes None) cycles
-    ++ legend_text stages (lower (below stripes) 56) ++ codes "</svg>\n"
+    ++ legend_text stages all (all - length cycles) (lower (below stripes) 56) ++ codes "</svg>\n"
 
 -- the picture of a log, of 400 cycles at most
 abbrev pub chart_text : ℕ → ℕ → List Logged → List ℕ
-chart_text stages stripes cycles = picture_text stages stripes (take 400 cycles)
+chart_text stages stripes cycles = picture_text stages stripes (length cycles) (take 400 cycles)

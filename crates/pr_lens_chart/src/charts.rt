@@ -22,18 +22,19 @@ fn drawn(cycles: &[Logged]) -> &[Logged]
     }
 }
 
-/// The picture of the first cycles of a log, 400 at most.
+/// The picture of the first cycles of a log, 400 at most. It says how many are left out.
 #[tactic(auto, unfolding(crate::specs::Pictures::picture_text))]
 pub fn chart(alloc: Global, log: &Log) -> Result<Vec<u8>, AllocError>
     ensures { IfOk result (λ text. text.items
         ≡ chart_text log.now.stages log.now.stripes log.now.cycles.items) }
 {
     let cycles = drawn(&log.cycles);
+    let left = log.cycles.len().saturating_sub(cycles.len());
     let mut text = Vec::new(alloc);
-    put_head(&mut text, cycles.len(), log.stripes)?;
+    put_head(&mut text, cycles.len(), log.stripes, log.stages, left)?;
     put_names(&mut text, log.stripes)?;
     put_cycles(alloc, &mut text, log, cycles)?;
-    put_legend(&mut text, log)?;
+    put_legend(&mut text, log, left)?;
     put_end(&mut text)?;
     Ok(text)
 }

@@ -1,10 +1,10 @@
 //! What stands around the cells.
 
-ghost use Rattle.std.specs.Prelude.{◌≡◌, ◌++◌, OnOk, codes};
-ghost use Rattle.pr_lens_chart.specs.Pictures.{below, column_at, legend_text, legend_words, lower, picture_head, row_names, stage_key, stage_keys, stripe_name, stripe_names, style_text, svg_text};
+ghost use Rattle.std.specs.Prelude.{◌≡◌, ◌++◌, OnOk, codes, length};
+ghost use Rattle.pr_lens_chart.specs.Pictures.{below, column_at, left_height, left_words, legend_height, legend_text, legend_words, lower, picture_head, row_names, stage_key, stage_keys, stripe_name, stripe_names, style_text, svg_text};
 
 use crate::colours::put_fill;
-use crate::pieces::{Area, put_area, put_digits, put_words};
+use crate::pieces::{Area, begin_words, put_area, put_digits, put_words};
 use pr_lens_log::Log;
 use pr_lens_text::{put, put_counted};
 use std::alloc::AllocError;
@@ -21,8 +21,11 @@ pub const WIDE: usize = 30;
 /// How high the row of a stripe is.
 pub const HIGH: usize = 26;
 
-/// The stages of a legend at most.
-const MOST_STAGES: usize = 16;
+/// The stages of a row of the legend.
+const ROW: usize = 16;
+
+/// How high a row of the legend is.
+const ROW_HIGH: usize = 24;
 
 /// Where the rows below the stripes begin.
 pub fn below(stripes: usize) -> usize
@@ -72,13 +75,37 @@ fn put_style(text: &mut Vec<u8>) -> Result<(), AllocError>
     )
 }
 
-/// Begins a picture of so many cycles.
+/// How high the colours of so many stages are.
+fn legend_height(stages: usize) -> usize
+    ensures { result ≡ legend_height stages }
+{
+    let rows = stages.saturating_add(ROW - 1) / ROW;
+    rows.max(1).saturating_mul(ROW_HIGH)
+}
+
+/// How high the line is that says how many cycles are left out.
+fn left_height(left: usize) -> usize
+    ensures { result ≡ left_height left }
+{
+    if left == 0 { 0 } else { 18 }
+}
+
+/// Begins a picture of so many cycles, with a legend of so many stages, where so many cycles are left out.
 #[tactic(auto, unfolding(crate::specs::Pictures::picture_head))]
-pub fn put_head(text: &mut Vec<u8>, cycles: usize, stripes: usize) -> Result<(), AllocError>
-    ensures { OnOk result (text.new.items ≡ text.old.items ++ picture_head cycles stripes) }
+pub fn put_head(
+    text: &mut Vec<u8>,
+    cycles: usize,
+    stripes: usize,
+    stages: usize,
+    left: usize,
+) -> Result<(), AllocError>
+    ensures { OnOk result (text.new.items ≡ text.old.items ++ picture_head cycles stripes stages left) }
 {
     let width = cycles.saturating_mul(WIDE).saturating_add(LEFT + 20);
-    let height = below(stripes).saturating_add(130);
+    let height = below(stripes)
+        .saturating_add(legend_height(stages))
+        .saturating_add(106)
+        .saturating_add(left_height(left));
     put_size(text, width.max(660), height)?;
     put_style(text)?;
     put_words(text, "t", 8, TOP - 12, "cycle")
@@ -121,7 +148,8 @@ pub fn put_names(text: &mut Vec<u8>, stripes: usize) -> Result<(), AllocError>
 fn put_stage(text: &mut Vec<u8>, stage: usize, stages: usize, y: usize) -> Result<(), AllocError>
     ensures { OnOk result (text.new.items ≡ text.old.items ++ stage_key stages y stage) }
 {
-    let x = column_at(stage);
+    let x = column_at(stage % ROW);
+    let y = (stage / ROW).saturating_mul(ROW_HIGH).saturating_add(y);
     let area = Area {
         x,
         y,
@@ -165,16 +193,32 @@ fn put_meaning(text: &mut Vec<u8>, y: usize) -> Result<(), AllocError>
     )
 }
 
-/// Adds the legend.
+/// Adds how many cycles of so many are left out, where some are.
+#[tactic(auto, unfolding(crate::specs::Pictures::left_words))]
+fn put_left(text: &mut Vec<u8>, left: usize, cycles: usize, y: usize) -> Result<(), AllocError>
+    ensures { OnOk result (text.new.items ≡ text.old.items ++ left_words left cycles y) }
+{
+    if left == 0 {
+        return Ok(());
+    }
+    begin_words(text, "t", 8, y)?;
+    put_counted(text, "left out: the last ", left)?;
+    put_counted(text, " of ", cycles)?;
+    put(text, " cycles</text>\n")
+}
+
+/// Adds the legend of a picture that leaves so many cycles out.
 #[tactic(auto, unfolding(crate::specs::Pictures::legend_text))]
-pub fn put_legend(text: &mut Vec<u8>, log: &Log) -> Result<(), AllocError>
+pub fn put_legend(text: &mut Vec<u8>, log: &Log, left: usize) -> Result<(), AllocError>
     ensures { OnOk result (text.new.items ≡ text.old.items
-        ++ legend_text log.now.stages (lower (below log.now.stripes) 56)) }
+        ++ legend_text log.now.stages (length log.now.cycles.items) left (lower (below log.now.stripes) 56)) }
 {
     let y = below(log.stripes).saturating_add(56);
     put_words(text, "t", 8, y.saturating_add(13), "stage")?;
-    put_keys(text, log.stages.min(MOST_STAGES), log.stages, y)?;
-    put_meaning(text, y.saturating_add(38))
+    put_keys(text, log.stages, log.stages, y)?;
+    let words = legend_height(log.stages).saturating_add(y.saturating_add(14));
+    put_meaning(text, words)?;
+    put_left(text, left, log.cycles.len(), words.saturating_add(36))
 }
 
 /// Ends the picture.

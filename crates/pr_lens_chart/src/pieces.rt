@@ -40,7 +40,7 @@ pub fn put_area(text: &mut Vec<u8>, area: Area) -> Result<(), AllocError>
 
 /// Begins a text of a class at a place; it is to be ended.
 #[tactic(auto, unfolding(crate::specs::Charts::begin_text))]
-fn begin_words(text: &mut Vec<u8>, class: &str, x: usize, y: usize) -> Result<(), AllocError>
+pub fn begin_words(text: &mut Vec<u8>, class: &str, x: usize, y: usize) -> Result<(), AllocError>
     ensures { OnOk result (text.new.items ≡ text.old.items ++ begin_text class.now x y) }
 {
     put(text, "<text class=\"")?;

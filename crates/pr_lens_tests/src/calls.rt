@@ -6,7 +6,7 @@ use std::alloc::{AllocError, Global};
 use std::process::Abort;
 
 /// The bytes that a call may write here.
-const ROOM: usize = 16_384;
+const ROOM: usize = 32_768;
 
 /// The words of a line as the system gives them.
 fn words_of(alloc: Global, line: &str) -> Result<Vec<String>, AllocError> {

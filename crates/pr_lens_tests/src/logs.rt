@@ -83,6 +83,45 @@ cycle 01 conf - save - in - out -
 ...
 ";
 
+/// Pictures with a legend of two rows, and the places of their last stages.
+const LEGENDS: &str = "\
+$ pipelens chart p
+= 0
+<svg xmlns=\"http://www.w3.org/2000/svg\" width=\"660\" height=\"224\">
+...
+$ pipelens chart p
+= 0
+...<rect x=\"530\" y=\"126\" width=\"24\" height=\"18\" fill=\"hsl(317,70%,80%)\"/>
+<text class=\"n\" x=\"542\" y=\"139\">15</text>
+<rect x=\"80\" y=\"150\" width=\"24\" height=\"18\" fill=\"hsl(338,70%,80%)\"/>
+<text class=\"n\" x=\"92\" y=\"163\">16</text>
+<text class=\"t\" x=\"8\" y=\"188\">dark: ...
+";
+
+#[test]
+fn legends(rt: HostRuntime) -> Result<(), AllocError> {
+    let log = "cycle 0 conf 16@0 save - in - out -\n";
+    check_calls(&rt, rt.alloc(), log, LEGENDS)
+}
+
+/// The end of the picture of 401 cycles.
+const LEFT_OUT: &str = "\
+$ pipelens chart p
+= 0
+...y=\"174\">left out: the last 1 of 401 cycles</text>
+</svg>
+...
+";
+
+#[test]
+fn cycles_left_out(rt: HostRuntime) -> Result<(), AllocError> {
+    let mut log = String::new(rt.alloc());
+    for _ in 0..401 {
+        log.push_str("stall 7\n")?;
+    }
+    check_calls(&rt, rt.alloc(), log.as_str(), LEFT_OUT)
+}
+
 #[test]
 fn logs(rt: HostRuntime) -> Result<(), AllocError> {
     check_calls(&rt, rt.alloc(), LOG, CALLS)

@@ -6,3 +6,6 @@ returns-in_err-put_words c = IfOk-from_err _ _ c.from_residual.ensures.0
 
 pub returns-in_err-put_keys : goal.returns-in_err-put_keys
 returns-in_err-put_keys c = IfOk-from_err _ _ c.from_residual-in_err-put_keys.ensures.0
+
+pub returns-in_err-put_meaning : goal.returns-in_err-put_meaning
+returns-in_err-put_meaning c = IfOk-from_err _ _ c.from_residual-in_err-put_meaning.ensures.0
