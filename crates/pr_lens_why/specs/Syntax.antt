@@ -1,6 +1,7 @@
 -- What is told of a wrong token.
 use Rattle.std.specs.Prelude.{ℕ, ◌==◌, ◌&&◌, ◌||◌, Bool, true, false, not, List, [], ◌∷◌, ◌++◌, Option, None, Some, codes, length, nat_eq, if◌then◌else◌}
 use Rattle.std.specs.Cmp.Lexicographic.{pointwise}
+use Rattle.std.specs.Option.{option_or}
 use Rattle.std.specs.List.{flat_map, list_any, slice_get, starts_with}
 use Rattle.pr_lang.specs.declared.tokens.Keyword.{Keyword}
 use Rattle.pr_lang.specs.declared.tokens.Keyword.TheVariants as keyword
@@ -13,6 +14,9 @@ use Rattle.pr_lang.specs.Spelling.{is_digit, is_letter, keyword_text, symbol_tex
 use Rattle.pr_lens_find.specs.declared.expected.Expected.{Expected}
 use Rattle.pr_lens_rules.specs.Pieces.{quoted, token_text}
 use Rattle.pr_lens_source.specs.Tokens.{kind_of, end_of, bytes_of}
+use Rattle.pr_lens_why.specs.declared.slips.Slip.{Slip}
+use Rattle.pr_lens_why.specs.declared.slips.Slip.TheVariants as slip
+use Rattle.pr_lens_why.specs.Slips.{advice_of, colon_slip, is_spelled, is_update, minus_slip, pair_slip, second_behind, word_before, word_behind, word_slip}
 
 -- ---- symbols
 -- one of these is spelled so
@@ -176,6 +180,37 @@ advice_text name symbols (Word word) = word_text_for name symbols
 advice_text name symbols End = missing_before symbols false
 advice_text name symbols Bad = []
 
+-- ---- what other languages write
+-- `+=` or its like at the wrong token, behind it, or begun before it
+unfoldable pub is_update_near : List ℕ → List ℕ → List ℕ → List ℕ → Bool
+is_update_near before wrong behind second = is_update before wrong || (is_update wrong behind || is_update behind second)
+
+-- by the words beside the wrong one
+unfoldable pub near_slip : List ℕ → List ℕ → List ℕ → List ℕ → Option Slip
+near_slip before wrong behind second =
+    if is_update_near before wrong behind second then Some slip.Update
+    else option_or (pair_slip before wrong) (word_slip before wrong behind)
+
+-- by the wrong token alone, and what could stand in its place
+unfoldable pub lone_slip : List ℕ → Bool → List Symbol → Option Slip
+lone_slip wrong number symbols =
+    if is_spelled wrong (codes "!") then Some slip.Not
+    else if is_spelled wrong (codes "'") then Some slip.Based
+    else if is_spelled wrong (codes "-") then minus_slip (has symbols (codes "~")) (number && has symbols (codes "("))
+    else if is_spelled wrong (codes ":") then colon_slip (has symbols (codes "..")) (has symbols (codes "]") && not (has symbols (codes ",")))
+    else None
+
+unfoldable pub slip_at : List ℕ → List Token → Expected → ℕ → Option Slip
+slip_at text tokens expected token =
+    let wrong = bytes_of text tokens token in
+    option_or (near_slip (word_before text tokens token) wrong (word_behind text tokens token) (second_behind text tokens token))
+    (lone_slip wrong expected.number expected.symbols.items)
+
+-- what this language has instead; otherwise what the token itself advises
+unfoldable pub help_text : Option Slip → Expected → Kind → List ℕ
+help_text (Some slip) expected kind = advice_of slip
+help_text None expected kind = advice_text expected.name expected.symbols.items kind
+
 -- ---- files that are no text of a program
 unfoldable pub configuration_text : List ℕ
 configuration_text = codes "The file is a configuration, and no text of a program: `piperench show FILE` tells what is in it, and `piperench exec FILE SAMPLES` runs it.\n"
@@ -201,5 +236,5 @@ whole_file_text text token = if token == 0 then file_text text else []
 -- ---- the whole
 unfoldable pub syntax_text : List ℕ → List Token → Expected → ℕ → List ℕ
 syntax_text text tokens expected token =
-    wrong_text text tokens token ++ listed_text expected ++ advice_text expected.name expected.symbols.items (kind_of tokens token)
+    wrong_text text tokens token ++ listed_text expected ++ help_text (slip_at text tokens expected token) expected (kind_of tokens token)
     ++ whole_file_text text token

@@ -5,6 +5,7 @@ mod codes;
 mod explaining;
 mod fits;
 mod limits;
+mod slips;
 mod syntax;
 mod telling;
 mod widths;

@@ -4,9 +4,13 @@ ghost use Rattle.std.specs.Prelude.{◌≡◌, ◌≤◌, ◌++◌, OnOk, true, 
 ghost use Rattle.std.specs.List.{flat_map, list_any, slice_get};
 ghost use Rattle.pr_lens_source.specs.Tokens.{end_of};
 ghost use Rattle.pr_lens_rules.specs.Pieces.{quoted};
-ghost use Rattle.pr_lens_why.specs.Syntax.{advice_text, bad_number_text, bad_text, chain_text, comma_before, expected_pieces, file_text, follows_text, has, in_expression_text, is_bad, is_beginning, is_cat, is_comparison, is_digit_there, is_first_behind, is_letter_there, is_nothing, is_operator, joined, listed_text, missing_before, no_token_text, operand_pieces, operand_text, operator_text, piece_where, symbol_piece, symbol_text_for, syntax_text, whole_file_text, word_piece, word_text_for, wrong_text};
+ghost use Rattle.pr_lens_why.specs.Syntax.{advice_text, bad_number_text, bad_text, chain_text, comma_before, expected_pieces, file_text, follows_text, has, help_text, in_expression_text, is_bad, is_beginning, is_cat, is_comparison, is_digit_there, is_first_behind, is_letter_there, is_nothing, is_operator, is_update_near, joined, listed_text, lone_slip, missing_before, near_slip, no_token_text, operand_pieces, operand_text, operator_text, piece_where, slip_at, symbol_piece, symbol_text_for, syntax_text, whole_file_text, word_piece, word_text_for, wrong_text};
 ghost use Rattle.pr_lens_why.specs.Messages.{TellsSyntax};
 
+use crate::slips::{
+    Slip, colon_slip, is_spelled, is_update, minus_slip, pair_slip, second_behind, word_before,
+    word_behind, word_slip,
+};
 use pr_lang::{Keyword, Kind, Symbol};
 use pr_lens_find::{Expected, expected_at};
 use pr_lens_rules::{put_in_quotes, put_quoted};
@@ -413,6 +417,70 @@ fn advice_text(name: bool, symbols: &[Symbol], kind: Kind) -> &'static str
     }
 }
 
+/// Whether `+=` or its like stand at a wrong token or beside it.
+#[tactic(auto, unfolding(crate::specs::Syntax::is_update_near))]
+fn is_update_near(before: &[u8], wrong: &[u8], behind: &[u8], second: &[u8]) -> bool
+    ensures { result ≡ is_update_near before.now wrong.now behind.now second.now }
+{
+    is_update(before, wrong) || is_update(wrong, behind) || is_update(behind, second)
+}
+
+/// A habit from another language, by the words beside the wrong one.
+#[tactic(auto, unfolding(crate::specs::Syntax::near_slip))]
+fn near_slip(before: &[u8], wrong: &[u8], behind: &[u8], second: &[u8]) -> Option<Slip>
+    ensures { result ≡ near_slip before.now wrong.now behind.now second.now }
+{
+    if is_update_near(before, wrong, behind, second) {
+        return Some(Slip::Update);
+    }
+    pair_slip(before, wrong).or(word_slip(before, wrong, behind))
+}
+
+/// A habit from another language, by the wrong token alone and what could stand in its place.
+#[tactic(auto, unfolding(crate::specs::Syntax::lone_slip))]
+fn lone_slip(wrong: &[u8], number: bool, symbols: &[Symbol]) -> Option<Slip>
+    ensures { result ≡ lone_slip wrong.now number symbols.now }
+{
+    if is_spelled(wrong, "!") {
+        return Some(Slip::Not);
+    }
+    if is_spelled(wrong, "'") {
+        return Some(Slip::Based);
+    }
+    if is_spelled(wrong, "-") {
+        return minus_slip(has(symbols, "~"), number && has(symbols, "("));
+    }
+    if is_spelled(wrong, ":") {
+        let close = has(symbols, "]") && !has(symbols, ",");
+        return colon_slip(has(symbols, ".."), close);
+    }
+    None
+}
+
+/// A habit from another language, at a wrong token.
+#[tactic(auto, unfolding(crate::specs::Syntax::slip_at))]
+fn slip_at(source: &Source, expected: &Expected, token: usize) -> Option<Slip>
+    ensures { result ≡ slip_at source.now.text.now source.now.tokens.now expected.now token }
+{
+    let wrong = source.bytes(token);
+    let before = word_before(source, token);
+    let behind = word_behind(source, token);
+    let near = near_slip(before, wrong, behind, second_behind(source, token));
+    let lone = lone_slip(wrong, expected.number, &expected.symbols);
+    near.or(lone)
+}
+
+/// What this language has in place of a habit from another one, or what a token of this kind advises.
+#[tactic(auto, unfolding(crate::specs::Syntax::help_text))]
+fn help_text(slip: Option<Slip>, expected: &Expected, kind: Kind) -> &'static str
+    ensures { result.now ≡ help_text slip expected.now kind }
+{
+    match slip {
+        Some(slip) => slip.advice(),
+        None => advice_text(expected.name, &expected.symbols, kind),
+    }
+}
+
 /// Whether nothing could stand in the place of a token.
 fn is_nothing(expected: &Expected) -> bool
     ensures { result ≡ is_nothing expected.now }
@@ -476,7 +544,7 @@ pub fn tell(
     let expected = expected_at(alloc, source, token)?;
     put_wrong(message, source, token)?;
     put_expected(message, &expected)?;
-    let kind = source.kind(token);
-    put(message, advice_text(expected.name, &expected.symbols, kind))?;
+    let slip = slip_at(source, &expected, token);
+    put(message, help_text(slip, &expected, source.kind(token)))?;
     put(message, whole_file_text(source.text, token))
 }
