@@ -21,3 +21,6 @@ returns-in-LongModule-clause-gains g c = rw c.in-LongModule.is (rw c.as_bytes-in
 
 pub returns-in-NoStream-clause-gains : goal.returns-in-NoStream-clause-gains
 returns-in-NoStream-clause-gains g c = rw c.in-NoStream.is (rw c.as_bytes-in-NoStream.ensures.value at c.put_bytes-in-NoStream.ensures.gains)
+
+pub returns-in-LongBench-clause-gains : goal.returns-in-LongBench-clause-gains
+returns-in-LongBench-clause-gains g c = rw c.in-LongBench.is (rw c.as_bytes-in-LongBench.ensures.value at c.put_bytes-in-LongBench.ensures.gains)
