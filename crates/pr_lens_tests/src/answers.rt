@@ -78,7 +78,7 @@ cycle 0
 ! bad log: line 2
 $ pipelens look p
 = 2
-! usage: pipelens TASK FILE [SAMPLES] [--fabric F] [--narrow] [--samples N] [--json] [--csv] [--signed NAME,..] [--no-warnings] [--name MODULE]; pipelens --help says more
+! usage: pipelens TASK FILE [SAMPLES] [--fabric F] [--narrow] [--samples N] [--json] [--csv] [--signed NAME,..] [--no-warnings] [--name MODULE] [--seed N]; pipelens --help says more
 ";
 
 #[test]

@@ -106,11 +106,6 @@ output y = x;
 256
 = 7
 ! bad sample: line 2
-$ pipelens testbench p none
-input x:8;
-output y = x;
-= 10
-! read fault: none
 $ pipelens testbench p s --name 1st
 input x:8;
 output y = x;
