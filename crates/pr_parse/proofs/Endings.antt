@@ -1,5 +1,5 @@
 -- What is answered where the machine ended so.
-use Rattle.std.proofs.Common.{◌≡◌, ℕ, zero, suc, ◌-◌, ◌+◌, ◌<◌, ◌≤◌, Option, Some, None, Result, Ok, Err, IfOk, IfErr, OnOk, List, [], ◌∷◌, length, take, refl, sym, ap, subst, ◌∙◌, arith}
+use Rattle.std.proofs.Common.{◌≡◌, ℕ, zero, suc, ◌-◌, ◌+◌, ◌<◌, ◌≤◌, Some, None, Result, Ok, Err, IfOk, IfErr, OnOk, List, [], ◌∷◌, length, take, refl, sym, ap, subst, ◌∙◌, arith}
 use Rattle.std.proofs.lemmas.List.{take-map}
 use Rattle.pr_lang.specs.declared.tokens.Token.{Token}
 use Rattle.pr_lang.specs.Word.{Word, words, word_of}
@@ -8,17 +8,16 @@ use Rattle.pr_lang.specs.Load.{first_deep}
 use Rattle.pr_lang.specs.declared.tokens.Kind.TheVariants.{Bad}
 use Rattle.pr_lang.specs.Tokens.{tokens_from, token, Piece, Gap, Whole, Broken, piece_from}
 use Rattle.pr_lang.specs.Tree.{Tree}
-use Rattle.pr_lang.specs.Syntax.{Refusal, AtToken, TooDeep, refusal_of_words}
+use Rattle.pr_lang.specs.Syntax.{AtToken, TooDeep, refusal_of_words}
 use Rattle.pr_parse.specs.declared.fault.Fault.{Fault}
 use Rattle.pr_parse.specs.declared.fault.Fault.TheVariants as fault
 use Rattle.pr_parse.specs.declared.parser.ParseFault.{ParseFault}
-use Rattle.pr_parse.specs.declared.parser.ParseFault.TheVariants.{Syntax, Limit, Memory}
 use Rattle.pr_lang.specs.declared.trees.Program.{Program}
 use Rattle.pr_lang.specs.Is.{Is}
 use Rattle.pr_lang.specs.Shape.{program_shape}
 use Rattle.pr_parse.specs.Run.{WrongAt, run}
 use Rattle.pr_parse.specs.Reads.{IsRead, Fails}
-use Rattle.pr_parse.specs.Outcomes.{IsBuilt, IsStopped, Stops, IsRefused, LeavesAtMost, IsMemory, IsFaultAt, IsFaultBefore, IsAnswer}
+use Rattle.pr_parse.specs.Outcomes.{IsBuilt, IsStopped, Stops, IsRefused, LeavesAtMost, IsFaultAt, IsFaultBefore, IsAnswer}
 use Rattle.pr_parse.proofs.Main.{no_part, wrong_within, run-over, refused_wrong, refused_near, refused_deep, refused_deep_built}
 
 length-words : (text : List ℕ) (ks : List Token) → length (words text ks) ≡ length ks
@@ -27,7 +26,7 @@ length-words text (k ∷ ks) = omega (arith, length-words text ks)
 
 pub stops : (text : List ℕ) (ks : List Token) (e : Fault) → Fails (rule TheProgram) text ks e → Stops text ks e
 stops text ks (fault.Wrong n) r = record { runs = r.runs [] []; within = omega (arith, wrong_within (words text ks) n (r.runs [] []), length-words text ks) }
-stops text ks fault.Memory r = tt
+stops text ks (fault.Memory error) r = tt
 
 pub built_whole : (text : List ℕ) (ks rest : List Token) (t : Tree) → length rest ≡ 0 → IsRead (rule TheProgram) text ks rest t → IsBuilt (words text ks) t
 built_whole text ks [] t h r = r.runs [] [] ∙ no_part (t ∷ [])
@@ -42,19 +41,14 @@ stopped_whole text ks (x ∷ xs) t n e h r = record {
 
 pub leaves : (text : List ℕ) (ks : List Token) (end : ℕ) (e : Fault) → length ks ≤ end → Stops text ks e → LeavesAtMost end e
 leaves text ks end (fault.Wrong n) h s = omega (arith, s.within)
-leaves text ks end fault.Memory h s = tt
-
-memory_refused : (r : ParseFault) (o : Option Refusal) → IsMemory r → IsRefused o r
-memory_refused (Syntax token) o h = absurd h
-memory_refused (Limit cap) o h = absurd h
-memory_refused (Memory error) o h = tt
+leaves text ks end (fault.Memory error) h s = tt
 
 pub all_refused : (text : List ℕ) (ks : List Token) (e : Fault) (r : ParseFault) → first_deep (words text ks) ≡ None → Stops text ks e → IsFaultAt (length ks) e r → IsRefused (refusal_of_words (words text ks)) r
 all_refused text ks (fault.Wrong n) r d s f =
     let place : length (words text ks) - n ≡ length ks - n = ap (λ (m : ℕ). m - n) (length-words text ks) in
     let P : ParseFault → Type 0 = λ x. IsRefused (refusal_of_words (words text ks)) x in
     subst P (sym f) (refused_wrong (words text ks) n d s.runs ∙ ap (λ (m : ℕ). Some (AtToken m)) place)
-all_refused text ks fault.Memory r d s f = memory_refused r (refusal_of_words (words text ks)) f
+all_refused text ks (fault.Memory error) r d s f = subst (IsRefused (refusal_of_words (words text ks))) (sym f) tt
 
 -- the tokens before a deep one
 module _ (text : List ℕ) (ks near : List Token) (place : ℕ) (d : first_deep (words text ks) ≡ Some place) (w : place ≤ length ks) (n : near ≡ take place ks) where
@@ -70,7 +64,7 @@ module _ (text : List ℕ) (ks near : List Token) (place : ℕ) (d : first_deep 
   pub front_refused : (e : Fault) (r : ParseFault) → Stops text near e → LeavesAtMost place e → IsFaultBefore place e r → IsRefused (refusal_of_words (words text ks)) r
   front_refused (fault.Wrong zero) r s l f = let P : ParseFault → Type 0 = λ x. IsRefused (refusal_of_words (words text ks)) x in subst P (sym (f.0 refl)) (refl, refused_deep (words text ks) place d within (ap (λ l. run l (rule TheProgram ∷ []) []) (sym front) ∙ s.runs))
   front_refused (fault.Wrong (suc n)) r s l f = let P : ParseFault → Type 0 = λ x. IsRefused (refusal_of_words (words text ks)) x in subst P (sym (f.1 (omega arith))) (refused_near (words text ks) place (suc n) d within (omega arith) l (ap (λ l. run l (rule TheProgram ∷ []) []) (sym front) ∙ s.runs))
-  front_refused fault.Memory r s l f = memory_refused r (refusal_of_words (words text ks)) f
+  front_refused (fault.Memory error) r s l f = subst (IsRefused (refusal_of_words (words text ks))) (sym f) tt
 
 -- no text has more tokens than bytes, but for the last one
 pub length-tokens_from : (place skip : ℕ) (cs : List ℕ) → length (tokens_from place skip cs) ≤ length cs + 1

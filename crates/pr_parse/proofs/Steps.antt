@@ -66,7 +66,7 @@ module _ {p : Part} {text : List ℕ} {ks rest : List Token} {qs : List Part} {u
 
   pub failed : {q : Part} (e : Fault) → Fails q text rest e → Sofar p text ks rest (q ∷ qs) us → Fails p text ks e
   failed (fault.Wrong n) r s = record { runs = λ ps ts. s.runs ps ts ∙ r.runs (qs ++ ps) (us ++ ts) }
-  failed fault.Memory r s = tt
+  failed (fault.Memory error) r s = tt
 
   pub front_failed : (f : Part → Part) (e : Fault) (q : Part) → FrontFails f text rest e → Sofar p text ks rest (f q ∷ qs) us → Fails p text ks e
   front_failed f e q r s = failed e (r q) s
@@ -127,7 +127,7 @@ maybe_list {c} {text} {ks} {rest} {t} h r =
     record { runs = λ ps ts. s.runs ps ts ∙ sym (f.runs ps ts) ∙ r.runs ps ts; within = r.within }
 
 pub maybe_list_fails : (c : Listed) (text : List ℕ) (ks : List Token) (e : Fault) → begins (first_and_more (element c)) (words text ks) ≡ true → Fails (rule (ListOf c)) text ks e → Fails (rule (MaybeListOf c)) text ks e
-maybe_list_fails c text ks fault.Memory h r = tt
+maybe_list_fails c text ks (fault.Memory error) h r = tt
 maybe_list_fails c text ks (fault.Wrong n) h r =
     let s : Sofar (rule (MaybeListOf c)) text ks ks (first_and_more (element c) ∷ []) (tree.none ∷ []) = there h (made _ (λ ts. refl) (open_then (open_rule begun))) in
     let f : Sofar (rule (ListOf c)) text ks ks (first_and_more (element c) ∷ []) (tree.none ∷ []) = made _ (λ ts. refl) (open_then (open_rule begun)) in

@@ -25,7 +25,7 @@ pub record IsStopped (text : List ℕ) (ks : List Token) (n : ℕ) : Type 0 wher
 
 abbrev pub Stops : List ℕ → List Token → Fault → Type 0
 Stops text ks (fault.Wrong n) = IsStopped text ks n
-Stops text ks fault.Memory = Unit {0}
+Stops text ks (fault.Memory error) = Unit {0}
 
 -- the answer is this refusal, but for want of memory
 abbrev pub IsRefused : Option Refusal → ParseFault → Type 0
@@ -43,17 +43,12 @@ IsAnswer ws (Err e) = IsRefused (refusal_of_words ws) e
 
 abbrev pub LeavesAtMost : ℕ → Fault → Type 0
 LeavesAtMost end (fault.Wrong n) = n ≤ end
-LeavesAtMost end fault.Memory = Unit {0}
-
-abbrev pub IsMemory : ParseFault → Type 0
-IsMemory (Syntax token) = ⊥
-IsMemory (Limit cap) = ⊥
-IsMemory (Memory error) = Unit {0}
+LeavesAtMost end (fault.Memory error) = Unit {0}
 
 abbrev pub IsFaultAt : ℕ → Fault → ParseFault → Type 0
 IsFaultAt end (fault.Wrong n) r = r ≡ Syntax (end - n)
-IsFaultAt end fault.Memory r = IsMemory r
+IsFaultAt end (fault.Memory error) r = r ≡ Memory error
 
 abbrev pub IsFaultBefore : ℕ → Fault → ParseFault → Type 0
 IsFaultBefore place (fault.Wrong n) r = (n ≡ 0 → r ≡ Limit Nesting) × (0 < n → r ≡ Syntax (place - n))
-IsFaultBefore place fault.Memory r = IsMemory r
+IsFaultBefore place (fault.Memory error) r = r ≡ Memory error

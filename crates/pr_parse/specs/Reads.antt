@@ -30,7 +30,7 @@ pub record IsWrong (p : Part) (text : List ℕ) (ks : List Token) (n : ℕ) : Ty
 
 abbrev pub Fails : Part → List ℕ → List Token → Fault → Type 0
 Fails p text ks (fault.Wrong n) = IsWrong p text ks n
-Fails p text ks fault.Memory = Unit {0}
+Fails p text ks (fault.Memory error) = Unit {0}
 
 abbrev pub FrontFails : (Part → Part) → List ℕ → List Token → Fault → Type 0
 FrontFails front text ks e = (q : Part) → Fails (front q) text ks e

@@ -1,6 +1,6 @@
 //! Trees from trees.
 
-ghost use Rattle.std.specs.Prelude.{◌≡◌, ◌<◌, map, IfOk, IfErr, length};
+ghost use Rattle.std.specs.Prelude.{◌≡◌, ◌<◌, map, IfOk, IfErr, length, alloc_error};
 ghost use Rattle.pr_lang.specs.Is.{name_tree, number_tree, sign_tree};
 ghost use Rattle.pr_lang.specs.Tree as tree;
 ghost use Rattle.pr_lang.specs.Shape.{fixed_shape, index_shape, ref_shape, width_tree, expr_shape, stmt_shape, item_shape, param_shape, sign_of, fixed_sign_of, listed, comma_listed};
@@ -12,7 +12,7 @@ use std::alloc::Global;
 
 pub fn name(alloc: Global, bytes: &[u8]) -> Result<Name, Fault>
     ensures ok { IfOk result (λ n. n ≡ bytes.now) }
-    ensures err { IfErr result (λ e. e ≡ Memory) }
+    ensures err { IfErr result (λ e. e ≡ Memory alloc_error) }
 {
     let bytes = Vec::from_slice(alloc, bytes)?;
     Ok(Name::new(bytes))
@@ -21,7 +21,7 @@ pub fn name(alloc: Global, bytes: &[u8]) -> Result<Name, Fault>
 pub fn fixed_binary(alloc: Global, op: FixedOp, left: Fixed, right: Fixed) -> Result<Fixed, Fault>
     ensures ok { IfOk result (λ e. fixed_shape e
         ≡ tree.binary (sign_tree (fixed_sign_of op)) (fixed_shape left) (fixed_shape right)) }
-    ensures err { IfErr result (λ e. e ≡ Memory) }
+    ensures err { IfErr result (λ e. e ≡ Memory alloc_error) }
 {
     let left = Box::new(alloc, left)?;
     let right = Box::new(alloc, right)?;
@@ -30,7 +30,7 @@ pub fn fixed_binary(alloc: Global, op: FixedOp, left: Fixed, right: Fixed) -> Re
 
 pub fn fixed_paren(alloc: Global, inner: Fixed) -> Result<Fixed, Fault>
     ensures ok { IfOk result (λ e. fixed_shape e ≡ tree.paren (fixed_shape inner)) }
-    ensures err { IfErr result (λ e. e ≡ Memory) }
+    ensures err { IfErr result (λ e. e ≡ Memory alloc_error) }
 {
     Ok(Fixed::Paren(Box::new(alloc, inner)?))
 }
@@ -50,7 +50,7 @@ fn fixed_name(name: Name) -> Fixed
 
 fn fixed_entry(alloc: Global, name: Name, index: Fixed) -> Result<Fixed, Fault>
     ensures ok { IfOk result (λ e. fixed_shape e ≡ tree.refer (name_tree name) (tree.index (fixed_shape index))) }
-    ensures err { IfErr result (λ e. e ≡ Memory) }
+    ensures err { IfErr result (λ e. e ≡ Memory alloc_error) }
 {
     let index = Box::new(alloc, index)?;
     Ok(Fixed::Refer(name, Some(index)))
@@ -59,7 +59,7 @@ fn fixed_entry(alloc: Global, name: Name, index: Fixed) -> Result<Fixed, Fault>
 /// A name with an index or without.
 pub fn fixed_refer(alloc: Global, name: Name, index: Option<Fixed>) -> Result<Fixed, Fault>
     ensures ok { IfOk result (λ e. fixed_shape e ≡ tree.refer (name_tree name) (index_shape index)) }
-    ensures err { IfErr result (λ e. e ≡ Memory) }
+    ensures err { IfErr result (λ e. e ≡ Memory alloc_error) }
 {
     match index {
         Some(index) => fixed_entry(alloc, name, index),
@@ -122,7 +122,7 @@ pub fn for_stmt(index: Name, low: Fixed, high: Fixed, body: Vec<Stmt>) -> Stmt
 /// An expression that waits for what is read after it.
 pub fn boxed(alloc: Global, expr: Expr) -> Result<Box<Expr>, Fault>
     ensures ok { IfOk result (λ e. e.value ≡ expr) }
-    ensures err { IfErr result (λ e. e ≡ Memory) }
+    ensures err { IfErr result (λ e. e ≡ Memory alloc_error) }
 {
     Ok(Box::new(alloc, expr)?)
 }
@@ -130,7 +130,7 @@ pub fn boxed(alloc: Global, expr: Expr) -> Result<Box<Expr>, Fault>
 pub fn binary(alloc: Global, op: BinOp, left: Box<Expr>, right: Expr) -> Result<Expr, Fault>
     ensures ok { IfOk result (λ e. expr_shape e
         ≡ tree.binary (sign_tree (sign_of op)) (expr_shape left.value) (expr_shape right)) }
-    ensures err { IfErr result (λ e. e ≡ Memory) }
+    ensures err { IfErr result (λ e. e ≡ Memory alloc_error) }
 {
     let right = Box::new(alloc, right)?;
     Ok(Expr::Binary(op, left, right))
@@ -139,7 +139,7 @@ pub fn binary(alloc: Global, op: BinOp, left: Box<Expr>, right: Expr) -> Result<
 pub fn choose(alloc: Global, test: Box<Expr>, yes: Box<Expr>, no: Expr) -> Result<Expr, Fault>
     ensures ok { IfOk result (λ e. expr_shape e
         ≡ tree.choose (expr_shape test.value) (expr_shape yes.value) (expr_shape no)) }
-    ensures err { IfErr result (λ e. e ≡ Memory) }
+    ensures err { IfErr result (λ e. e ≡ Memory alloc_error) }
 {
     let no = Box::new(alloc, no)?;
     Ok(Expr::Choose(test, yes, no))
@@ -147,7 +147,7 @@ pub fn choose(alloc: Global, test: Box<Expr>, yes: Box<Expr>, no: Expr) -> Resul
 
 pub fn not(alloc: Global, inner: Expr) -> Result<Expr, Fault>
     ensures ok { IfOk result (λ e. expr_shape e ≡ tree.not (expr_shape inner)) }
-    ensures err { IfErr result (λ e. e ≡ Memory) }
+    ensures err { IfErr result (λ e. e ≡ Memory alloc_error) }
 {
     Ok(Expr::Not(Box::new(alloc, inner)?))
 }
@@ -180,7 +180,7 @@ pub fn cat(parts: Vec<Expr>) -> Expr
 pub fn more_stmts(mut stmts: Vec<Stmt>, stmt: Stmt) -> Result<Vec<Stmt>, Fault>
     ensures ok { IfOk result (λ v. listed (map stmt_shape v.items)
         ≡ tree.more (listed (map stmt_shape stmts.items)) (stmt_shape stmt)) }
-    ensures err { IfErr result (λ e. e ≡ Memory) }
+    ensures err { IfErr result (λ e. e ≡ Memory alloc_error) }
 {
     stmts.push(stmt)?;
     Ok(stmts)
@@ -190,7 +190,7 @@ pub fn more_stmts(mut stmts: Vec<Stmt>, stmt: Stmt) -> Result<Vec<Stmt>, Fault>
 pub fn more_items(mut items: Vec<Item>, item: Item) -> Result<Vec<Item>, Fault>
     ensures ok { IfOk result (λ v. listed (map item_shape v.items)
         ≡ tree.more (listed (map item_shape items.items)) (item_shape item)) }
-    ensures err { IfErr result (λ e. e ≡ Memory) }
+    ensures err { IfErr result (λ e. e ≡ Memory alloc_error) }
 {
     items.push(item)?;
     Ok(items)
@@ -200,7 +200,7 @@ pub fn more_items(mut items: Vec<Item>, item: Item) -> Result<Vec<Item>, Fault>
 pub fn one_expr(alloc: Global, expr: Expr) -> Result<Vec<Expr>, Fault>
     ensures ok { IfOk result (λ v. comma_listed (map expr_shape v.items) ≡ tree.more tree.none (expr_shape expr)) }
     ensures some { IfOk result (λ v. 0 < length v.items) }
-    ensures err { IfErr result (λ e. e ≡ Memory) }
+    ensures err { IfErr result (λ e. e ≡ Memory alloc_error) }
 {
     let mut list = Vec::new(alloc);
     list.push(expr)?;
@@ -213,7 +213,7 @@ pub fn more_exprs(mut list: Vec<Expr>, expr: Expr) -> Result<Vec<Expr>, Fault>
     ensures ok { IfOk result (λ v. comma_listed (map expr_shape v.items)
         ≡ tree.also (comma_listed (map expr_shape list.items)) (expr_shape expr)) }
     ensures some { IfOk result (λ v. 0 < length v.items) }
-    ensures err { IfErr result (λ e. e ≡ Memory) }
+    ensures err { IfErr result (λ e. e ≡ Memory alloc_error) }
 {
     list.push(expr)?;
     Ok(list)
@@ -223,7 +223,7 @@ pub fn more_exprs(mut list: Vec<Expr>, expr: Expr) -> Result<Vec<Expr>, Fault>
 pub fn one_fixed(alloc: Global, fixed: Fixed) -> Result<Vec<Fixed>, Fault>
     ensures ok { IfOk result (λ v. comma_listed (map fixed_shape v.items) ≡ tree.more tree.none (fixed_shape fixed)) }
     ensures some { IfOk result (λ v. 0 < length v.items) }
-    ensures err { IfErr result (λ e. e ≡ Memory) }
+    ensures err { IfErr result (λ e. e ≡ Memory alloc_error) }
 {
     let mut list = Vec::new(alloc);
     list.push(fixed)?;
@@ -236,7 +236,7 @@ pub fn more_fixed(mut list: Vec<Fixed>, fixed: Fixed) -> Result<Vec<Fixed>, Faul
     ensures ok { IfOk result (λ v. comma_listed (map fixed_shape v.items)
         ≡ tree.also (comma_listed (map fixed_shape list.items)) (fixed_shape fixed)) }
     ensures some { IfOk result (λ v. 0 < length v.items) }
-    ensures err { IfErr result (λ e. e ≡ Memory) }
+    ensures err { IfErr result (λ e. e ≡ Memory alloc_error) }
 {
     list.push(fixed)?;
     Ok(list)
@@ -246,7 +246,7 @@ pub fn more_fixed(mut list: Vec<Fixed>, fixed: Fixed) -> Result<Vec<Fixed>, Faul
 pub fn one_param(alloc: Global, param: Param) -> Result<Vec<Param>, Fault>
     ensures ok { IfOk result (λ v. comma_listed (map param_shape v.items) ≡ tree.more tree.none (param_shape param)) }
     ensures some { IfOk result (λ v. 0 < length v.items) }
-    ensures err { IfErr result (λ e. e ≡ Memory) }
+    ensures err { IfErr result (λ e. e ≡ Memory alloc_error) }
 {
     let mut list = Vec::new(alloc);
     list.push(param)?;
@@ -259,7 +259,7 @@ pub fn more_params(mut list: Vec<Param>, param: Param) -> Result<Vec<Param>, Fau
     ensures ok { IfOk result (λ v. comma_listed (map param_shape v.items)
         ≡ tree.also (comma_listed (map param_shape list.items)) (param_shape param)) }
     ensures some { IfOk result (λ v. 0 < length v.items) }
-    ensures err { IfErr result (λ e. e ≡ Memory) }
+    ensures err { IfErr result (λ e. e ≡ Memory alloc_error) }
 {
     list.push(param)?;
     Ok(list)

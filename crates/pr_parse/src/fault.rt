@@ -1,6 +1,6 @@
 //! Why a text is not read.
 
-ghost use Rattle.std.specs.Prelude.{◌≡◌};
+ghost use Rattle.std.specs.Prelude.{◌≡◌, alloc_error};
 ghost use Rattle.pr_parse.specs.declared.fault.Fault.TheVariants.{Memory};
 
 use std::alloc::{AllocError, AllocFailed};
@@ -9,21 +9,21 @@ use std::alloc::{AllocError, AllocFailed};
 #[derive(Debug, Drop)]
 pub enum Fault {
     Wrong(usize),
-    Memory,
+    Memory(AllocError),
 }
 
 impl From<AllocError> for Fault {
-    ghost from_gives = { λ _ e. e ≡ Memory };
+    ghost from_gives = { λ a e. e ≡ Memory a };
 
-    fn from(_error: AllocError) -> Fault {
-        Fault::Memory
+    fn from(error: AllocError) -> Fault {
+        Fault::Memory(error)
     }
 }
 
 impl<T: Drop> From<AllocFailed<T>> for Fault {
-    ghost from_gives = { λ _ e. e ≡ Memory };
+    ghost from_gives = { λ _ e. e ≡ Memory alloc_error };
 
-    fn from(_error: AllocFailed<T>) -> Fault {
-        Fault::Memory
+    fn from(refused: AllocFailed<T>) -> Fault {
+        Fault::Memory(AllocError::from(refused))
     }
 }

@@ -63,7 +63,7 @@ fn fault_at(end: usize, fault: Fault) -> ParseFault
         Fault::Wrong(left) => ParseFault::Syntax {
             token: (end - left) as u32,
         },
-        Fault::Memory => ParseFault::Memory(AllocError),
+        Fault::Memory(error) => ParseFault::Memory(error),
     }
 }
 
@@ -83,7 +83,7 @@ fn fault_before(place: usize, fault: Fault) -> ParseFault
                 }
             }
         }
-        Fault::Memory => ParseFault::Memory(AllocError),
+        Fault::Memory(error) => ParseFault::Memory(error),
     }
 }
 
