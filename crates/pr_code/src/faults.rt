@@ -23,18 +23,18 @@ pub enum CodeFault {
 }
 
 impl From<AllocError> for CodeFault {
-    ghost from_gives = { λ _ e. e ≡ Memory alloc_error };
+    ghost from_gives = { λ a e. e ≡ Memory a };
 
-    fn from(_e: AllocError) -> CodeFault {
-        CodeFault::Memory(AllocError)
+    fn from(error: AllocError) -> CodeFault {
+        CodeFault::Memory(error)
     }
 }
 
 impl<T: Drop> From<AllocFailed<T>> for CodeFault {
     ghost from_gives = { λ _ e. e ≡ Memory alloc_error };
 
-    fn from(_e: AllocFailed<T>) -> CodeFault {
-        CodeFault::Memory(AllocError)
+    fn from(refused: AllocFailed<T>) -> CodeFault {
+        CodeFault::Memory(AllocError::from(refused))
     }
 }
 
