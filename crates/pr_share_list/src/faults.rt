@@ -19,17 +19,17 @@ pub enum ListFault {
 }
 
 impl From<AllocError> for ListFault {
-    ghost from_gives = { λ _ e. e ≡ Memory alloc_error };
+    ghost from_gives = { λ a e. e ≡ Memory a };
 
-    fn from(_error: AllocError) -> ListFault {
-        ListFault::Memory(AllocError)
+    fn from(error: AllocError) -> ListFault {
+        ListFault::Memory(error)
     }
 }
 
 impl<T: Drop> From<AllocFailed<T>> for ListFault {
     ghost from_gives = { λ _ e. e ≡ Memory alloc_error };
 
-    fn from(_error: AllocFailed<T>) -> ListFault {
-        ListFault::Memory(AllocError)
+    fn from(refused: AllocFailed<T>) -> ListFault {
+        ListFault::Memory(AllocError::from(refused))
     }
 }
