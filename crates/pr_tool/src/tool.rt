@@ -166,7 +166,7 @@ fn reply_to<S: Shelf, K: Sink>(
             answer: Answer::Usage,
             bounds: Bounds::BASE,
         },
-        Err(WordsFault::Memory(_)) => Reply {
+        Err(WordsFault::Memory(_) | WordsFault::Unparsed(_)) => Reply {
             answer: Answer::Memory,
             bounds: Bounds::BASE,
         },

@@ -1,7 +1,10 @@
 //! The parser of the command line: which value each option and each place has.
 
 ghost use Rattle.std.specs.Prelude.{◌≡◌, IfOk, IsErrOf, Some, None, map, string_bytes, false, option_map};
+ghost use Rattle.clap.specs.Values.{kind_of};
 ghost use Rattle.clap.specs.Words.{app_of, rule_of, found_of};
+ghost use Rattle.clap.specs.declared.error.Error.{Error};
+ghost use Rattle.clap.specs.declared.error.kind.ErrorKind.TheVariants.{OutOfMemory};
 ghost use Rattle.pr_tool_words.specs.Lawful.{said_by, is_true};
 ghost use Rattle.pr_tool_words.specs.Orders.{said_in, found_in};
 ghost use Rattle.pr_tool_words.specs.Shape.{app, place, option, option_or, flag};
@@ -102,12 +105,13 @@ fn found<'a>(matches: &ArgMatches<'a>) -> Option<Values<'a>>
 pub fn values_of<'a>(alloc: Global, words: &'a [String]) -> Result<Values<'a>, WordsFault>
     ensures values { IfOk result (λ v. said_by (map string_bytes words.entry.now) ≡ Some (said_in v)) }
     ensures usage { IsErrOf result WordsFault.Usage → said_by (map string_bytes words.entry.now) ≡ None }
+    ensures unparsed { (e : Error) → IsErrOf result (WordsFault.Unparsed e) → kind_of e ≡ OutOfMemory }
 {
     let command = command(alloc).map_err(WordsFault::Memory)?;
     let matches = match command.try_get_matches_from(words) {
         Ok(matches) => matches,
         Err(e) => match e.kind() {
-            ErrorKind::OutOfMemory => return Err(WordsFault::Memory(AllocError)),
+            ErrorKind::OutOfMemory => return Err(WordsFault::Unparsed(e)),
             _ => return Err(WordsFault::Usage),
         },
     };
