@@ -1,0 +1,7 @@
+mod ByteParts
+mod ByteTable
+mod ByteNets
+mod ByteConfigurations
+mod ByteStates
+mod Lengths
+mod Kept
