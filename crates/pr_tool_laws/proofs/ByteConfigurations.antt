@@ -1,5 +1,5 @@
 -- All constants of a placed net's configuration are bytes, where those of the net are.
-use Rattle.std.proofs.Common.{◌≡◌, ◌<◌, ℕ, zero, suc, ◌+◌, ◌-◌, ◌==◌, ◌&&◌, Bool, true, false, List, [], ◌∷◌, length, map, Option, Some, None, slice_index_or, refl, arith}
+use Rattle.std.proofs.Common.{◌≡◌, ◌<◌, ℕ, zero, suc, ◌+◌, ◌-◌, ◌==◌, ◌&&◌, true, false, List, [], ◌∷◌, length, map, Option, Some, None, slice_index_or, refl, arith}
 use Rattle.std.specs.Bool.{if◌then◌else◌}
 use Rattle.std.specs.List.{list_all, range_with_len, find}
 use Rattle.std.proofs.lemmas.Bool.{lt-ltb, ltb-true}
@@ -13,9 +13,7 @@ use Rattle.pr_net.specs.Nets.{group_of}
 use Rattle.pr_net.specs.Shape.{NetShape, OutputShape as Slices, cells_of}
 use Rattle.pr_place.specs.Placements.{PlacementShape, home_of, column_of, register_of}
 use Rattle.pr_conf.specs.declared.pes.Source.{Source}
-use Rattle.pr_conf.specs.declared.pes.Bit.{Bit}
 use Rattle.pr_conf.specs.declared.pes.Pe.{Pe}
-use Rattle.pr_conf.specs.Shape.{Shape}
 use Rattle.pr_code.specs.Spelling.{is_byte, has_source_byte, has_c_byte, has_tap_byte, has_pe_bytes, have_tap_bytes, has_bytes}
 use Rattle.pr_code.proofs.AgainLemmas.{and_true}
 use Rattle.pr_code.proofs.WritingLemmas.{both}

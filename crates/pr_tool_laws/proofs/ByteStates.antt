@@ -1,5 +1,5 @@
 -- The states that samples leave are bytes, so a configuration after samples has bytes where it had them before.
-use Rattle.std.proofs.Common.{◌≡◌, ◌<◌, ℕ, zero, suc, ◌+◌, ◌-◌, ◌*◌, ◌/◌, ◌%◌, ◌==◌, Bool, true, false, List, [], ◌∷◌, ◌++◌, length, map, take, drop, replicate, slice_index, slice_index_or, bit_and, refl, arith}
+use Rattle.std.proofs.Common.{◌≡◌, ◌<◌, ℕ, zero, suc, ◌+◌, ◌-◌, ◌*◌, ◌/◌, ◌==◌, Bool, true, false, List, [], ◌∷◌, ◌++◌, length, map, take, drop, replicate, slice_index, slice_index_or, bit_and, refl, arith}
 use Rattle.std.specs.Bool.{if◌then◌else◌}
 use Rattle.std.specs.List.{list_all}
 use Rattle.std.proofs.lemmas.Bool.{ltb-true}
@@ -8,11 +8,11 @@ use Rattle.pr_base.specs.Numbers.{slices_of, bytes_of}
 use Rattle.pr_base.specs.Rows.{row_bytes}
 use Rattle.pr_base.specs.Pe.{Made, next_state}
 use Rattle.pr_base.specs.declared.choices.Next.{Next}
-use Rattle.pr_conf_pipeline.specs.Rows.{Step, state_over, rows_over, rows, state_after}
+use Rattle.pr_conf_pipeline.specs.Rows.{state_over, rows_over, rows, state_after}
 use Rattle.pr_conf.specs.declared.pes.Source.{Source}
 use Rattle.pr_conf.specs.declared.pes.Pe.{Pe}
 use Rattle.pr_conf.specs.Shape.{Shape}
-use Rattle.pr_conf.specs.StageMap.{Sight, source_byte, made_from, pe_made, whole_sight, states_from, passed, passed_bytes, registers_to, register_of, state_map, row_map, step_of}
+use Rattle.pr_conf.specs.StageMap.{Sight, source_byte, made_from, pe_made, whole_sight, states_from, passed, passed_bytes, registers_to, state_map, row_map, step_of}
 use Rattle.pr_conf.specs.Through.{steps_of}
 use Rattle.pr_conf.specs.After.{begun, all_begun, state_rows, conf_after}
 use Rattle.pr_code.specs.Spelling.{has_source_byte, has_pe_bytes, have_tap_bytes, has_bytes}

@@ -1,9 +1,8 @@
 -- A file that is written of a program's configuration has bytes, breaks no rule, and is short enough on the base fabric.
-use Rattle.std.proofs.Common.{◌≡◌, ◌<◌, ◌≤◌, ◌+◌, ◌^◌, ℕ, Bool, true, List, length, map, Option, Some, None, refl, sym, ap, ap₂, subst, arith, inr}
+use Rattle.std.proofs.Common.{◌≡◌, ◌<◌, ◌≤◌, ◌+◌, ◌^◌, ℕ, Bool, true, List, length, Option, Some, None, refl, sym, ap, ap₂, subst, arith, inr}
 use Rattle.pr_base.specs.Fabrics.{columns, registers}
-use Rattle.pr_base.specs.Rows.{row_bytes}
 use Rattle.pr_base.specs.declared.fabrics.Fabric.{Fabric}
-use Rattle.pr_code.specs.Marks.{IsMark, mark_of, bad_mark}
+use Rattle.pr_code.specs.Marks.{mark_of, bad_mark}
 use Rattle.pr_code.specs.Rules.{bad_word}
 use Rattle.pr_code.specs.Spelling.{bytes_of_words, words_of, has_bytes}
 use Rattle.pr_code.proofs.AgainFiles.{file_again}
