@@ -22,7 +22,7 @@ use Rattle.pr_lens_rtl.specs.declared.vectors.Net.{Net}
 use Rattle.pr_lens_rtl.specs.Verilog.{Values, value, Takes, Fit}
 use Rattle.pr_lens_rtl.specs.Module.{pes_wires, read_valid, stage_registers, stages_wires, stages_registers, tap_wires, tap_expr, hand_wires}
 use Rattle.pr_lens_rtl.specs.Traces.{at_places, is_one, held, all_held}
-use Rattle.pr_lens_rtl.specs.Bytes.{has_tap_byte}
+use Rattle.pr_code.specs.Spelling.{has_tap_byte}
 use Rattle.pr_lens_rtl.proofs.PeLaws.{place_below}
 use Rattle.pr_lens_rtl.proofs.StageLaws.{takes_left, takes_right, places_at}
 use Rattle.pr_lens_rtl.proofs.RegisterLaws.{IsStage, read_row, stage_on, stage_off, stage_reset}

@@ -14,7 +14,7 @@ use Rattle.pr_lens_rtl.specs.declared.vectors.Net.{Net}
 use Rattle.pr_lens_rtl.specs.Verilog.{Expr, Assign}
 use Rattle.pr_lens_rtl.specs.Module.{read, read_valid, next_expr, pes_wires, enabled, state_registers, passed_expr, passed_registers, row_registers, stage_registers, stages_wires, stages_registers, hand_wires, tap_expr, tap_wires, taps_of, last_of, module_of}
 use Rattle.pr_lens_rtl.specs.Kept.{reads, place, is_root, is_kept, marked, all_marked, needed, next_marked, nexts_marked, stage_needed, stages_needed, marks_of, AreIn, AreClosed, IsClosed}
-use Rattle.pr_lens_rtl.specs.Bytes.{has_bytes, have_tap_bytes, has_pe_bytes}
+use Rattle.pr_code.specs.Spelling.{has_bytes, have_tap_bytes, has_pe_bytes}
 use Rattle.pr_lens_rtl.proofs.PeLaws.{place_below}
 use Rattle.pr_lens_rtl.proofs.ClockLaws.{AreStages}
 use Rattle.pr_lens_rtl.proofs.TraceLaws.{are_stages, outputs_taps}

@@ -17,7 +17,7 @@ use Rattle.pr_lens_rtl.specs.declared.vectors.Net.{Net}
 use Rattle.pr_lens_rtl.specs.Verilog.{Expr}
 use Rattle.pr_lens_rtl.specs.Module.{read, source_expr, picked_expr, shifted_expr, two_input, four_of, looked_expr, c_expr, carry_in_expr, sum_expr, result_expr, output_expr, carry_expr, pe_wires, pes_wires, state_registers, passed_registers, row_registers, stage_registers, stages_wires, stages_registers, hand_wires, tap_expr, tap_wires, taps_of, last_of, module_of}
 use Rattle.pr_lens_rtl.specs.Kept.{reads, place}
-use Rattle.pr_lens_rtl.specs.Bytes.{has_bytes, have_tap_bytes, has_pe_bytes}
+use Rattle.pr_code.specs.Spelling.{has_bytes, have_tap_bytes, has_pe_bytes}
 use Rattle.pr_lens_rtl.proofs.PeLaws.{site_at, place_below, Lawful, lawful_parts}
 use Rattle.pr_lens_rtl.proofs.ClockLaws.{AreStages}
 use Rattle.pr_lens_rtl.proofs.TraceLaws.{are_stages, outputs_taps}

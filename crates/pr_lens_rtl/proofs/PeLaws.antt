@@ -20,7 +20,7 @@ use Rattle.pr_lens_rtl.specs.declared.vectors.Part.{Part}
 use Rattle.pr_lens_rtl.specs.declared.vectors.Net.{Net}
 use Rattle.pr_lens_rtl.specs.Verilog.{Expr, Values, bit_of, width_of, value, Takes, Fit}
 use Rattle.pr_lens_rtl.specs.Module.{read, source_expr, shifted_expr, two_input, four_of, looked_expr, c_expr, carry_in_expr, picked_expr, result_expr, output_expr, sum_expr, carry_expr, pe_wires}
-use Rattle.pr_lens_rtl.specs.Bytes.{is_byte, has_source_byte, has_c_byte, has_pe_bytes}
+use Rattle.pr_code.specs.Spelling.{is_byte, has_source_byte, has_c_byte, has_pe_bytes}
 use Rattle.pr_lens_rtl.proofs.Tables.{table_law, four_small}
 
 -- what the vectors that stage s reads show, before column i

@@ -17,7 +17,7 @@ use Rattle.pr_lens_rtl.specs.declared.vectors.Net.{Net}
 use Rattle.pr_lens_rtl.specs.Verilog.{Expr, Values, width_of, value, assigned, Takes, Fit}
 use Rattle.pr_lens_rtl.specs.Module.{read, pes_wires, enabled, begun, read_valid, next_expr, state_register, state_registers, passed_expr, passed_registers, row_registers, stage_registers}
 use Rattle.pr_lens_rtl.specs.Traces.{at_places, is_one, held}
-use Rattle.pr_lens_rtl.specs.Bytes.{has_pe_bytes, is_byte}
+use Rattle.pr_code.specs.Spelling.{has_pe_bytes, is_byte}
 use Rattle.pr_lens_rtl.proofs.PeLaws.{site_at}
 use Rattle.pr_lens_rtl.proofs.StageLaws.{length-at_places, places_at, takes_left, takes_right, Reads, Columns, columns_law, long, all_at}
 

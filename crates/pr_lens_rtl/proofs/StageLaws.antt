@@ -13,7 +13,7 @@ use Rattle.pr_lens_rtl.specs.declared.vectors.Net.{Net}
 use Rattle.pr_lens_rtl.specs.Verilog.{Values, Assign, Takes, Fit}
 use Rattle.pr_lens_rtl.specs.Module.{pe_wires, pes_wires}
 use Rattle.pr_lens_rtl.specs.Traces.{at_places}
-use Rattle.pr_lens_rtl.specs.Bytes.{has_pe_bytes}
+use Rattle.pr_code.specs.Spelling.{has_pe_bytes}
 use Rattle.pr_lens_rtl.proofs.PeLaws.{Shows, site_at, lawful_parts, pe_law}
 
 -- ---- lists of places

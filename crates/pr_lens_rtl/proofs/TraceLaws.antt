@@ -17,7 +17,7 @@ use Rattle.pr_lens_rtl.specs.declared.vectors.Net.{Net}
 use Rattle.pr_lens_rtl.specs.Verilog.{Values, Takes, IsSettled, IsClock}
 use Rattle.pr_lens_rtl.specs.Module.{hand_wires, stages_wires, tap_wires, stages_registers, taps_of, last_of, module_of}
 use Rattle.pr_lens_rtl.specs.Traces.{at_places, is_one, all_held, sample_at, pins, result_at, samples_in, results_in, IsRun, IsRunFromReset, end_of, offers_none, ready_clocks}
-use Rattle.pr_lens_rtl.specs.Bytes.{has_pe_bytes, has_tap_byte, have_tap_bytes, has_bytes}
+use Rattle.pr_code.specs.Spelling.{has_pe_bytes, has_tap_byte, have_tap_bytes, has_bytes}
 use Rattle.pr_lens_rtl.proofs.StageLaws.{takes_left, takes_right}
 use Rattle.pr_lens_rtl.proofs.ClockLaws.{AreStages, AreSteps, all_on, all_off, all_reset, last_flag, last_row, ready_law, shown_law, taps_law, map_taps}
 

@@ -2,7 +2,7 @@
 
 ghost use Rattle.std.specs.Prelude.{ℕ, ◌≡◌, ◌≢◌, ◌<◌, ◌≤◌, ◌*◌, ◌^◌, Bool, true, false, List, ◌++◌, length};
 ghost use Rattle.pr_base.specs.Pe.{looked_up};
-ghost use Rattle.pr_lens_rtl.specs.Bytes.{has_bytes};
+ghost use Rattle.pr_code.specs.Spelling.{has_bytes};
 ghost use Rattle.pr_conf.specs.Shape.{Shape};
 ghost use Rattle.pr_conf.specs.Rules.{IsLawful};
 ghost use Rattle.pr_conf.specs.Through.{results_of, steps_of};

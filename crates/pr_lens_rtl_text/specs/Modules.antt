@@ -4,7 +4,7 @@ use Rattle.pr_lang.specs.declared.trees.Program.{Program}
 use Rattle.pr_conf.specs.Shape.{Shape}
 use Rattle.pr_conf.specs.Rules.{IsLawful}
 use Rattle.pr_conf.specs.Through.{output_widths}
-use Rattle.pr_lens_rtl.specs.Bytes.{has_bytes}
+use Rattle.pr_code.specs.Spelling.{has_bytes}
 use Rattle.pr_lens_rtl.specs.Verilog.{Module}
 use Rattle.pr_lens_rtl.specs.Kept.{kept_module}
 use Rattle.pr_lens_rtl_text.specs.declared.lines.Way.{Way}

@@ -3,7 +3,7 @@
 ghost use Rattle.std.specs.Prelude.{◌≡◌, true};
 ghost use Rattle.std.specs.List.{list_all};
 ghost use Rattle.pr_conf.specs.Configuration.{shape_of};
-ghost use Rattle.pr_lens_rtl.specs.Bytes.{has_bytes, has_c_byte, has_pe_bytes, has_source_byte, has_tap_byte, is_byte};
+ghost use Rattle.pr_code.specs.Spelling.{has_bytes, has_c_byte, has_pe_bytes, has_source_byte, has_tap_byte, is_byte};
 
 use pr_conf::{Bit, Configuration, Output, Pe, Source, Stage, Tap};
 
@@ -40,7 +40,7 @@ fn see_tap(tap: Tap)
 }
 
 /// Reads the constants of a processing element.
-#[tactic(auto, unfolding(pr_lens_rtl::specs::Bytes::has_pe_bytes))]
+#[tactic(auto, unfolding(pr_code::specs::Spelling::has_pe_bytes))]
 fn see_element(pe: &Pe)
     ensures { has_pe_bytes pe.now ≡ true }
 {

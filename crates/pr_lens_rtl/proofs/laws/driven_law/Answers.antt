@@ -4,7 +4,7 @@ use Rattle.pr_conf.specs.Shape.{Shape}
 use Rattle.pr_conf.specs.Rules.{IsLawful}
 use Rattle.pr_lens_rtl.specs.Module.{module_of}
 use Rattle.pr_lens_rtl.specs.Kept.{kept}
-use Rattle.pr_lens_rtl.specs.Bytes.{has_bytes}
+use Rattle.pr_code.specs.Spelling.{has_bytes}
 use Rattle.pr_lens_rtl.proofs.KeptLaws.{driven_kept, end_kept}
 use Rattle.pr_lens_rtl.proofs.OrderLaws.{driven_end, driven_law}
 use Rattle.pr_lens_rtl.proofs.DrivenLaws.{once_law, inside_law, numbers_law, few_taps}

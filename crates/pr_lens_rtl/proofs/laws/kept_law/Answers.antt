@@ -6,7 +6,7 @@ use Rattle.pr_lens_rtl.specs.declared.vectors.Net.{Net}
 use Rattle.pr_lens_rtl.specs.Verilog.{Values}
 use Rattle.pr_lens_rtl.specs.Module.{module_of}
 use Rattle.pr_lens_rtl.specs.Kept.{kept, IsClosed}
-use Rattle.pr_lens_rtl.specs.Bytes.{has_bytes}
+use Rattle.pr_code.specs.Spelling.{has_bytes}
 use Rattle.pr_lens_rtl.specs.Traces.{samples_in, results_in, IsRunFromReset, end_of, offers_none, ready_clocks}
 use Rattle.pr_lens_rtl.proofs.TraceLaws.{trace_law, whole_law}
 use Rattle.pr_lens_rtl.proofs.KeptLaws.{driven_kept, settles_law, next_law, whole_run, whole_more}

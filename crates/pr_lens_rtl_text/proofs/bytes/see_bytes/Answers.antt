@@ -5,7 +5,7 @@ use Rattle.pr_conf.specs.declared.outputs.Output.{Output}
 use Rattle.pr_conf.specs.declared.stages.Stage.{Stage}
 use Rattle.pr_conf.specs.Shape.{output_shape}
 use Rattle.pr_conf.specs.Configuration.{pes_of}
-use Rattle.pr_lens_rtl.specs.Bytes.{has_pe_bytes, has_tap_byte, have_tap_bytes}
+use Rattle.pr_code.specs.Spelling.{has_pe_bytes, has_tap_byte, have_tap_bytes}
 use Rattle.pr_lens_rtl_text.proofs.bytes.see_bytes.Goals as goal
 
 pub returns : goal.returns

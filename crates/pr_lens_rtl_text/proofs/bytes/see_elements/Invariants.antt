@@ -1,6 +1,6 @@
 use Rattle.std.proofs.Common.{◌≡◌, true, take}
 use Rattle.std.specs.List.{list_all}
-use Rattle.pr_lens_rtl.specs.Bytes.{has_pe_bytes}
+use Rattle.pr_code.specs.Spelling.{has_pe_bytes}
 use Rattle.pr_lens_rtl_text.proofs.bytes.see_elements.Given as goal
 
 abbrev pub invariant-loop-pe : goal.invariant-loop-pe

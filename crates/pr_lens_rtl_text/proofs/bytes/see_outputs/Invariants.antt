@@ -1,7 +1,7 @@
 use Rattle.std.proofs.Common.{◌≡◌, true, take}
 use Rattle.std.specs.List.{list_all}
 use Rattle.pr_conf.specs.declared.outputs.Output.{Output}
-use Rattle.pr_lens_rtl.specs.Bytes.{has_tap_byte}
+use Rattle.pr_code.specs.Spelling.{has_tap_byte}
 use Rattle.pr_lens_rtl_text.proofs.bytes.see_outputs.Given as goal
 
 abbrev pub invariant-loop-output : goal.invariant-loop-output

@@ -1,7 +1,7 @@
 use Rattle.std.proofs.Common.{◌≡◌, true, take}
 use Rattle.std.specs.List.{list_all}
 use Rattle.pr_conf.specs.declared.stages.Stage.{Stage}
-use Rattle.pr_lens_rtl.specs.Bytes.{has_pe_bytes}
+use Rattle.pr_code.specs.Spelling.{has_pe_bytes}
 use Rattle.pr_lens_rtl_text.proofs.bytes.see_stages.Given as goal
 
 abbrev pub invariant-loop-stage : goal.invariant-loop-stage
