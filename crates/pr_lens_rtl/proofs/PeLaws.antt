@@ -1,8 +1,9 @@
 -- The wires of a processing element hold what it makes.
-use Rattle.std.proofs.Common.{◌≡◌, ◌<◌, ◌≤◌, ℕ, zero, suc, ◌+◌, ◌-◌, ◌*◌, ◌/◌, ◌%◌, ◌^◌, ◌==◌, ◌&&◌, nat_lt, max, Bool, true, false, get_or, bit_and, bit_or, refl, sym, ap, ◌∙◌, arith, if◌then◌else◌}
+use Rattle.std.proofs.Common.{◌≡◌, ◌<◌, ◌≤◌, ℕ, zero, suc, ◌+◌, ◌-◌, ◌*◌, ◌/◌, ◌%◌, ◌^◌, ◌==◌, ◌&&◌, nat_lt, max, Bool, true, false, get_or, bit_and, bit_or, refl, sym, ap, subst, ◌∙◌, arith, if◌then◌else◌}
 use Rattle.std.specs.Int.{bit_at}
-use Rattle.std.proofs.Math.Nat.{mod-eq_of_lt, mul-le-mul_right}
-use Rattle.std.proofs.lemmas.Nat.{and_mod, or_mod}
+use Rattle.std.proofs.Math.Nat.{lt_of_lt_of_le, mod-eq_of_lt, mod-lt, mul-le-mul_right}
+use Rattle.std.proofs.Math.Pow.{mod-mod-pow, pow_mono}
+use Rattle.std.proofs.lemmas.Nat.{and_mask, and_mod, or_mod, pow_pos}
 use Rattle.std.proofs.lemmas.Nat.Bits.{bit_at-lt}
 use Rattle.std.proofs.lemmas.Grind.{and_numeral}
 use Rattle.std.proofs.lemmas.Bool.{and_parts, ltb-true, eqb-true}
@@ -19,7 +20,7 @@ use Rattle.pr_conf.specs.StageMap.{Sight, source_byte, source_bit, c_of, cin_of,
 use Rattle.pr_lens_rtl.specs.declared.vectors.Part.{Part}
 use Rattle.pr_lens_rtl.specs.declared.vectors.Net.{Net}
 use Rattle.pr_lens_rtl.specs.Verilog.{Expr, Values, bit_of, width_of, value, Takes, Fit}
-use Rattle.pr_lens_rtl.specs.Module.{read, source_expr, shifted_expr, two_input, four_of, looked_expr, c_expr, carry_in_expr, picked_expr, result_expr, output_expr, sum_expr, carry_expr, pe_wires}
+use Rattle.pr_lens_rtl.specs.Module.{read, source_expr, shifted_expr, two_input, four_of, looked_expr, c_expr, carry_in_expr, picked_expr, result_expr, result_net, low_bits, is_bare, output_expr, sum_expr, carry_expr, pe_wires}
 use Rattle.pr_code.specs.Spelling.{is_byte, has_source_byte, has_c_byte, has_pe_bytes}
 use Rattle.pr_lens_rtl.proofs.Tables.{table_law, four_small}
 
@@ -71,6 +72,46 @@ lawful_parts site pe h =
     let h2 = and_parts (a && hi) lo h3.0 in
     let h1 = and_parts a hi h2.0 in
     record { a = h1.0; hi = h1.1; lo = h2.1; c = h3.1; cin = h4.1 }
+
+-- ---- masks
+-- a mask of the lowest bits, which are fewer than eight
+record IsLow (mask k : ℕ) : Type 0 where
+  pub few : k ≤ 8
+  pub is : mask + 1 ≡ 2 ^ k
+
+one_more : (P : ℕ → ℕ → Type 0) (mask m k rest : ℕ) → P m k → P mask rest → P mask (if mask == m then k else rest)
+one_more P mask m k rest first other = go (mask == m) refl
+  where
+    go : (t : Bool) → (mask == m) ≡ t → P mask (if t then k else rest)
+    go true e = subst (λ q. P q k) (sym (eqb-true mask m e)) first
+    go false e = other
+
+abbrev IsLowIf : ℕ → ℕ → Type 0
+IsLowIf mask k = (k == 0) ≡ false → IsLow mask k
+
+mask_law : (mask : ℕ) → IsLowIf mask (low_bits mask)
+mask_law mask =
+    one_more IsLowIf mask 1 1 _ (λ h. record { few = omega arith; is = refl })
+    (one_more IsLowIf mask 3 2 _ (λ h. record { few = omega arith; is = refl })
+    (one_more IsLowIf mask 7 3 _ (λ h. record { few = omega arith; is = refl })
+    (one_more IsLowIf mask 15 4 _ (λ h. record { few = omega arith; is = refl })
+    (one_more IsLowIf mask 31 5 _ (λ h. record { few = omega arith; is = refl })
+    (one_more IsLowIf mask 63 6 _ (λ h. record { few = omega arith; is = refl })
+    (one_more IsLowIf mask 127 7 _ (λ h. record { few = omega arith; is = refl }) (λ h. absurd (cc))))))))
+
+-- the lowest bits of a number are those of its lowest byte under the mask
+low_and : (n mask k : ℕ) → k ≤ 8 → mask + 1 ≡ 2 ^ k → n % 2 ^ k % 256 ≡ bit_and (n % 256) mask
+low_and n mask k few is =
+    mod-eq_of_lt (lt_of_lt_of_le (mod-lt n (pow_pos k)) (pow_mono few))
+    ∙ sym (mod-mod-pow n (8 - k) k)
+    ∙ ap (λ e. n % 2 ^ e % 2 ^ k) (let e : 8 - k + k ≡ 8 = omega (arith, few) in e)
+    ∙ sym (and_mask (n % 256) k)
+    ∙ ap (bit_and (n % 256)) (let e : 2 ^ k - 1 ≡ mask = omega (arith, is) in e)
+
+bare_law : (mode : Mode) (mask : ℕ) → is_bare mode mask ≡ true → mask ≡ 255
+bare_law Mode.Plain mask h = eqb-true mask 255 h
+bare_law Mode.Sum mask h = absurd (cc)
+bare_law Mode.Zero mask h = eqb-true mask 255 h
 
 -- the result in nine bits
 abbrev pub full : Mode → ℕ → ℕ → ℕ → ℕ
@@ -254,6 +295,12 @@ module _ (now : Values) (N P bus s i : ℕ) (sight : Sight) (fit : Fit now) (sho
   result_law Mode.Sum w h = ap (λ n. n % 256) h
   result_law Mode.Zero w h = refl
 
+  net_law : (mode : Mode) → now (Net.Of Part.Sum s i) ≡ full mode (now (Net.Of Part.A s i)) (now (Net.Of Part.X s i)) (now (Net.Of Part.CarryIn s i))
+      → now (result_net mode s i) % 256 ≡ result_of mode (now (Net.Of Part.A s i)) (now (Net.Of Part.X s i)) (now (Net.Of Part.CarryIn s i))
+  net_law Mode.Plain h = mod-eq_of_lt (fit (Net.Of Part.X s i))
+  net_law Mode.Sum h = ap (λ n. n % 256) h
+  net_law Mode.Zero h = mod-eq_of_lt (fit (Net.Of Part.X s i))
+
   result_small : (mode : Mode) → result_of mode (now (Net.Of Part.A s i)) (now (Net.Of Part.X s i)) (now (Net.Of Part.CarryIn s i)) < 256
   result_small Mode.Plain = fit (Net.Of Part.X s i)
   result_small Mode.Sum = omega arith
@@ -261,7 +308,7 @@ module _ (now : Values) (N P bus s i : ℕ) (sight : Sight) (fit : Fit now) (sho
 
   output_law : (mode : Mode) (mask : ℕ) → mask < 256 → now (Net.Of Part.Sum s i) ≡ full mode (now (Net.Of Part.A s i)) (now (Net.Of Part.X s i)) (now (Net.Of Part.CarryIn s i))
       → let e = output_expr mode mask s i in value now e (max 8 (width_of e)) % 256 ≡ bit_and (result_of mode (now (Net.Of Part.A s i)) (now (Net.Of Part.X s i)) (now (Net.Of Part.CarryIn s i))) mask
-  output_law mode mask small h = go (mask == 255) refl
+  output_law mode mask small h = go (low_bits mask == 0) refl
     where
       r : ℕ
       r = result_of mode (now (Net.Of Part.A s i)) (now (Net.Of Part.X s i)) (now (Net.Of Part.CarryIn s i))
@@ -269,15 +316,22 @@ module _ (now : Values) (N P bus s i : ℕ) (sight : Sight) (fit : Fit now) (sho
       masked : Expr
       masked = Expr.And (result_expr mode s i) (Expr.Byte mask)
 
-      go : (t : Bool) → (mask == 255) ≡ t → let e = (if t then result_expr mode s i else masked) in value now e (max 8 (width_of e)) % 256 ≡ bit_and r mask
-      go true is =
+      whole : (t : Bool) → is_bare mode mask ≡ t → let e = (if t then result_expr mode s i else masked) in value now e (max 8 (width_of e)) % 256 ≡ bit_and r mask
+      whole true is =
           ap (λ n. n % 256) (result_law mode (max 8 (width_of (result_expr mode s i))) h)
-          ∙ sym (and_numeral r 254 refl) ∙ ap (bit_and r) (sym (eqb-true mask 255 is))
-      go false is =
+          ∙ sym (and_numeral r 254 refl) ∙ ap (bit_and r) (sym (bare_law mode mask is))
+      whole false is =
           ap (λ n. bit_and n (mask % 256) % 256) (result_law mode (max 8 (max (width_of (result_expr mode s i)) 8)) h)
           ∙ and_mod r (mask % 256) 8
           ∙ ap (λ n. bit_and n (mask % 256 % 256)) (mod-eq_of_lt (result_small mode))
           ∙ ap (bit_and r) (let e : mask % 256 % 256 ≡ mask = omega arith in e)
+
+      go : (t : Bool) → (low_bits mask == 0) ≡ t
+          → let e = (if t then (if is_bare mode mask then result_expr mode s i else masked) else Expr.Low (result_net mode s i) (low_bits mask)) in value now e (max 8 (width_of e)) % 256 ≡ bit_and r mask
+      go true is = whole (is_bare mode mask) refl
+      go false is =
+          let low = mask_law mask is in
+          low_and (now (result_net mode s i)) mask (low_bits mask) low.few low.is ∙ ap (λ n. bit_and n mask) (net_law mode h)
 
   -- ---- a processing element
   pub record Holds (pe : Pe) : Type 0 where

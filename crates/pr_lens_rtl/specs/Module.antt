@@ -101,11 +101,32 @@ sum_expr Mode.Zero s col = wide Part.X s col
 -- the result before the mask
 abbrev pub result_expr : Mode → ℕ → ℕ → Expr
 result_expr Mode.Plain s col = read Part.X s col
-result_expr Mode.Sum s col = Expr.Low (Net.Of Part.Sum s col)
+result_expr Mode.Sum s col = Expr.Low (Net.Of Part.Sum s col) 8
 result_expr Mode.Zero s col = read Part.X s col
 
+-- the vector whose lowest byte that is
+abbrev pub result_net : Mode → ℕ → ℕ → Net
+result_net Mode.Plain s col = Net.Of Part.X s col
+result_net Mode.Sum s col = Net.Of Part.Sum s col
+result_net Mode.Zero s col = Net.Of Part.X s col
+
+-- how many of the lowest bits a mask leaves, where those are fewer than eight: 3 for the mask 7. It is 0 for any other mask
+abbrev pub low_bits : ℕ → ℕ
+low_bits mask =
+    if mask == 1 then 1 else if mask == 3 then 2 else if mask == 7 then 3 else if mask == 15 then 4 else if mask == 31 then 5
+    else if mask == 63 then 6 else if mask == 127 then 7 else 0
+
+-- the output is the result without a mask. A sum has one even where it keeps all bits: Yosys then joins both additions into one
+abbrev pub is_bare : Mode → ℕ → Bool
+is_bare Mode.Plain mask = mask == 255
+is_bare Mode.Sum mask = false
+is_bare Mode.Zero mask = mask == 255
+
+abbrev pub masked_expr : Mode → ℕ → ℕ → ℕ → Expr
+masked_expr mode mask s col = if is_bare mode mask then result_expr mode s col else Expr.And (result_expr mode s col) (Expr.Byte mask)
+
 abbrev pub output_expr : Mode → ℕ → ℕ → ℕ → Expr
-output_expr mode mask s col = if mask == 255 then result_expr mode s col else Expr.And (result_expr mode s col) (Expr.Byte mask)
+output_expr mode mask s col = if low_bits mask == 0 then masked_expr mode mask s col else Expr.Low (result_net mode s col) (low_bits mask)
 
 abbrev pub carry_expr : Mode → ℕ → ℕ → Expr
 carry_expr Mode.Plain s col = Expr.Bit false

@@ -35,7 +35,7 @@ pub data Expr : Type 0 where
   Bit : Bool → Expr  -- 1'b1
   Read : Net → Expr  -- x
   Pick : Net → ℕ → Expr  -- x[3]
-  Low : Net → Expr  -- x[7:0]
+  Low : Net → ℕ → Expr  -- the lowest bits of a vector with zeros above them, eight bits together: x[7:0], and {5'd0, x[2:0]} of three
   Wide : Net → Expr  -- a vector with zeros above it, nine bits together: {1'b0, x} of one with eight
   Not : Expr → Expr  -- ~x
   And : Expr → Expr → Expr  -- x & y
@@ -53,7 +53,7 @@ width_of (Expr.Byte k) = 8
 width_of (Expr.Bit b) = 1
 width_of (Expr.Read n) = width n
 width_of (Expr.Pick n k) = 1
-width_of (Expr.Low n) = 8
+width_of (Expr.Low n k) = 8
 width_of (Expr.Wide n) = 9
 width_of (Expr.Not x) = width_of x
 width_of (Expr.And x y) = max (width_of x) (width_of y)
@@ -78,7 +78,7 @@ value now (Expr.Byte k) w = k % 256
 value now (Expr.Bit b) w = bit_of b
 value now (Expr.Read n) w = now n
 value now (Expr.Pick n k) w = bit_at (now n) k
-value now (Expr.Low n) w = now n % 256
+value now (Expr.Low n k) w = now n % 2 ^ k
 value now (Expr.Wide n) w = now n
 value now (Expr.Not x) w = 2 ^ w - 1 - value now x w
 value now (Expr.And x y) w = bit_and (value now x w) (value now y w)

@@ -18,7 +18,7 @@ atom_expr (Atom.Byte k) = Expr.Byte k
 atom_expr (Atom.Bit b) = Expr.Bit b
 atom_expr (Atom.Read n) = Expr.Read n
 atom_expr (Atom.Pick n k) = Expr.Pick n k
-atom_expr (Atom.Low n) = Expr.Low n
+atom_expr (Atom.Low n k) = Expr.Low n k
 atom_expr (Atom.Wide n) = Expr.Wide n
 
 abbrev pub factor_expr : Factor → Expr

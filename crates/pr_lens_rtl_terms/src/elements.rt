@@ -4,7 +4,7 @@ ghost use Rattle.std.specs.Prelude.{◌≡◌, ◌+◌, ◌-◌, ◌*◌, ◌<�
 ghost use Rattle.pr_lens_rtl.specs.declared.vectors.Net.{Net};
 ghost use Rattle.pr_lens_rtl.specs.declared.vectors.Part.{Part};
 ghost use Rattle.pr_lens_rtl.specs.Verilog.{Expr};
-ghost use Rattle.pr_lens_rtl.specs.Module.{source_expr, picked_expr, bit_expr, c_expr, carry_in_expr, two_input, four_of, is_one_at, looked_expr, shifted_expr, sum_expr, result_expr, output_expr, carry_expr, read};
+ghost use Rattle.pr_lens_rtl.specs.Module.{source_expr, picked_expr, bit_expr, c_expr, carry_in_expr, two_input, four_of, is_one_at, looked_expr, shifted_expr, sum_expr, result_expr, result_net, low_bits, is_bare, masked_expr, output_expr, carry_expr, read};
 ghost use Rattle.pr_lens_rtl_terms.specs.Terms.{atom_expr, form_expr, term_expr};
 
 use crate::terms::{Atom, Factor, Form, Sign, Term};
@@ -228,7 +228,55 @@ fn result_atom(mode: Mode, stage: u32, col: u32) -> Atom
 {
     match mode {
         Mode::Plain | Mode::Zero => Atom::Read(Net::Of(Part::X, stage, col)),
-        Mode::Sum => Atom::Low(Net::Of(Part::Sum, stage, col)),
+        Mode::Sum => Atom::Low(Net::Of(Part::Sum, stage, col), 8),
+    }
+}
+
+/// The vector whose lowest byte that is.
+fn result_net(mode: Mode, stage: u32, col: u32) -> Net
+    ensures { result ≡ result_net mode stage col }
+{
+    match mode {
+        Mode::Plain | Mode::Zero => Net::Of(Part::X, stage, col),
+        Mode::Sum => Net::Of(Part::Sum, stage, col),
+    }
+}
+
+/// How many of the lowest bits a mask leaves, where those are fewer than eight: 3 for the mask 7. It is 0 for any other mask.
+fn low_bits(mask: u8) -> u8
+    ensures { result ≡ low_bits mask }
+{
+    match mask {
+        1 => 1,
+        3 => 2,
+        7 => 3,
+        15 => 4,
+        31 => 5,
+        63 => 6,
+        127 => 7,
+        _ => 0,
+    }
+}
+
+/// Whether the output is the result without a mask.
+fn is_bare(mode: Mode, mask: u8) -> bool
+    ensures { result ≡ is_bare mode mask }
+{
+    match mode {
+        Mode::Plain | Mode::Zero => mask == 255,
+        Mode::Sum => false,
+    }
+}
+
+/// The result under its mask.
+fn masked_form(mode: Mode, mask: u8, stage: u32, col: u32) -> Form
+    ensures { form_expr result ≡ masked_expr mode mask stage col }
+{
+    let all = Factor::Plain(result_atom(mode, stage, col));
+    if is_bare(mode, mask) {
+        Form::One(all)
+    } else {
+        Form::Two(Sign::And, all, Factor::Plain(Atom::Byte(mask)))
     }
 }
 
@@ -236,11 +284,11 @@ fn result_atom(mode: Mode, stage: u32, col: u32) -> Atom
 pub fn output_form(mode: Mode, mask: u8, stage: u32, col: u32) -> Form
     ensures { form_expr result ≡ output_expr mode mask stage col }
 {
-    let all = Factor::Plain(result_atom(mode, stage, col));
-    if mask == 255 {
-        Form::One(all)
+    let low = low_bits(mask);
+    if low == 0 {
+        masked_form(mode, mask, stage, col)
     } else {
-        Form::Two(Sign::And, all, Factor::Plain(Atom::Byte(mask)))
+        Form::One(Factor::Plain(Atom::Low(result_net(mode, stage, col), low)))
     }
 }
 

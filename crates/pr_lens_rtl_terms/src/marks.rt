@@ -78,7 +78,9 @@ fn mark_atom(marks: &mut [bool], atom: Atom)
 {
     match atom {
         Atom::Byte(_) | Atom::Bit(_) => {}
-        Atom::Read(net) | Atom::Pick(net, _) | Atom::Low(net) | Atom::Wide(net) => mark(marks, net),
+        Atom::Read(net) | Atom::Pick(net, _) | Atom::Low(net, _) | Atom::Wide(net) => {
+            mark(marks, net)
+        }
     }
 }
 

@@ -13,8 +13,8 @@ pub enum Atom {
     Read(Net),
     /// A bit of a vector.
     Pick(Net, u8),
-    /// The lowest byte of a vector.
-    Low(Net),
+    /// The lowest bits of a vector with zeros above them, eight bits together.
+    Low(Net, u8),
     /// A vector in nine bits.
     Wide(Net),
 }

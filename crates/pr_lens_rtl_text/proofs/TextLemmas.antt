@@ -20,7 +20,7 @@ atom_is whole (Atom.Byte k) = refl
 atom_is whole (Atom.Bit b) = refl
 atom_is whole (Atom.Read n) = refl
 atom_is whole (Atom.Pick n k) = refl
-atom_is whole (Atom.Low n) = refl
+atom_is whole (Atom.Low n k) = refl
 atom_is whole (Atom.Wide n) = refl
 
 pub two_is : (whole : Bool) (sign : Sign) (x y : Expr) → expr_text whole (two_expr sign x y) ≡ between_text whole (sign_text sign) (expr_text false x) (expr_text false y)

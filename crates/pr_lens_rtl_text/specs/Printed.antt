@@ -44,12 +44,19 @@ open_text whole = if whole then [] else codes "("
 abbrev pub close_text : Bool → List ℕ
 close_text whole = if whole then [] else codes ")"
 
+-- the lowest bits of a vector, and the same with zeros above them, a byte together
+abbrev pub front_text : Net → ℕ → List ℕ
+front_text n k = net_text n ++ codes "[" ++ decimal (k - 1) ++ codes ":0]"
+
+abbrev pub low_text : Net → ℕ → List ℕ
+low_text n k = if k == 8 then front_text n k else codes "{" ++ decimal (8 - k) ++ codes "'d0, " ++ front_text n k ++ codes "}"
+
 abbrev pub expr_text : Bool → Expr → List ℕ
 expr_text whole (Expr.Byte k) = codes "8'd" ++ decimal k
 expr_text whole (Expr.Bit b) = bit_text b
 expr_text whole (Expr.Read n) = net_text n
 expr_text whole (Expr.Pick n k) = net_text n ++ codes "[" ++ decimal k ++ codes "]"
-expr_text whole (Expr.Low n) = net_text n ++ codes "[7:0]"
+expr_text whole (Expr.Low n k) = low_text n k
 expr_text whole (Expr.Wide n) = codes "{" ++ decimal (9 - width n) ++ codes "'d0, " ++ net_text n ++ codes "}"
 expr_text whole (Expr.Not x) = codes "~" ++ expr_text false x
 expr_text whole (Expr.And x y) = open_text whole ++ expr_text false x ++ codes " & " ++ expr_text false y ++ close_text whole

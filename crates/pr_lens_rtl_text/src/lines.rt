@@ -3,7 +3,7 @@
 ghost use Rattle.std.specs.Prelude.{◌≡◌, ◌-◌, ◌++◌, ◌∷◌, [], true, false, codes, decimal, OnOk};
 ghost use Rattle.pr_lens_rtl.specs.Verilog.{Expr, part_width, width};
 ghost use Rattle.pr_lens_rtl_terms.specs.Terms.{assign_of, assigns_of, atom_expr, change_expr, factor_expr, flag_expr, form_expr, term_expr};
-ghost use Rattle.pr_lens_rtl_text.specs.Printed.{bit_text, close_text, declared_text, expr_text, is_port, kept_text, line_text, net_text, open_text, part_text, range_text, wire_text};
+ghost use Rattle.pr_lens_rtl_text.specs.Printed.{bit_text, close_text, declared_text, expr_text, front_text, is_port, kept_text, line_text, low_text, net_text, open_text, part_text, range_text, wire_text};
 ghost use Rattle.pr_lens_rtl_text.specs.Signs.{sign_text, between_text};
 
 use pr_lens_rtl::{Net, Part};
@@ -118,12 +118,35 @@ fn put_pick(text: &mut Vec<u8>, net: Net, place: u8) -> Result<(), AllocError>
     put(text, "]")
 }
 
-/// Adds the lowest byte of a vector.
-fn put_low(text: &mut Vec<u8>, net: Net) -> Result<(), AllocError>
-    ensures { OnOk result (text.new.items ≡ text.old.items ++ (net_text net ++ codes "[7:0]")) }
+/// Adds the lowest bits of a vector.
+fn put_front(text: &mut Vec<u8>, net: Net, count: u8) -> Result<(), AllocError>
+    ensures { OnOk result (text.new.items ≡ text.old.items ++ front_text net count) }
 {
     put_net(text, net)?;
-    put(text, "[7:0]")
+    put_counted(text, "[", usize::from(count.saturating_sub(1)))?;
+    put(text, ":0]")
+}
+
+/// Adds the lowest bits of a vector with zeros above them.
+fn put_filled(text: &mut Vec<u8>, net: Net, count: u8) -> Result<(), AllocError>
+    ensures { OnOk result (text.new.items
+        ≡ text.old.items ++ (codes "{" ++ decimal (8 - count) ++ codes "'d0, " ++ front_text net count ++ codes "}")) }
+{
+    put_counted(text, "{", usize::from(8_u8.saturating_sub(count)))?;
+    put(text, "'d0, ")?;
+    put_front(text, net, count)?;
+    put(text, "}")
+}
+
+/// Adds the lowest bits of a vector as a byte.
+fn put_low(text: &mut Vec<u8>, net: Net, count: u8) -> Result<(), AllocError>
+    ensures { OnOk result (text.new.items ≡ text.old.items ++ low_text net count) }
+{
+    if count == 8 {
+        put_front(text, net, count)
+    } else {
+        put_filled(text, net, count)
+    }
 }
 
 /// Adds a vector in nine bits.
@@ -146,7 +169,7 @@ fn put_atom(text: &mut Vec<u8>, atom: Atom) -> Result<(), AllocError>
         Atom::Bit(bit) => put(text, bit_text(bit)),
         Atom::Read(net) => put_net(text, net),
         Atom::Pick(net, place) => put_pick(text, net, place),
-        Atom::Low(net) => put_low(text, net),
+        Atom::Low(net, count) => put_low(text, net, count),
         Atom::Wide(net) => put_wide(text, net),
     }
 }
