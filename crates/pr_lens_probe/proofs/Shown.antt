@@ -78,20 +78,22 @@ module _ (program : Program) (most : ℕ) (probed : Program) (none : offence pro
       }
 
 -- a program that shows the instances of another
-pub record IsShowing (program probed : Program) : Type 0 where
+pub record IsShowing (program : Program) (most : ℕ) (probed : Program) : Type 0 where
+  pub is : IsProbed program (probes_from most 0 (instances_of program)) probed
   pub lawful : offence probed ≡ None
   pub same : (equations_of probed).equations ≡ (equations_of program).equations
   pub columns : (xs : List (List ℕ)) → HasColumns program (equations_of probed).outputs xs (out probed xs)
 
 -- the same of items and instances that are lent
 pub showing : (program : Program) (most : ℕ) (probed : Program) (items : List Item) (all first second : List Instance) → offence program ≡ None → has_widths program ≡ true → turns_after (program_walk program) + length all ≤ 65536 → all ≡ instances_of program
-    → items ≡ program.items.items → first ≡ all → second ≡ all → HaveNames (is_within most) items → AreNamed (is_within most) first → IsProbed program (probes_from most 0 second) probed → IsShowing program probed
+    → items ≡ program.items.items → first ≡ all → second ≡ all → HaveNames (is_within most) items → AreNamed (is_within most) first → IsProbed program (probes_from most 0 second) probed → IsShowing program most probed
 showing program most probed items all first second none has turns are items_are first_are second_are statics named is =
     let few : turns_after (program_walk program) + length (instances_of program) ≤ 65536 = subst (λ (l : List Instance). turns_after (program_walk program) + length l ≤ 65536) are turns in
     let named' : AreNamed (is_within most) (instances_of program) = subst (AreNamed (is_within most)) (first_are ∙ are) named in
     let statics' : HaveNames (is_within most) program.items.items = subst (HaveNames (is_within most)) items_are statics in
     let is' : IsProbed program (probes_from most 0 (instances_of program)) probed = subst (λ (l : List Instance). IsProbed program (probes_from most 0 l) probed) (second_are ∙ are) is in
     record {
+      is = is';
       lawful = lawful program most probed none few named' statics' is';
       same = same program most probed none few named' statics' is';
       columns = columns program most probed none few named' statics' is' has;

@@ -13,7 +13,8 @@ use Rattle.pr_lang_meaning.specs.Programs as meant
 use Rattle.pr_lang_meaning.specs.Programs.{out}
 use Rattle.pr_expand_spec.specs.Programs.{equations_of}
 use Rattle.pr_probe.specs.Instances.{instances_of}
-use Rattle.pr_probe.specs.Probes.{numbers_at}
+use Rattle.pr_probe.specs.Probes.{IsProbed, numbers_at}
+use Rattle.pr_lens_probe.specs.Fresh.{probes_from}
 use Rattle.pr_lens_probe.specs.declared.probing.Probed.{Probed}
 use Rattle.pr_lens_probe.specs.declared.probing.ProbeFault.{ProbeFault}
 use Rattle.pr_lens_probe.specs.declared.probing.ProbeFault.TheVariants.{Turns, Memory}
@@ -46,9 +47,11 @@ pub record HasColumns (program : Program) (operands : List Operand) (xs rows : L
   pub are : rows ≡ columns_of (length xs) outputs streams
 
 -- a program that keeps the rules of scope, with its equations: they are those of a given program, and its outputs are the
--- given program's, and then its instances
+-- given program's, and then its instances. Its last items are outputs that stand for these, in their order
 pub record Shows (program : Program) (p : Probed) : Type 0 where
   pub instances : p.instances.items ≡ instances_of program
+  pub most : ℕ
+  pub probed : IsProbed program (probes_from most 0 (instances_of program)) p.scoped.program
   pub same : (equations_of p.scoped.program).equations ≡ (equations_of program).equations
   pub equations : shapes_of p.flat.equations.items ≡ (equations_of p.scoped.program).equations
   pub outputs : p.flat.outputs.items ≡ (equations_of p.scoped.program).outputs

@@ -4,6 +4,9 @@ use Rattle.pr_flat.specs.declared.equations.Operand.{Operand}
 use Rattle.pr_flat.specs.Shape.{EquationShape}
 use Rattle.pr_lang_meaning.specs.Programs.{out}
 use Rattle.pr_expand_spec.specs.Programs.{equations_of}
+use Rattle.pr_probe.specs.Instances.{instances_of}
+use Rattle.pr_probe.specs.Probes.{IsProbed}
+use Rattle.pr_lens_probe.specs.Fresh.{probes_from}
 use Rattle.pr_lens_probe.specs.Shown.{HasColumns}
 use Rattle.pr_lens_probe.proofs.Shown.{showing}
 use Rattle.pr_lens_probe.proofs.probing.probe.Goals as goal
@@ -30,6 +33,8 @@ returns-clause-shows c =
     let operands : flat.outputs.items ≡ (equations_of probed).outputs = c.in_ok-flat.ensures.outputs ∙ ap (λ (p : Program). (equations_of p).outputs) c.in_ok-scoped.ensures in
     record {
       instances = c.in_ok-instances.ensures;
+      most = c.longest-most.result;
+      probed = subst (λ (p : Program). IsProbed program (probes_from c.longest-most.result 0 (instances_of program)) p) (sym c.in_ok-scoped.ensures) s.is;
       same = ap (λ (p : Program). (equations_of p).equations) c.in_ok-scoped.ensures ∙ s.same;
       equations = c.in_ok-flat.ensures.equations;
       outputs = c.in_ok-flat.ensures.outputs;
