@@ -1,5 +1,5 @@
 -- What is told of names that are introduced again, used before they are assigned, or stand for something else.
-use Rattle.std.specs.Prelude.{ℕ, ◌+◌, ◌-◌, ◌==◌, ◌&&◌, Bool, true, false, not, List, ◌++◌, Option, None, Some, codes, nat_eq, option_map, if◌then◌else◌}
+use Rattle.std.specs.Prelude.{ℕ, ◌+◌, ◌-◌, ◌==◌, ◌&&◌, Bool, true, false, not, List, ◌++◌, Option, None, Some, codes, is_some, length, nat_eq, option_map, if◌then◌else◌}
 use Rattle.std.specs.Cmp.Lexicographic.{pointwise}
 use Rattle.pr_lang.specs.declared.tokens.Keyword.TheVariants as keyword
 use Rattle.pr_lang.specs.declared.tokens.Kind.{Kind}
@@ -8,6 +8,7 @@ use Rattle.pr_lang.specs.declared.tokens.Symbol.TheVariants.{OpenRound, At}
 use Rattle.pr_lang.specs.declared.tokens.Token.{Token}
 use Rattle.pr_lens_source.specs.declared.sources.Span.{Span}
 use Rattle.pr_lens_source.specs.Introduced.{is_fn}
+use Rattle.pr_lens_source.specs.Ranges.{first_between}
 use Rattle.pr_lens_source.specs.Spans.{item_of}
 use Rattle.pr_lens_source.specs.Tokens.{kind_of, bytes_of, first_of}
 use Rattle.pr_lens_rules.specs.declared.names.Introduction.{Introduction}
@@ -63,9 +64,38 @@ other_text text tokens spans token introduction =
 unfoldable pub assign_text : List ℕ
 assign_text = codes "Assign it in an item before this one, or see whether another name is meant.\n"
 
+-- ---- recurrences that read each other
+abbrev pub is_rec : Kind → Bool
+is_rec (Word keyword.Rec) = true
+is_rec _ = false
+
+abbrev pub is_at : Kind → Bool
+is_at (Mark At) = true
+is_at _ = false
+
+-- a recurrence begins with a token, and its name is that of another token
+unfoldable pub is_recurrence_of : List ℕ → List Token → ℕ → ℕ → Bool
+is_recurrence_of text tokens token first = is_rec (kind_of tokens first) && pointwise nat_eq (bytes_of text tokens (first + 1)) (bytes_of text tokens token)
+
+-- the first such recurrence behind the token
+unfoldable pub recurrence_behind : List ℕ → List Token → ℕ → Option ℕ
+recurrence_behind text tokens token = first_between (is_recurrence_of text tokens token) token (length tokens)
+
+abbrev pub stands_in_rec : List Token → Option ℕ → Bool
+stands_in_rec tokens None = false
+stands_in_rec tokens (Some own) = is_rec (kind_of tokens (own - 1))
+
+-- a token before `@` in a recurrence names one behind it
+unfoldable pub is_crossed : List ℕ → List Token → ℕ → Option ℕ → Bool
+is_crossed text tokens token target = stands_in_rec tokens target && (is_at (kind_of tokens (token + 1)) && is_some (recurrence_behind text tokens token))
+
+abbrev pub crossed_text : Bool → List ℕ
+crossed_text true = codes "A `rec` reads its own past and what stands before it. Two that read each other are one of two halves, as in `rec s:16 = 0 by cat(s@1{7..0} ^ a, s@1{15..8} ^ b);` with `s{15..8}` and `s{7..0}`.\n"
+crossed_text false = assign_text
+
 -- where it is introduced, but by the target of its own statement
 abbrev pub unassigned_by : List ℕ → List Token → List Span → ℕ → Option ℕ → Option Introduction → List ℕ
-unassigned_by text tokens spans token target None = assign_text
+unassigned_by text tokens spans token target None = crossed_text (is_crossed text tokens token target)
 unassigned_by text tokens spans token target (Some introduction) =
     if is_target target introduction.token then assign_text else other_text text tokens spans token introduction
 

@@ -1,8 +1,8 @@
 //! Names that are introduced again, used before they are assigned, or stand for something else.
 
-ghost use Rattle.std.specs.Prelude.{◌≡◌, ◌++◌, OnOk};
+ghost use Rattle.std.specs.Prelude.{◌≡◌, ◌<◌, ◌++◌, OnOk, length};
 ghost use Rattle.pr_lens_source.specs.Introduced.{is_fn};
-ghost use Rattle.pr_lens_rules.specs.Uses.{again_behind, again_text, alone_text, another_kind_text, apart_text, assign_text, called_text, early_behind, early_text, is_outside, is_signed, is_table_index, is_table_sort, known_text, other_text, outside_text, own_text, sort_in, stream_text, unassigned_by, unassigned_text, unknown_text, usage_before, usage_text};
+ghost use Rattle.pr_lens_rules.specs.Uses.{again_behind, again_text, alone_text, another_kind_text, apart_text, assign_text, called_text, crossed_text, early_behind, early_text, is_at, is_crossed, is_outside, is_rec, is_recurrence_of, is_signed, is_table_index, is_table_sort, known_text, other_text, outside_text, own_text, recurrence_behind, sort_in, stands_in_rec, stream_text, unassigned_by, unassigned_text, unknown_text, usage_before, usage_text};
 
 use crate::brackets::{kind_behind, square_around};
 use crate::instances::{
@@ -136,14 +136,77 @@ fn tell_other(
     put(message, outside_text(outside))
 }
 
+/// What to do about a name that is not introduced before it is used.
 #[tactic(auto, unfolding(crate::specs::Uses::assign_text))]
-fn tell_assign(message: &mut Vec<u8>) -> Result<(), AllocError>
-    ensures { OnOk result (message.new.items ≡ message.old.items ++ assign_text) }
+fn assign_text() -> &'static str
+    ensures { result.now ≡ assign_text }
 {
-    put(
-        message,
-        "Assign it in an item before this one, or see whether another name is meant.\n",
-    )
+    "Assign it in an item before this one, or see whether another name is meant.\n"
+}
+
+/// Whether a recurrence begins with this token.
+fn is_rec(kind: Kind) -> bool
+    ensures { result ≡ is_rec kind }
+{
+    matches!(kind, Kind::Word(Keyword::Rec))
+}
+
+fn is_at(kind: Kind) -> bool
+    ensures { result ≡ is_at kind }
+{
+    matches!(kind, Kind::Mark(Symbol::At))
+}
+
+/// Whether a recurrence begins with a token, and its name is that of another token.
+#[tactic(auto, unfolding(crate::specs::Uses::is_recurrence_of))]
+fn is_recurrence_of(source: &Source, token: usize, first: usize) -> bool
+    requires { first < length source.now.tokens.now }
+    ensures { result ≡ is_recurrence_of source.now.text.now source.now.tokens.now token first }
+{
+    is_rec(source.kind(first)) && source.bytes(first + 1) == source.bytes(token)
+}
+
+/// The first recurrence of the name of a token behind it.
+fn recurrence_behind(source: &Source, token: usize) -> Option<usize>
+    ensures { result ≡ recurrence_behind source.now.text.now source.now.tokens.now token }
+{
+    for first in token..source.tokens.len() {
+        if is_recurrence_of(source, token, first) {
+            return Some(first);
+        }
+    }
+    None
+}
+
+/// Whether a statement with this target is a recurrence.
+fn stands_in_rec(source: &Source, target: Option<usize>) -> bool
+    ensures { result ≡ stands_in_rec source.now.tokens.now target }
+{
+    match target {
+        None => false,
+        Some(own) => is_rec(source.kind(own.saturating_sub(1))),
+    }
+}
+
+/// Whether a token before `@` in a recurrence names one behind it.
+#[tactic(auto, unfolding(crate::specs::Uses::is_crossed))]
+fn is_crossed(source: &Source, token: usize, target: Option<usize>) -> bool
+    ensures { result ≡ is_crossed source.now.text.now source.now.tokens.now token target }
+{
+    stands_in_rec(source, target)
+        && is_at(kind_behind(source, token, 1))
+        && recurrence_behind(source, token).is_some()
+}
+
+/// What to do about a name that is not introduced before, in a recurrence that one behind it reads, or elsewhere.
+fn crossed_text(crossed: bool) -> &'static str
+    ensures { result.now ≡ crossed_text crossed }
+{
+    if crossed {
+        "A `rec` reads its own past and what stands before it. Two that read each other are one of two halves, as in `rec s:16 = 0 by cat(s@1{7..0} ^ a, s@1{15..8} ^ b);` with `s{15..8}` and `s{7..0}`.\n"
+    } else {
+        assign_text()
+    }
 }
 
 /// Tells what to do about an instance that is not assigned, in a statement with this target.
@@ -159,11 +222,11 @@ fn tell_by(
 {
     match introduced {
         None => {
-            return tell_assign(message);
+            return put(message, crossed_text(is_crossed(source, token, target)));
         }
         Some(introduction) => {
             if is_target(target, introduction.token) {
-                return tell_assign(message);
+                return put(message, assign_text());
             }
             return tell_other(message, source, token, introduction);
         }

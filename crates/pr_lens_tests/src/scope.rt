@@ -71,6 +71,14 @@ p:2:20: scope: rule 2 item 1
 ...write `@1` behind it...
 $ pipelens why p
 input x:8;
+rec a:8 = 0 by b@1 ^ x;
+rec b:8 = 0 by a@1;
+output y = a;
+= 3
+p:2:16: scope: rule 2 item 1
+...Two that read each other are one of two halves...
+$ pipelens why p
+input x:8;
 let t[0] = x;
 output y = t[1];
 = 3
