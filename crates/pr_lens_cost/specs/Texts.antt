@@ -1,6 +1,8 @@
 -- The text of a cost.
-use Rattle.std.specs.Prelude.{ℕ, ◌≡◌, ◌+◌, ◌-◌, ◌*◌, ◌/◌, ◌%◌, ◌<◌, ◌≤◌, Bool, true, false, nat_le, List, [], ◌∷◌, ◌++◌, length, map, replicate, Option, Some, None, codes, decimal, slice_index, if◌then◌else◌}
+use Rattle.std.specs.Prelude.{ℕ, ◌≡◌, ◌+◌, ◌-◌, ◌*◌, ◌/◌, ◌%◌, ◌<◌, ◌≤◌, Bool, true, false, nat_le, nat_lt, List, [], ◌∷◌, ◌++◌, length, map, replicate, Option, Some, None, codes, decimal, slice_index, if◌then◌else◌}
 use Rattle.std.specs.List.{flat_map}
+use Rattle.pr_lens_tracks.specs.Tables.{index_text}
+use Rattle.pr_lens_shares.specs.declared.shares.Share.{Share}
 use Rattle.pr_lens_cost.specs.declared.amounts.Cost.{Cost}
 use Rattle.pr_lens_cost.specs.declared.counts.StageCost.{StageCost}
 use Rattle.pr_lens_cost.specs.declared.cycles.Row.{Row}
@@ -28,6 +30,15 @@ savings_text (Some other) = way_text other.narrowed ++ decimal other.units ++ li
 unfoldable pub amounts_text : ℕ → ℕ → ℕ → Option Savings → List ℕ
 amounts_text equations units stages savings =
     line_text (codes "equations ") equations ++ line_text (codes "units ") units ++ line_text (codes "stages ") stages ++ savings_text savings
+
+-- ---- streams
+-- the units of a stream, and its name with its index
+unfoldable pub share_text : Share → List ℕ
+share_text share = right_text 8 share.units ++ codes "  " ++ share.name ++ index_text share.index ++ codes "\n"
+
+-- a line for each stream, under a heading, and nothing where there are none
+unfoldable pub streams_text : List Share → List ℕ
+streams_text shares = if nat_lt 0 (length shares) then codes "\n   units  stream\n" ++ flat_map share_text shares else []
 
 -- ---- stages
 abbrev pub cells_of : List StageCost → List ℕ
@@ -89,5 +100,6 @@ pub record IsCostText (cost : Cost) (savings : Option Savings) (columns samples 
   pub is : text
       ≡ amounts_text cost.equations cost.units (length cost.stages.items) savings
       ++ fullest_text number cells columns
+      ++ streams_text cost.shares.items
       ++ stages_text cost.stages.items
       ++ runs_text samples (rows_for (length cost.stages.items) samples)

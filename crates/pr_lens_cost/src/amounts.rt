@@ -1,14 +1,17 @@
-//! Equations, units and stages of a program.
+//! Equations, units and stages of a program, and the streams that take most units.
 
 ghost use Rattle.std.specs.Prelude.{◌≤◌, vec_len};
 
 use crate::counts::StageCost;
+use pr_lens_shares::Share;
 
 /// What a program costs.
 #[derive(Drop)]
 pub struct Cost {
     pub equations: usize,
     pub units: usize,
+    /// The streams for which most units are made.
+    pub shares: Vec<Share>,
     pub stages: Vec<StageCost>,
     pub ghost few: { vec_len stages ≤ 32768 },
 }

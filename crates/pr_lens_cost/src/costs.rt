@@ -8,7 +8,11 @@ use crate::amounts::Cost;
 use crate::counts::stage_costs;
 use pr_compile::{CompileFault, compile_front};
 use pr_compile_front::read_program;
+use pr_lens_shares::most_shares;
 use std::alloc::Global;
+
+/// How many streams are told of, at most.
+const MOST_STREAMS: usize = 10;
 
 /// What the program of a text costs on N columns and P registers, with its equations narrowed where that is asked for;
 /// else why it has no configuration there.
@@ -28,9 +32,12 @@ pub fn cost_of<const N: usize, const P: usize>(
     let front = read_program(alloc, text)?;
     let compiled = compile_front::<N, P>(alloc, &front, narrowed)?;
     let stages = stage_costs(alloc, &compiled.conf.stages)?;
+    let equations = front.flat.equations.len();
+    let shares = most_shares(alloc, front, narrowed, N, MOST_STREAMS)?;
     Ok(Cost {
-        equations: front.flat.equations.len(),
+        equations,
         units: compiled.units,
+        shares,
         stages,
     })
 }

@@ -1,10 +1,11 @@
-//! What a program costs: equations, units and stages, and how long its runs take.
+//! What a program costs: equations, units and stages, the streams that take most units, and how long its runs take.
 #![tactic(auto)]
 
 mod amounts;
 mod costs;
 mod counts;
 mod cycles;
+mod streams;
 mod tables;
 
 pub use amounts::Cost;

@@ -7,6 +7,7 @@ ghost use Rattle.pr_lens_cost.specs.Texts.{IsCostText, IsFullest, amounts_text, 
 use crate::amounts::Cost;
 use crate::counts::StageCost;
 use crate::cycles::{Row, rows_of};
+use crate::streams::put_streams;
 use itoa::Buffer;
 use pr_lens_text::{put, put_counted, put_many};
 use std::alloc::{AllocError, Global};
@@ -22,7 +23,7 @@ pub struct Savings {
 
 /// Adds a number that ends in a column of so many bytes.
 #[tactic(auto, unfolding(crate::specs::Texts::right_text))]
-fn put_right(text: &mut Vec<u8>, width: usize, number: u64) -> Result<(), AllocError>
+pub fn put_right(text: &mut Vec<u8>, width: usize, number: u64) -> Result<(), AllocError>
     ensures { OnOk result (text.new.items ≡ text.old.items ++ right_text width number) }
 {
     let mut buffer = Buffer::new();
@@ -213,6 +214,7 @@ pub fn put_cost(
     put_amounts(&mut text, cost, savings)?;
     let (number, cells) = fullest(&cost.stages);
     put_fullest(&mut text, number, cells, columns)?;
+    put_streams(&mut text, &cost.shares)?;
     put_stages(&mut text, &cost.stages)?;
     let rows = rows_of(alloc, cost.stages.len() as u64, samples)?;
     put_runs(&mut text, samples, &rows)?;

@@ -12,4 +12,6 @@ mod units;
 
 pub use ends::{input_item, output_item};
 pub use groups::{Unfit, find_unfit};
+pub use makers::first_unit;
+pub use ready::ready_of;
 pub use units::units_item;

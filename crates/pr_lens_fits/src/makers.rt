@@ -52,7 +52,7 @@ fn widening(widths: &Widths, equation: &Equation, to: u8) -> u32
 }
 
 /// The first unit of an equation.
-fn first_of(flat: &Flat, widths: &Widths, plan: &Plan, number: usize) -> u32
+pub fn first_unit(flat: &Flat, widths: &Widths, plan: &Plan, number: usize) -> u32
     requires plan { IsPlanOf plan.now (equations_of flat.now) widths.now flat.now.outputs.items }
     requires there { number < vec_len flat.now.equations }
     ensures { result ≡ first_unit (flat_plan flat.now widths.now) number }
@@ -68,7 +68,7 @@ fn has_begun(flat: &Flat, widths: &Widths, plan: &Plan, number: usize, unit: u32
     requires there { number < vec_len flat.now.equations }
     ensures { IsTrue result ↔ HasBegun (flat_plan flat.now widths.now) unit number }
 {
-    plan.reached[number] && first_of(flat, widths, plan, number) <= unit
+    plan.reached[number] && first_unit(flat, widths, plan, number) <= unit
 }
 
 /// The equation that makes the unit of this number: the last one with units whose first unit is not behind it.

@@ -14,19 +14,19 @@ use pr_width::Widths;
 use std::alloc::{AllocError, Global};
 
 /// The equations of which a program's net is made, with their widths: narrowed, or as they are.
-fn ready_of(alloc: Global, front: Front, narrowed: bool) -> Result<(Flat, Widths), AllocError>
-    requires { AreWidths (equations_of front.flat) front.widths }
+pub fn ready_of(
+    alloc: Global,
+    flat: Flat,
+    widths: Widths,
+    narrowed: bool,
+) -> Result<(Flat, Widths), AllocError>
+    requires { AreWidths (equations_of flat) widths }
     ensures widths { IfOk result (λ r. AreWidths (equations_of r.0) r.1) }
     ensures narrowed { IsTrue narrowed → IfOk result (λ r. AreNarrowed
-        (equations_of front.flat) front.flat.outputs.items front.widths (equations_of r.0) r.1) }
-    ensures whole { IsFalse narrowed → IfOk result (λ r. (r.0 ≡ front.flat) × (r.1 ≡ front.widths)) }
-    ensures outputs { IfOk result (λ r. r.0.outputs.items ≡ front.flat.outputs.items) }
+        (equations_of flat) flat.outputs.items widths (equations_of r.0) r.1) }
+    ensures whole { IsFalse narrowed → IfOk result (λ r. (r.0 ≡ flat) × (r.1 ≡ widths)) }
+    ensures outputs { IfOk result (λ r. r.0.outputs.items ≡ flat.outputs.items) }
 {
-    let Front {
-        scoped: _scoped,
-        flat,
-        widths,
-    } = front;
     if narrowed {
         narrow(alloc, &flat, &widths)
     } else {
@@ -70,7 +70,12 @@ pub fn ready(
 {
     match read_program(alloc, text) {
         Ok(front) => {
-            let made = ready_of(alloc, front, narrowed)?;
+            let Front {
+                scoped: _scoped,
+                flat,
+                widths,
+            } = front;
+            let made = ready_of(alloc, flat, widths, narrowed)?;
             Ok(Some(made))
         }
         Err(fault) => {

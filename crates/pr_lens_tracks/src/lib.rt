@@ -14,3 +14,4 @@ pub use changes::put_time;
 pub use looks::{Form, Look, Track};
 pub use names::{is_listed, name_at, unknown_in};
 pub use pens::{Pen, put_head};
+pub use tables::put_index;

@@ -11,7 +11,7 @@ use pr_lens_text::{put, put_number};
 use std::alloc::AllocError;
 
 /// Adds the index of a stream, where it has one.
-fn put_index(text: &mut Vec<u8>, index: Option<u64>) -> Result<(), AllocError>
+pub fn put_index(text: &mut Vec<u8>, index: Option<u64>) -> Result<(), AllocError>
     ensures { OnOk result (text.new.items ≡ text.old.items ++ index_text index) }
 {
     match index {

@@ -9,6 +9,15 @@ compile_front-requires g c =
     let passed = c.in_ok-front.ensures.passed in
     (omega arith, (passed.flat, (passed.widths.are, (c.requires.columns, (c.requires.most_columns, (c.requires.registers, c.requires.most_registers))))))
 
+pub most_shares-requires-clause-equations : goal.most_shares-requires-clause-equations
+most_shares-requires-clause-equations g c = c.in_ok-front.ensures.passed.flat
+
+pub most_shares-requires-clause-widths : goal.most_shares-requires-clause-widths
+most_shares-requires-clause-widths g c = c.in_ok-front.ensures.passed.widths.are
+
+pub most_shares-requires-clause-columns : goal.most_shares-requires-clause-columns
+most_shares-requires-clause-columns g c = (c.requires.columns, c.requires.most_columns)
+
 pub returns-in_err-front-clause-refused : goal.returns-in_err-front-clause-refused
 returns-in_err-front-clause-refused g c =
     let p = err_from_is_err_and c.from_residual.result c.from_residual.ensures.1 in
@@ -24,4 +33,4 @@ returns-in_err-compiled-clause-refused g c =
 pub returns-clause-cost : goal.returns-clause-cost
 returns-clause-cost g c =
     let compiled = c.in_ok-compiled.compiled in
-    cost_is g.row.N g.row.P c.args.narrowed c.args.text.now c.in_ok-front.front compiled.conf c.deref.result.now _ c.in_ok-front.ensures.passed c.in_ok-compiled.ensures.configured c.in_ok-compiled.ensures.units (search rules) c.deref.ensures.value c.in_ok-stages.ensures
+    cost_is g.row.N g.row.P c.args.narrowed c.args.text.now c.in_ok-front.front compiled.conf c.deref.result.now _ c.in_ok-front.ensures.passed c.in_ok-compiled.ensures.configured c.in_ok-compiled.ensures.units (search rules) c.in_ok-shares.ensures c.deref.ensures.value c.in_ok-stages.ensures

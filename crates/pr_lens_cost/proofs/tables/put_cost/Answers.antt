@@ -1,8 +1,9 @@
 use Rattle.std.proofs.Common.{◌≡◌, ◌++◌, ◌∙◌, ℕ, List, length, ap, ap₂, subst, arith}
 use Rattle.std.proofs.lemmas.Result.{IfOk-from_err}
+use Rattle.pr_lens_shares.specs.declared.shares.Share.{Share}
 use Rattle.pr_lens_cost.specs.declared.counts.StageCost.{StageCost}
 use Rattle.pr_lens_cost.specs.declared.cycles.Row.{Row}
-use Rattle.pr_lens_cost.specs.Texts.{IsFullest, amounts_text, fullest_text, stages_text, runs_text, rows_for}
+use Rattle.pr_lens_cost.specs.Texts.{IsFullest, amounts_text, fullest_text, streams_text, stages_text, runs_text, rows_for}
 use Rattle.pr_lens_cost.proofs.tables.put_cost.Goals as goal
 
 pub returns-in_err-put_amounts : goal.returns-in_err-put_amounts
@@ -10,6 +11,9 @@ returns-in_err-put_amounts c = IfOk-from_err _ _ c.from_residual.ensures.0
 
 pub returns-in_err-put_fullest : goal.returns-in_err-put_fullest
 returns-in_err-put_fullest c = IfOk-from_err _ _ c.from_residual-in_err-put_fullest.ensures.0
+
+pub returns-in_err-put_streams : goal.returns-in_err-put_streams
+returns-in_err-put_streams c = IfOk-from_err _ _ c.from_residual-in_err-put_streams.ensures.0
 
 pub returns-in_err-put_stages : goal.returns-in_err-put_stages
 returns-in_err-put_stages c = IfOk-from_err _ _ c.from_residual-in_err-put_stages.ensures.0
@@ -26,10 +30,11 @@ returns c =
     let stages = cost.stages.items in
     let shown = c.fullest-number.result in
     let count : c.len.result ≡ length stages = omega (arith, c.len.ensures, cost.stages.ok.0) in
-    let rows = c.deref-3.ensures.value ∙ c.in_ok-rows.ensures ∙ ap (λ (n : ℕ). rows_for n c.args.samples) count in
+    let rows = c.deref-4.ensures.value ∙ c.in_ok-rows.ensures ∙ ap (λ (n : ℕ). rows_for n c.args.samples) count in
     let amounts = c.in_ok-put_amounts.ensures ∙ ap (λ (t : List ℕ). t ++ amounts_text cost.equations cost.units (length stages) c.args.savings) c.new-text.ensures.items in
     let fullest = c.in_ok-put_fullest.ensures ∙ ap (λ (t : List ℕ). t ++ fullest_text shown.0 shown.1 c.args.columns) amounts in
-    let lines = c.in_ok-put_stages.ensures ∙ ap₂ (λ (t : List ℕ) (ss : List StageCost). t ++ stages_text ss) fullest c.deref-2.ensures.value in
+    let streams = c.in_ok-put_streams.ensures ∙ ap₂ (λ (t : List ℕ) (ss : List Share). t ++ streams_text ss) fullest c.deref-2.ensures.value in
+    let lines = c.in_ok-put_stages.ensures ∙ ap₂ (λ (t : List ℕ) (ss : List StageCost). t ++ stages_text ss) streams c.deref-3.ensures.value in
     record {
       number = shown.0;
       cells = shown.1;
