@@ -1,3 +1,4 @@
 pub mod CycleLaws
 pub mod LineLaws
 pub mod WordLaws
+pub mod WindowLaws

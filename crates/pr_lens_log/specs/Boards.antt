@@ -1,5 +1,6 @@
 -- Which stage stands in which stripe.
-use Rattle.std.specs.Prelude.{ℕ, List, Option, Some, None, slice_get, slice_set, nat_lt, length, if◌then◌else◌}
+use Rattle.std.specs.Prelude.{ℕ, List, [], ◌∷◌, Option, Some, None, slice_get, slice_set, nat_lt, length, if◌then◌else◌}
+use Rattle.pr_lens_log.specs.declared.lines.Logged.{Logged}
 
 abbrev pub stage_or_none : Option (Option ℕ) → Option ℕ
 stage_or_none None = None
@@ -14,3 +15,8 @@ abbrev pub after_turn : List (Option ℕ) → Option (ℕ × ℕ) → List (Opti
 after_turn stages None = stages
 after_turn stages (Some (stage, stripe)) =
     if nat_lt stripe (length stages) then slice_set stages stripe (Some stage) else stages
+
+-- after these cycles
+abbrev pub after_turns : List (Option ℕ) → List Logged → List (Option ℕ)
+after_turns stages [] = stages
+after_turns stages (c ∷ cs) = after_turns (after_turn stages c.turn.configured) cs

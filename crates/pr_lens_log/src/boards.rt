@@ -1,8 +1,9 @@
 //! Which stage stands in which stripe.
 
 ghost use Rattle.std.specs.Prelude.{◌≡◌, IfOk, None, replicate};
-ghost use Rattle.pr_lens_log.specs.Boards.{stage_in, after_turn};
+ghost use Rattle.pr_lens_log.specs.Boards.{stage_in, after_turn, after_turns};
 
+use crate::lines::Logged;
 use pr_conf::Turn;
 use std::alloc::{AllocError, Global};
 
@@ -44,6 +45,14 @@ impl Board {
             if stripe < self.stages.len() {
                 self.stages[stripe] = Some(stage);
             }
+        }
+    }
+    /// These cycles go by, one after the other.
+    pub fn run(&mut self, cycles: &[Logged])
+        ensures { self.new.stages.items ≡ after_turns self.old.stages.items cycles.now }
+    {
+        for logged in cycles {
+            self.step(&logged.turn);
         }
     }
 }
