@@ -14,6 +14,7 @@ _pipelens() {
     local options='
         --csv
         --fabric
+        --from
         --help
         --json
         --name
@@ -22,6 +23,7 @@ _pipelens() {
         --samples
         --seed
         --signed
+        --to
     '
     # (a word is cut at `=`)
     [ "$before" != = ] || before=${COMP_WORDS[COMP_CWORD - 2]}
@@ -29,7 +31,7 @@ _pipelens() {
     COMPREPLY=()
     case $before in
     --fabric) mapfile -t COMPREPLY < <(compgen -W 'base wide' -- "$word") && return ;;
-    --name | --samples | --signed | --seed) return ;;
+    --from | --name | --samples | --signed | --seed | --to) return ;;
     esac
     case $word in
     -*) mapfile -t COMPREPLY < <(compgen -W "$options" -- "$word") && return ;;

@@ -1,9 +1,12 @@
 -- The text of a picture. Numbers are as far as 64 bits count.
 use Rattle.std.specs.Prelude.{ℕ, zero, suc, ◌+◌, ◌-◌, ◌==◌, ◌*◌, ◌/◌, ◌%◌, min, max, Bool, true, false, not, ◌&&◌, is_some, List, [], ◌∷◌, ◌++◌, length, take, replicate, Option, Some, None, codes, decimal, if◌then◌else◌}
 use Rattle.pr_conf.specs.declared.turns.Turn.{Turn}
+use Rattle.pr_lens_chart.specs.declared.frames.Left.{Left}
 use Rattle.pr_lens_chart.specs.declared.pieces.Area.{Area}
 use Rattle.pr_lens_log.specs.declared.lines.Logged.{Logged}
-use Rattle.pr_lens_log.specs.Boards.{after_turn, stage_in}
+use Rattle.pr_lens_log.specs.declared.windows.Part.{Part}
+use Rattle.pr_lens_log.specs.Boards.{after_turn, after_turns, stage_in}
+use Rattle.pr_lens_log.specs.Windows.{first_of, part_in}
 use Rattle.pr_lens_chart.specs.Charts.{area_text, begin_text, words_text}
 use Rattle.pr_lens_log.specs.Lines.{is_into}
 
@@ -111,11 +114,15 @@ style_text =
 abbrev pub legend_height : ℕ → ℕ
 legend_height stages = counted (max (counted (stages + 15) / 16) 1 * 24)
 
--- and the line that says how many cycles are left out
-abbrev pub left_height : ℕ → ℕ
-left_height left = if left == 0 then 0 else 18
+-- no cycle is left out
+abbrev pub is_none_left : Left → Bool
+is_none_left left = left.before == 0 && left.behind == 0
 
-unfoldable pub picture_head : ℕ → ℕ → ℕ → ℕ → List ℕ
+-- and the line that says which cycles are left out
+abbrev pub left_height : Left → ℕ
+left_height left = if is_none_left left then 0 else 18
+
+unfoldable pub picture_head : ℕ → ℕ → ℕ → Left → List ℕ
 picture_head cycles stripes stages left =
     svg_text (max (behind 100 30 cycles) 660) (lower (lower (lower (below stripes) (legend_height stages)) 106) (left_height left)) ++ style_text ++ words_text (codes "t") 8 32 (codes "cycle")
 
@@ -148,26 +155,37 @@ legend_words y =
     words_text (codes "t") 8 y (codes "dark: the stage comes into the stripe; pale: it computes; a black corner: the state of the stage")
     ++ words_text (codes "t") 8 (lower y 18) (codes "before is saved; grey: the cycle is stalled, and nothing moves")
 
--- how many cycles of so many are left out, where some are
-unfoldable pub left_words : ℕ → ℕ → ℕ → List ℕ
+-- which cycles are left out
+unfoldable pub left_ends : Left → List ℕ
+left_ends left =
+    if left.before == 0 then codes "the last " ++ decimal left.behind
+    else if left.behind == 0 then codes "the first " ++ decimal left.before
+    else codes "the first " ++ decimal left.before ++ codes " and the last " ++ decimal left.behind
+
+-- which cycles of so many are left out, where some are
+unfoldable pub left_words : Left → ℕ → ℕ → List ℕ
 left_words left cycles y =
-    if left == 0 then []
-    else begin_text (codes "t") 8 y ++ codes "left out: the last " ++ decimal left ++ codes " of " ++ decimal cycles ++ codes " cycles</text>\n"
+    if is_none_left left then []
+    else begin_text (codes "t") 8 y ++ codes "left out: " ++ left_ends left ++ codes " of " ++ decimal cycles ++ codes " cycles</text>\n"
 
 -- of a log of so many cycles, of which so many are left out
-unfoldable pub legend_text : ℕ → ℕ → ℕ → ℕ → List ℕ
+unfoldable pub legend_text : ℕ → ℕ → Left → ℕ → List ℕ
 legend_text stages cycles left y =
     words_text (codes "t") 8 (lower y 13) (codes "stage") ++ stage_keys stages stages y
     ++ legend_words (counted (legend_height stages + lower y 14))
     ++ left_words left cycles (lower (counted (legend_height stages + lower y 14)) 36)
 
--- the picture of these cycles, the first of a log of so many
-unfoldable pub picture_text : ℕ → ℕ → ℕ → List Logged → List ℕ
-picture_text stages stripes all cycles =
-    picture_head (length cycles) stripes stages (all - length cycles) ++ row_names stripes
-    ++ columns_text stages stripes 0 (replicate stripes None) cycles
-    ++ legend_text stages all (all - length cycles) (lower (below stripes) 56) ++ codes "</svg>\n"
+-- which cycles of so many are left out where these are drawn
+abbrev pub left_of : ℕ → Part → Left
+left_of all part = record { before = part.start; behind = all - part.end }
 
--- the picture of a log, of 400 cycles at most
-abbrev pub chart_text : ℕ → ℕ → List Logged → List ℕ
-chart_text stages stripes cycles = picture_text stages stripes (length cycles) (take 400 cycles)
+-- the picture of these cycles of a log
+unfoldable pub picture_text : Part → ℕ → ℕ → List Logged → List ℕ
+picture_text part stages stripes cycles =
+    picture_head (length (part_in part cycles)) stripes stages (left_of (length cycles) part) ++ row_names stripes
+    ++ columns_text stages stripes 0 (after_turns (replicate stripes None) (take part.start cycles)) (part_in part cycles)
+    ++ legend_text stages (length cycles) (left_of (length cycles) part) (lower (below stripes) 56) ++ codes "</svg>\n"
+
+-- the picture of the first of these cycles of a log, of 400 at most
+abbrev pub chart_text : Part → ℕ → ℕ → List Logged → List ℕ
+chart_text part = picture_text (first_of 400 part)

@@ -1,6 +1,6 @@
 //! The cells: what a stripe does in a cycle.
 
-ghost use Rattle.std.specs.Prelude.{◌≡◌, ◌++◌, ◌&&◌, OnOk, is_some, replicate, None};
+ghost use Rattle.std.specs.Prelude.{◌≡◌, ◌++◌, ◌&&◌, OnOk, is_some};
 ghost use Rattle.pr_lens_log.specs.Boards.{stage_in};
 ghost use Rattle.pr_lens_log.specs.Lines.{is_into};
 ghost use Rattle.pr_lens_chart.specs.Pictures.{cell_text, class_text, column_text, column_words, columns_text, corner_text, entry_words, save_cell, stage_cell, stall_text, stripe_area, stripe_cell, stripe_cells};
@@ -10,7 +10,7 @@ use crate::frames::{HIGH, TOP, WIDE, below, column_at};
 use crate::pieces::{Area, put_area, put_digits};
 use pr_lens_log::{Board, Log, Logged};
 use pr_lens_text::{put, put_counted};
-use std::alloc::{AllocError, Global};
+use std::alloc::AllocError;
 
 /// Adds a black corner.
 #[tactic(auto, unfolding(crate::specs::Pictures::corner_text))]
@@ -201,21 +201,20 @@ fn put_column(
     put_numbers(text, logged, log.stripes, x)
 }
 
-/// Adds these cycles, the first of the log.
+/// Adds these cycles of a log, before which these stages stand in the stripes.
 #[tactic(auto, unfolding(crate::specs::Pictures::columns_text))]
 pub fn put_cycles(
-    alloc: Global,
     text: &mut Vec<u8>,
     log: &Log,
+    board: &mut Board,
     cycles: &[Logged],
 ) -> Result<(), AllocError>
     ensures { OnOk result (text.new.items ≡ text.old.items
-        ++ columns_text log.now.stages log.now.stripes 0 (replicate log.now.stripes None) cycles.now) }
+        ++ columns_text log.now.stages log.now.stripes 0 board.old.stages.items cycles.now) }
 {
-    let mut board = Board::make(alloc, log.stripes)?;
     for (number, logged) in cycles.iter().enumerate() {
         board.step(&logged.turn);
-        put_column(text, &board, logged, log, column_at(number))?;
+        put_column(text, board, logged, log, column_at(number))?;
     }
     Ok(())
 }

@@ -1,7 +1,7 @@
 //! What stands around the cells.
 
 ghost use Rattle.std.specs.Prelude.{◌≡◌, ◌++◌, OnOk, codes, length};
-ghost use Rattle.pr_lens_chart.specs.Pictures.{below, column_at, left_height, left_words, legend_height, legend_text, legend_words, lower, picture_head, row_names, stage_key, stage_keys, stripe_name, stripe_names, style_text, svg_text};
+ghost use Rattle.pr_lens_chart.specs.Pictures.{below, column_at, left_ends, left_height, left_words, legend_height, legend_text, legend_words, lower, picture_head, row_names, stage_key, stage_keys, stripe_name, stripe_names, style_text, svg_text};
 
 use crate::colours::put_fill;
 use crate::pieces::{Area, begin_words, put_area, put_digits, put_words};
@@ -83,27 +83,33 @@ fn legend_height(stages: usize) -> usize
     rows.max(1).saturating_mul(ROW_HIGH)
 }
 
-/// How high the line is that says how many cycles are left out.
-fn left_height(left: usize) -> usize
-    ensures { result ≡ left_height left }
-{
-    if left == 0 { 0 } else { 18 }
+/// How many cycles of a log are left out, before those that are drawn and behind them.
+#[derive(Clone, Copy)]
+pub struct Left {
+    pub before: usize,
+    pub behind: usize,
 }
 
-/// Begins a picture of so many cycles, with a legend of so many stages, where so many cycles are left out.
+/// How high the line is that says which cycles are left out.
+fn left_height(left: Left) -> usize
+    ensures { result ≡ left_height left }
+{
+    if left.before == 0 && left.behind == 0 {
+        0
+    } else {
+        18
+    }
+}
+
+/// Begins a picture of so many cycles of a log, of which so many are left out.
 #[tactic(auto, unfolding(crate::specs::Pictures::picture_head))]
-pub fn put_head(
-    text: &mut Vec<u8>,
-    cycles: usize,
-    stripes: usize,
-    stages: usize,
-    left: usize,
-) -> Result<(), AllocError>
-    ensures { OnOk result (text.new.items ≡ text.old.items ++ picture_head cycles stripes stages left) }
+pub fn put_head(text: &mut Vec<u8>, cycles: usize, log: &Log, left: Left) -> Result<(), AllocError>
+    ensures { OnOk result (text.new.items ≡ text.old.items
+        ++ picture_head cycles log.now.stripes log.now.stages left) }
 {
     let width = cycles.saturating_mul(WIDE).saturating_add(LEFT + 20);
-    let height = below(stripes)
-        .saturating_add(legend_height(stages))
+    let height = below(log.stripes)
+        .saturating_add(legend_height(log.stages))
         .saturating_add(106)
         .saturating_add(left_height(left));
     put_size(text, width.max(660), height)?;
@@ -193,23 +199,39 @@ fn put_meaning(text: &mut Vec<u8>, y: usize) -> Result<(), AllocError>
     )
 }
 
-/// Adds how many cycles of so many are left out, where some are.
+/// Adds which cycles are left out.
+#[tactic(auto, unfolding(crate::specs::Pictures::left_ends))]
+fn put_left_ends(text: &mut Vec<u8>, left: Left) -> Result<(), AllocError>
+    ensures { OnOk result (text.new.items ≡ text.old.items ++ left_ends left) }
+{
+    if left.before == 0 {
+        return put_counted(text, "the last ", left.behind);
+    }
+    if left.behind == 0 {
+        return put_counted(text, "the first ", left.before);
+    }
+    put_counted(text, "the first ", left.before)?;
+    put_counted(text, " and the last ", left.behind)
+}
+
+/// Adds which cycles of so many are left out, where some are.
 #[tactic(auto, unfolding(crate::specs::Pictures::left_words))]
-fn put_left(text: &mut Vec<u8>, left: usize, cycles: usize, y: usize) -> Result<(), AllocError>
+fn put_left(text: &mut Vec<u8>, left: Left, cycles: usize, y: usize) -> Result<(), AllocError>
     ensures { OnOk result (text.new.items ≡ text.old.items ++ left_words left cycles y) }
 {
-    if left == 0 {
+    if left.before == 0 && left.behind == 0 {
         return Ok(());
     }
     begin_words(text, "t", 8, y)?;
-    put_counted(text, "left out: the last ", left)?;
+    put(text, "left out: ")?;
+    put_left_ends(text, left)?;
     put_counted(text, " of ", cycles)?;
     put(text, " cycles</text>\n")
 }
 
 /// Adds the legend of a picture that leaves so many cycles out.
 #[tactic(auto, unfolding(crate::specs::Pictures::legend_text))]
-pub fn put_legend(text: &mut Vec<u8>, log: &Log, left: usize) -> Result<(), AllocError>
+pub fn put_legend(text: &mut Vec<u8>, log: &Log, left: Left) -> Result<(), AllocError>
     ensures { OnOk result (text.new.items ≡ text.old.items
         ++ legend_text log.now.stages (length log.now.cycles.items) left (lower (below log.now.stripes) 56)) }
 {

@@ -30,7 +30,13 @@ $ pipelens why p --fabric narrow
 $ pipelens cost p --samples 4294967296
 = 2
 ...
-$ pipelens cost p --samples 0
+$ pipelens cost p --from 18446744073709551616
+= 2
+...
+$ pipelens cost p --to 007
+= 2
+...
+$ pipelens cost p --from 18446744073709551615 --to 0 --samples 0
 = 0
 ...samples of a run 0
 ...
@@ -78,7 +84,7 @@ cycle 0
 ! bad log: line 2
 $ pipelens look p
 = 2
-! usage: pipelens TASK FILE [SAMPLES] [--fabric F] [--narrow] [--samples N] [--json] [--csv] [--signed NAME,..] [--no-warnings] [--name MODULE] [--seed N]; pipelens --help says more
+! usage: pipelens TASK FILE [SAMPLES] [--fabric F] [--narrow] [--samples N] [--json] [--csv] [--signed NAME,..] [--no-warnings] [--name MODULE] [--seed N] [--from T] [--to T]; pipelens --help says more
 ";
 
 #[test]

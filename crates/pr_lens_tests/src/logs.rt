@@ -122,6 +122,106 @@ fn cycles_left_out(rt: HostRuntime) -> Result<(), AllocError> {
     check_calls(&rt, rt.alloc(), log.as_str(), LEFT_OUT)
 }
 
+/// Parts of the log, and of another one. A stalled cycle has the number of the cycle that waits.
+const PARTS: &str = "\
+$ pipelens wave p --from 1 --to 1
+= 0
+...$enddefinitions $end
+#10
+b0 s6
+0s7
+bz s8
+0s9
+b1 s0
+1s1
+bz s2
+bz s3
+b1 s4
+b0 s5
+#20
+b1 s8
+1s9
+0s1
+b0 s3
+b0 s4
+b1 s5
+#30
+...
+$ pipelens wave p --to 0
+= 0
+...b1 s4
+b0 s5
+#10
+...
+$ pipelens chart p --from 1
+= 0
+...left out: the first 1 of 3 cycles</text>
+...
+$ pipelens chart p --to 0
+= 0
+...left out: the last 2 of 3 cycles</text>
+...
+$ pipelens wave p --from 2
+= 15
+! no such cycle: the log has cycles 0 to 1
+$ pipelens chart p --from 1 --to 0
+= 15
+! no such cycle: the log has cycles 0 to 1
+$ pipelens wave p --from 6 --to 6
+cycle 5 conf 0@0 save - in 0 out -
+cycle 6 conf 1@1 save - in 1 out -
+stall 7
+cycle 7 conf - save - in - out 0
+
+= 0
+...$enddefinitions $end
+#10
+b0 s6
+0s7
+b1 s8
+1s9
+b110 s0
+0s1
+b1 s2
+bz s3
+b10 s4
+b0 s5
+#20
+...
+$ pipelens chart p --from 6 --to 6
+cycle 5 conf 0@0 save - in 0 out -
+cycle 6 conf 1@1 save - in 1 out -
+stall 7
+cycle 7 conf - save - in - out 0
+
+= 0
+...fill=\"hsl(0,70%,80%)\"/>
+<text class=\"n\" x=\"94\" y=\"62\">0</text>
+<rect x=\"80\" y=\"71\" width=\"28\" height=\"24\" fill=\"hsl(180,65%,50%)\"/>
+<text class=\"b\" x=\"94\" y=\"88\">1</text>
+...
+$ pipelens chart p --from 6 --to 6
+cycle 5 conf 0@0 save - in 0 out -
+cycle 6 conf 1@1 save - in 1 out -
+stall 7
+cycle 7 conf - save - in - out 0
+
+= 0
+...left out: the first 1 and the last 2 of 4 cycles</text>
+...
+$ pipelens chart p --to 4
+stall 5
+cycle 5 conf - save - in - out -
+
+= 15
+! no such cycle: the log has cycles 5 to 5
+";
+
+#[test]
+fn parts(rt: HostRuntime) -> Result<(), AllocError> {
+    check_calls(&rt, rt.alloc(), LOG, PARTS)
+}
+
 #[test]
 fn logs(rt: HostRuntime) -> Result<(), AllocError> {
     check_calls(&rt, rt.alloc(), LOG, CALLS)

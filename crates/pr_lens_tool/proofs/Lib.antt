@@ -5,3 +5,4 @@ mod LogLemmas
 mod StreamLemmas
 mod ModuleLemmas
 mod BenchLemmas
+mod NumberLemmas

@@ -50,4 +50,4 @@ asked-taken a words m is free matches =
     ∙ ap asked_rows (sym same)
     ∙ sym (λ i. asked_from
     (first_value-rows f (codes "task") i) (first_value-rows f (codes "file") i) (first_value-rows f (codes "second") i) (first_value-rows f (codes "fabric") i) (first_value-rows f (codes "narrow") i)
-    (first_value-rows f (codes "samples") i) (first_value-rows f (codes "json") i) (first_value-rows f (codes "csv") i) (first_value-rows f (codes "no-warnings") i) (first_value-rows f (codes "name") i) (first_value-rows f (codes "signed") i) (first_value-rows f (codes "seed") i))
+    (first_value-rows f (codes "samples") i) (first_value-rows f (codes "json") i) (first_value-rows f (codes "csv") i) (first_value-rows f (codes "no-warnings") i) (first_value-rows f (codes "name") i) (first_value-rows f (codes "signed") i) (first_value-rows f (codes "seed") i) (first_value-rows f (codes "from") i) (first_value-rows f (codes "to") i))

@@ -10,7 +10,7 @@ use Rattle.pr_lens_tool.specs.declared.outcomes.Outcome.TheVariants.{Plain, Usag
 use Rattle.pr_lens_tool.specs.Orders.{Asked}
 use Rattle.pr_lens_tool.specs.Outcomes.{IsWritten, help_text}
 use Rattle.pr_lens_tool.specs.Programs.{IsToldOf, IsUntold}
-use Rattle.pr_lens_tool.specs.Logs.{IsDrawing, IsNoLog}
+use Rattle.pr_lens_tool.specs.Logs.{IsDrawing, IsUndrawn}
 use Rattle.pr_lens_tool.specs.Streams.{TellsStreams}
 use Rattle.pr_lens_tool.specs.Benches.{IsBenchOf, IsNoBenchOf}
 
@@ -19,7 +19,7 @@ abbrev pub IsMadeFor : Task → Told → Asked → Outcome → List ℕ → Type
 IsMadeFor (Program question) told order outcome written = IsToldOf question told order outcome written
 IsMadeFor Signals told order outcome written = ⊥
 IsMadeFor Bench told order outcome written = (outcome ≡ Plain Answer.Ok) × IsBenchOf told order written
-IsMadeFor (Log drawing) told order outcome written = (outcome ≡ Plain Answer.Ok) × IsDrawing drawing told order.file written
+IsMadeFor (Log drawing) told order outcome written = (outcome ≡ Plain Answer.Ok) × IsDrawing drawing order.window told order.file written
 
 abbrev pub IsMade : Told → Asked → Outcome → List ℕ → Type 0
 IsMade told order outcome written = IsMadeFor order.task told order outcome written
@@ -34,7 +34,7 @@ abbrev pub IsUnmadeFor : Task → Told → Asked → ℕ → ℕ → Outcome →
 IsUnmadeFor (Program question) told order before now outcome = IsPlain (IsUntold told order before now) outcome
 IsUnmadeFor Signals told order before now outcome = ⊥
 IsUnmadeFor Bench told order before now outcome = IsNoBenchOf told order before now outcome
-IsUnmadeFor (Log drawing) told order before now outcome = IsNoLog told order.file before now outcome
+IsUnmadeFor (Log drawing) told order before now outcome = IsUndrawn order.window told order.file before now outcome
 
 abbrev pub IsUnmade : Told → Asked → ℕ → ℕ → Outcome → Type 0
 IsUnmade told order before now outcome = IsUnmadeFor order.task told order before now outcome

@@ -9,15 +9,17 @@ use Rattle.clap.specs.declared.parser.matches.Found.{Found}
 use Rattle.pr_base.specs.declared.fabrics.Fabric.{Fabric}
 use Rattle.pr_tool_words.specs.Lawful.{Text, fabric_named, is_true, number_in}
 use Rattle.pr_tool_words.specs.Shape.{place, option, option_or, flag}
+use Rattle.pr_lens_log.specs.declared.windows.Window.{Window}
 use Rattle.pr_lens_tool.specs.declared.orders.Task.{Task}
 use Rattle.pr_lens_tool.specs.declared.orders.Order.{Order}
 use Rattle.pr_lens_tool.specs.Tasks.{module_named, task_named}
 
--- pipelens TASK FILE [SECOND] [--fabric F] [--narrow] [--samples N] [--json] [--csv] [--no-warnings] [--name MODULE] [--signed NAME,..] [--seed N]
+-- pipelens TASK FILE [SECOND] [--fabric F] [--narrow] [--samples N] [--json] [--csv] [--no-warnings] [--name MODULE] [--signed NAME,..] [--seed N] [--from T] [--to T]
 unfoldable pub app : App
 app =
-    with_rule (with_rule (with_rule (with_rule (with_rule (with_rule (with_rule (with_rule (with_rule (with_rule (with_rule (with_rule (new_app (codes "pipelens")) (place (codes "task") true)) (place (codes "file") true))
-    (place (codes "second") false)) (option_or (codes "fabric") (codes "base"))) (flag (codes "narrow"))) (option_or (codes "samples") (codes "1000"))) (flag (codes "json"))) (flag (codes "csv"))) (flag (codes "no-warnings"))) (option_or (codes "name") (codes "pipeline"))) (option (codes "signed"))) (option_or (codes "seed") (codes "1"))
+    with_rule (with_rule (with_rule (with_rule (with_rule (with_rule (with_rule (with_rule (with_rule (with_rule (with_rule (with_rule (with_rule (with_rule (new_app (codes "pipelens")) (place (codes "task") true)) (place (codes "file") true))
+    (place (codes "second") false)) (option_or (codes "fabric") (codes "base"))) (flag (codes "narrow"))) (option_or (codes "samples") (codes "1000"))) (flag (codes "json"))) (flag (codes "csv"))) (flag (codes "no-warnings"))) (option_or (codes "name") (codes "pipeline"))) (option (codes "signed"))) (option_or (codes "seed") (codes "1")))
+    (option_or (codes "from") (codes "0"))) (option_or (codes "to") (codes "18446744073709551615"))
 
 pub record Asked : Type 0 where
   pub task : Task
@@ -32,6 +34,7 @@ pub record Asked : Type 0 where
   pub warnings : Bool
   pub name : Text
   pub seed : ℕ
+  pub window : Window
 
 abbrev pub asked_in : Order → Asked
 asked_in order = record {
@@ -47,6 +50,7 @@ asked_in order = record {
   warnings = order.warnings;
   name = order.name.now;
   seed = order.seed;
+  window = order.window;
 }
 
 -- streams are told of two files, and a bench is made of two; all else of one
@@ -59,9 +63,13 @@ abbrev pub fit : Asked → Option Asked
 fit asked = if is_fit asked.task asked.second then Some asked else None
 
 -- by the values of the options and the places, where all are lawful
-abbrev pub asked_from : (task file second fabric narrow samples json csv no_warnings name signed seed : Option Text) → Option Asked
-asked_from task file second fabric narrow samples json csv no_warnings name signed seed =
-    option_and_then fit (option_and_then (λ t. option_and_then (λ f. option_and_then (λ b. option_and_then (λ n. option_and_then (λ m. option_map (λ k. record {
+-- a number of 64 bits
+abbrev pub long_in : Text → Option ℕ
+long_in = number_in 0 18446744073709551615
+
+abbrev pub asked_from : (task file second fabric narrow samples json csv no_warnings name signed seed from to : Option Text) → Option Asked
+asked_from task file second fabric narrow samples json csv no_warnings name signed seed from to =
+    option_and_then fit (option_and_then (λ t. option_and_then (λ f. option_and_then (λ b. option_and_then (λ n. option_and_then (λ m. option_and_then (λ k. option_and_then (λ a. option_map (λ z. record {
       task = t;
       file = f;
       second = second;
@@ -74,17 +82,18 @@ asked_from task file second fabric narrow samples json csv no_warnings name sign
       warnings = not (is_true no_warnings);
       name = m;
       seed = k;
-    }) (option_and_then (number_in 0 4294967295) seed)) (option_and_then module_named name)) (option_and_then (number_in 0 4294967295) samples)) (option_and_then fabric_named fabric)) file) (option_and_then task_named task))
+      window = record { from = a; to = z };
+    }) (option_and_then long_in to)) (option_and_then long_in from)) (option_and_then (number_in 0 4294967295) seed)) (option_and_then module_named name)) (option_and_then (number_in 0 4294967295) samples)) (option_and_then fabric_named fabric)) file) (option_and_then task_named task))
 
 abbrev pub asked_of : Found → Option Asked
 asked_of f = asked_from
     (first_value f (codes "task")) (first_value f (codes "file")) (first_value f (codes "second")) (first_value f (codes "fabric")) (first_value f (codes "narrow"))
-    (first_value f (codes "samples")) (first_value f (codes "json")) (first_value f (codes "csv")) (first_value f (codes "no-warnings")) (first_value f (codes "name")) (first_value f (codes "signed")) (first_value f (codes "seed"))
+    (first_value f (codes "samples")) (first_value f (codes "json")) (first_value f (codes "csv")) (first_value f (codes "no-warnings")) (first_value f (codes "name")) (first_value f (codes "signed")) (first_value f (codes "seed")) (first_value f (codes "from")) (first_value f (codes "to"))
 
 abbrev pub asked_rows : List Row → Option Asked
 asked_rows rows = asked_from
     (first_of (codes "task") rows) (first_of (codes "file") rows) (first_of (codes "second") rows) (first_of (codes "fabric") rows) (first_of (codes "narrow") rows)
-    (first_of (codes "samples") rows) (first_of (codes "json") rows) (first_of (codes "csv") rows) (first_of (codes "no-warnings") rows) (first_of (codes "name") rows) (first_of (codes "signed") rows) (first_of (codes "seed") rows)
+    (first_of (codes "samples") rows) (first_of (codes "json") rows) (first_of (codes "csv") rows) (first_of (codes "no-warnings") rows) (first_of (codes "name") rows) (first_of (codes "signed") rows) (first_of (codes "seed") rows) (first_of (codes "from") rows) (first_of (codes "to") rows)
 
 -- unless the command line has a fault with the words
 abbrev pub asked_without : Kinds → Option Asked → Option Asked

@@ -7,7 +7,7 @@ use Rattle.pr_tool_answers.specs.declared.answers.Answer.{Answer}
 use Rattle.pr_tool_answers.specs.Statuses as answers
 use Rattle.pr_tool.specs.Notes.{note_of}
 use Rattle.pr_lens_tool.specs.declared.outcomes.Outcome.{Outcome}
-use Rattle.pr_lens_tool.specs.declared.outcomes.Outcome.TheVariants.{Plain, Explained, Streamed, Usage, BadLog, NoCycle, LongLog, LongModule, LongBench, NoStream}
+use Rattle.pr_lens_tool.specs.declared.outcomes.Outcome.TheVariants.{Plain, Explained, Streamed, Usage, BadLog, NoCycle, Unshown, LongLog, LongModule, LongBench, NoStream}
 use Rattle.pr_lens_tool.specs.declared.outcomes.Reply.{Reply}
 
 -- the status with which the process ends
@@ -18,6 +18,7 @@ status_of (Streamed answer) = answers.status_of answer
 status_of Usage = 2
 status_of (BadLog line) = 15
 status_of NoCycle = 15
+status_of (Unshown first last) = 15
 status_of LongLog = 6
 status_of LongModule = 6
 status_of LongBench = 6
@@ -27,13 +28,17 @@ status_of (NoStream place) = 2
 abbrev pub bad_log_line : ℕ → List ℕ
 bad_log_line line = codes "bad log: line " ++ decimal line ++ codes "\n"
 
+abbrev pub unshown_line : ℕ → ℕ → List ℕ
+unshown_line first last = codes "no such cycle: the log has cycles " ++ decimal first ++ codes " to " ++ decimal last ++ codes "\n"
+
 abbrev pub line_by : Reply → Outcome → List ℕ
 line_by reply (Plain answer) = note_of reply.bounds answer
 line_by reply (Explained answer) = []
 line_by reply (Streamed answer) = note_of reply.bounds answer
-line_by reply Usage = codes "usage: pipelens TASK FILE [SAMPLES] [--fabric F] [--narrow] [--samples N] [--json] [--csv] [--signed NAME,..] [--no-warnings] [--name MODULE] [--seed N]; pipelens --help says more\n"
+line_by reply Usage = codes "usage: pipelens TASK FILE [SAMPLES] [--fabric F] [--narrow] [--samples N] [--json] [--csv] [--signed NAME,..] [--no-warnings] [--name MODULE] [--seed N] [--from T] [--to T]; pipelens --help says more\n"
 line_by reply (BadLog line) = bad_log_line line
 line_by reply NoCycle = codes "bad log: no cycle\n"
+line_by reply (Unshown first last) = unshown_line first last
 line_by reply LongLog = codes "limit: log-bytes 16777216\n"
 line_by reply LongModule = codes "limit: module-bytes 16777216\n"
 line_by reply LongBench = codes "limit: bench-bytes 16777216\n"
@@ -54,7 +59,7 @@ line_of reply = line_or (own_line reply) reply.line
 -- the help
 unfoldable pub help_text : List ℕ
 help_text =
-    codes "pipelens looks at programs and runs of piperench\n\nusage: pipelens TASK FILE [SAMPLES] [--fabric F] [--narrow] [--samples N] [--json] [--csv] [--signed NAME,..] [--no-warnings] [--name MODULE] [--seed N]\n\n"
+    codes "pipelens looks at programs and runs of piperench\n\nusage: pipelens TASK FILE [SAMPLES] [--fabric F] [--narrow] [--samples N] [--json] [--csv] [--signed NAME,..] [--no-warnings] [--name MODULE] [--seed N] [--from T] [--to T]\n\n"
     ++ codes "  why PROGRAM    where and why a program is refused, or what to look at again\n"
     ++ codes "  cost PROGRAM   equations, units and stages, and cycles by stripes\n"
     ++ codes "  graph PROGRAM  the units by stage with their wires, for Graphviz\n"
@@ -75,6 +80,7 @@ help_text =
     ++ codes "  --signed NAME,..\n"
     ++ codes "                 `signals` shows the streams of these names as two's complement\n"
     ++ codes "  --seed N       when `testbench` offers samples and takes results; 1 without it\n"
+    ++ codes "  --from T, --to T\n                 `wave` and `chart` show the cycles from the first to the last of these numbers\n"
 
 -- a text was written whole, and this is the outcome; or a write failed
 pub record IsWhole (old new : Tape) (text : List ℕ) (outcome result : Outcome) : Type 0 where

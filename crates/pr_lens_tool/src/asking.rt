@@ -2,7 +2,7 @@
 
 ghost use Rattle.std.specs.Prelude.{◌≡◌, IfOk, IsErrOf, Some, None, true, false, option_map};
 ghost use Rattle.clap.specs.Words.{app_of, rule_of, found_of};
-ghost use Rattle.pr_tool_words.specs.Lawful.{is_true};
+ghost use Rattle.pr_tool_words.specs.Lawful.{is_true, number_in};
 ghost use Rattle.pr_tool_words.specs.Shape.{place, option, option_or, flag};
 ghost use Rattle.pr_lens_tool.specs.Tasks.{module_named};
 ghost use Rattle.pr_lens_tool.specs.Orders.{app, asked_in, asked_of, asked_by, fit, is_fit};
@@ -10,6 +10,8 @@ ghost use Rattle.pr_lens_tool.specs.Orders.{app, asked_in, asked_of, asked_by, f
 use crate::orders::{Order, Task, fabric_named, is_module_name, task_named};
 use clap::error::ErrorKind;
 use clap::{Arg, ArgAction, ArgMatches, Command};
+use itoa::Buffer;
+use pr_lens_log::Window;
 use pr_tool_words::number_in;
 use std::alloc::{AllocError, Global};
 use thiserror::Error;
@@ -47,6 +49,10 @@ const SAMPLES: &str = "1000";
 const NAME: &str = "pipeline";
 /// The seed of a bench where none is given.
 const SEED: &str = "1";
+/// The first and the last cycle that are drawn where none are given.
+const FROM: &str = "0";
+
+const TO: &str = "18446744073709551615";
 
 /// A place for a word, which has to be there or not.
 fn place<'a>(alloc: Global, name: &'a str, required: bool) -> Arg<'a>
@@ -95,7 +101,9 @@ fn command<'a>(alloc: Global) -> Result<Command<'a>, AllocError>
     let warnings = csv.arg(flag(alloc, "no-warnings"))?;
     let name = warnings.arg(option_or(alloc, "name", NAME))?;
     let signed = name.arg(option(alloc, "signed"))?;
-    signed.arg(option_or(alloc, "seed", SEED))
+    let seed = signed.arg(option_or(alloc, "seed", SEED))?;
+    let from = seed.arg(option_or(alloc, "from", FROM))?;
+    from.arg(option_or(alloc, "to", TO))
 }
 
 /// Whether the value of an option without one is `true`.
@@ -140,6 +148,22 @@ fn module_named<'a>(name: &'a str) -> Option<&'a str>
     }
 }
 
+/// The number of 64 bits that the text says in decimal digits without leading zeros.
+fn long_in(text: &str) -> Option<u64>
+    ensures { result ≡ number_in 0 18446744073709551615 text.now }
+{
+    let number = match text.parse::<u64>() {
+        Ok(number) => number,
+        Err(_) => return None,
+    };
+    let mut buffer = Buffer::new();
+    if buffer.format(number) == text {
+        Some(number)
+    } else {
+        None
+    }
+}
+
 /// The order among the matches, where its words are lawful.
 fn found<'a>(matches: &ArgMatches<'a>) -> Option<Order<'a>>
     ensures { option_map asked_in result ≡ asked_of (found_of matches.now) }
@@ -150,6 +174,8 @@ fn found<'a>(matches: &ArgMatches<'a>) -> Option<Order<'a>>
     let samples = number_in(matches.get_str("samples")?, 0, u32::MAX)?;
     let name = module_named(matches.get_str("name")?)?;
     let seed = number_in(matches.get_str("seed")?, 0, u32::MAX)?;
+    let from = long_in(matches.get_str("from")?)?;
+    let to = long_in(matches.get_str("to")?)?;
     fit(Order {
         task,
         file,
@@ -163,6 +189,7 @@ fn found<'a>(matches: &ArgMatches<'a>) -> Option<Order<'a>>
         warnings: !is_true(matches.get_str("no-warnings")),
         name,
         seed,
+        window: Window { from, to },
     })
 }
 

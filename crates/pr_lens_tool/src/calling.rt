@@ -29,7 +29,7 @@ use std::alloc::Global;
 const HELP: &[u8] = b"\
 pipelens looks at programs and runs of piperench
 
-usage: pipelens TASK FILE [SAMPLES] [--fabric F] [--narrow] [--samples N] [--json] [--csv] [--signed NAME,..] [--no-warnings] [--name MODULE] [--seed N]
+usage: pipelens TASK FILE [SAMPLES] [--fabric F] [--narrow] [--samples N] [--json] [--csv] [--signed NAME,..] [--no-warnings] [--name MODULE] [--seed N] [--from T] [--to T]
 
   why PROGRAM    where and why a program is refused, or what to look at again
   cost PROGRAM   equations, units and stages, and cycles by stripes
@@ -52,6 +52,8 @@ usage: pipelens TASK FILE [SAMPLES] [--fabric F] [--narrow] [--samples N] [--jso
   --signed NAME,..
                  `signals` shows the streams of these names as two's complement
   --seed N       when `testbench` offers samples and takes results; 1 without it
+  --from T, --to T
+                 `wave` and `chart` show the cycles from the first to the last of these numbers
 ";
 
 /// What is asked of the program of a file; else the answer to it.
@@ -90,7 +92,7 @@ fn made<S: Shelf>(alloc: Global, order: &Order, shelf: &mut S) -> Result<Output,
             Ok(output) => Ok(output),
             Err(answer) => Err(Outcome::Plain(answer)),
         },
-        Task::Log(drawing) => of_log(alloc, drawing, shelf, order.file),
+        Task::Log(drawing) => of_log(alloc, drawing, order.window, shelf, order.file),
         Task::Bench => bench_of(alloc, order, shelf),
         Task::Signals => unreachable!(),
     }

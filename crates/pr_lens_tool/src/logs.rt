@@ -1,16 +1,17 @@
 //! What is made of logs.
 
-ghost use Rattle.std.specs.Prelude.{◌≡◌, ◌≤◌, IfOk, IfErr, length};
+ghost use Rattle.std.specs.Prelude.{◌≡◌, ◌≤◌, ◌-◌, IfOk, IfErr, length};
 ghost use Rattle.pr_tool_answers.specs.declared.answers.Answer.{Answer};
 ghost use Rattle.pr_tool_modes.specs.Files.{IsText};
-ghost use Rattle.pr_lens_tool.specs.declared.outcomes.Outcome.TheVariants.{Plain};
-ghost use Rattle.pr_lens_tool.specs.Logs.{HasLog, IsDrawing, IsNoLog, drawn_text, most_log_bytes};
+ghost use Rattle.pr_lens_tool.specs.declared.outcomes.Outcome.TheVariants.{Plain, Unshown};
+ghost use Rattle.pr_lens_tool.specs.Logs.{HasLog, IsDrawing, IsNoLog, IsUndrawn, drawn_text, most_log_bytes};
+ghost use Rattle.pr_lens_log.specs.Windows.{time_at};
 
 use crate::orders::Drawing;
 use crate::outcomes::{Outcome, Output};
 use pr_edge::{ReadAll, Shelf, read_all};
 use pr_lens_chart::chart;
-use pr_lens_log::{Log, LogFault, read_log};
+use pr_lens_log::{Log, LogFault, Part, Window, part_of, read_log, time_at};
 use pr_lens_wave::wave;
 use pr_tool::Answer;
 use std::alloc::{AllocError, Global};
@@ -53,33 +54,52 @@ fn log_of<S: Shelf>(alloc: Global, shelf: &mut S, name: &str) -> Result<Log, Out
     }
 }
 
-/// The drawing of a log.
-fn drawn(alloc: Global, drawing: Drawing, log: &Log) -> Result<Vec<u8>, AllocError>
-    ensures { IfOk result (λ text. text.items ≡ drawn_text drawing log.now) }
+/// The drawing of these cycles of a log.
+fn drawn(alloc: Global, drawing: Drawing, log: &Log, part: Part) -> Result<Vec<u8>, AllocError>
+    requires order { part.start ≤ part.end }
+    requires within { part.end ≤ length log.now.cycles.items }
+    ensures { IfOk result (λ text. text.items ≡ drawn_text drawing part log.now) }
 {
     match drawing {
-        Drawing::Wave => wave(alloc, log),
-        Drawing::Chart => chart(alloc, log),
+        Drawing::Wave => wave(alloc, log, part),
+        Drawing::Chart => chart(alloc, log, part),
     }
 }
 
-/// The drawing of the log of a file; else what the call comes to.
+/// What a call comes to where no cycle of a log is shown.
+fn unshown(log: &Log) -> Outcome
+    ensures { result ≡ Unshown (time_at log.now.cycles.items 0)
+        (time_at log.now.cycles.items (length log.now.cycles.items - 1)) }
+{
+    Outcome::Unshown {
+        first: time_at(&log.cycles, 0),
+        last: time_at(&log.cycles, log.cycles.len().saturating_sub(1)),
+    }
+}
+
+/// The drawing of the cycles of the log of a file that a window shows; else what the call comes to.
+#[tactic(auto, using(crate::proofs::LogLemmas::undrawn_unread, crate::proofs::LogLemmas::drawing_is, crate::proofs::LogLemmas::unshown_is))]
 pub fn of_log<S: Shelf>(
     alloc: Global,
     drawing: Drawing,
+    window: Window,
     shelf: &mut S,
     name: &str,
 ) -> Result<Output, Outcome>
     ensures well { IfOk result (λ o. o.outcome ≡ Plain Answer.Ok) }
-    ensures drawn { IfOk result (λ o. IsDrawing drawing (S.told shelf.old) name.now o.text.items) }
+    ensures drawn { IfOk result (λ o. IsDrawing drawing window (S.told shelf.old) name.now o.text.items) }
     ensures refused { IfErr result
-        (IsNoLog (S.told shelf.old) name.now (S.faults shelf.old) (S.faults shelf.new)) }
+        (IsUndrawn window (S.told shelf.old) name.now (S.faults shelf.old) (S.faults shelf.new)) }
     ensures later { S.faults shelf.old ≤ S.faults shelf.new }
     ensures same { S.told shelf.new ≡ S.told shelf.old }
 {
     let log = log_of(alloc, shelf, name)?;
+    let part = part_of(&log.cycles, window);
+    if part.is_empty() {
+        return Err(unshown(&log));
+    }
     Ok(Output {
-        text: drawn(alloc, drawing, &log)?,
+        text: drawn(alloc, drawing, &log, part)?,
         outcome: Outcome::Plain(Answer::Ok),
     })
 }

@@ -5,6 +5,7 @@ ghost use Rattle.pr_tool_words.specs.Lawful.{fabric_named};
 ghost use Rattle.pr_lens_tool.specs.Tasks.{are_name_bytes, is_module_name, is_name_byte, task_named};
 
 use pr_base::Fabric;
+use pr_lens_log::Window;
 
 /// What is asked of a program.
 #[derive(Clone, Copy, PartialEq, Eq, Debug)]
@@ -67,6 +68,8 @@ pub struct Order<'a> {
     pub name: &'a str,
     /// What decides when a bench offers samples and takes results.
     pub seed: u32,
+    /// The cycles of a log that are drawn.
+    pub window: Window,
 }
 
 /// The task of this name.

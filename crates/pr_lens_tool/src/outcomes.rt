@@ -2,7 +2,7 @@
 
 ghost use Rattle.std.specs.Prelude.{◌≡◌, ◌≤◌};
 ghost use Rattle.pr_tool.specs.Noted.{GainsNote};
-ghost use Rattle.pr_lens_tool.specs.Outcomes.{status_of, bad_log_line, line_of, own_line};
+ghost use Rattle.pr_lens_tool.specs.Outcomes.{status_of, bad_log_line, line_of, own_line, unshown_line};
 
 use arrayvec::ArrayString;
 use itoa::Buffer;
@@ -25,6 +25,8 @@ pub enum Outcome {
     BadLog { line: usize },
     /// A log has no line of a cycle.
     NoCycle,
+    /// No cycle of a log is shown. Its first one has this number, and its last one that.
+    Unshown { first: u64, last: u64 },
     /// A log has too many bytes.
     LongLog,
     /// A module has too many bytes.
@@ -54,7 +56,7 @@ pub struct Reply {
 
 /// The line for words that are no lawful command line.
 const USAGE: &str =
-    "usage: pipelens TASK FILE [SAMPLES] [--fabric F] [--narrow] [--samples N] [--json] [--csv] [--signed NAME,..] [--no-warnings] [--name MODULE] [--seed N]; pipelens --help says more\n";
+    "usage: pipelens TASK FILE [SAMPLES] [--fabric F] [--narrow] [--samples N] [--json] [--csv] [--signed NAME,..] [--no-warnings] [--name MODULE] [--seed N] [--from T] [--to T]; pipelens --help says more\n";
 
 /// The line for a log without a cycle.
 const NO_CYCLE: &str = "bad log: no cycle\n";
@@ -79,7 +81,7 @@ impl Outcome {
             Outcome::Plain(answer) | Outcome::Explained(answer) => answer.status(),
             Outcome::Streamed(answer) => answer.status(),
             Outcome::Usage | Outcome::NoStream { .. } => 2,
-            Outcome::BadLog { .. } | Outcome::NoCycle => 15,
+            Outcome::BadLog { .. } | Outcome::NoCycle | Outcome::Unshown { .. } => 15,
             Outcome::LongLog | Outcome::LongModule | Outcome::LongBench => 6,
         }
     }
@@ -93,6 +95,20 @@ fn bad_log(line: usize) -> ArrayString<64>
     text.push_str("bad log: line ");
     let mut buffer = Buffer::new();
     text.push_str(buffer.format(line));
+    text.push_str("\n");
+    text
+}
+
+/// The line for a log of which no cycle is shown.
+fn unshown(first: u64, last: u64) -> ArrayString<96>
+    ensures { result.bytes ≡ unshown_line first last }
+{
+    let mut text = ArrayString::new();
+    text.push_str("no such cycle: the log has cycles ");
+    let mut buffer = Buffer::new();
+    text.push_str(buffer.format(first));
+    text.push_str(" to ");
+    text.push_str(buffer.format(last));
     text.push_str("\n");
     text
 }
@@ -138,6 +154,10 @@ impl Reply {
                 put_bytes(note, text.as_bytes());
             }
             Outcome::NoCycle => put_bytes(note, NO_CYCLE.as_bytes()),
+            Outcome::Unshown { first, last } => {
+                let text = unshown(first, last);
+                put_bytes(note, text.as_bytes());
+            }
             Outcome::LongLog => put_bytes(note, LONG.as_bytes()),
             Outcome::LongModule => put_bytes(note, LONG_MODULE.as_bytes()),
             Outcome::LongBench => put_bytes(note, LONG_BENCH.as_bytes()),

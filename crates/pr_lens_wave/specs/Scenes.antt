@@ -1,12 +1,14 @@
 -- What a waveform tells of cycles.
-use Rattle.std.specs.Prelude.{ℕ, zero, suc, ◌+◌, ◌-◌, ◌*◌, min, Bool, true, false, not, nat_eq, nat_lt, List, [], ◌∷◌, ◌++◌, length, replicate, Option, Some, None, codes, decimal, slice_get, slice_set, unwrap_or, if◌then◌else◌}
+use Rattle.std.specs.Prelude.{ℕ, zero, suc, ◌+◌, ◌-◌, ◌*◌, min, Bool, true, false, not, nat_eq, nat_lt, List, [], ◌∷◌, ◌++◌, length, take, replicate, Option, Some, None, codes, decimal, slice_get, slice_set, unwrap_or, if◌then◌else◌}
 use Rattle.std.specs.Option.{option_eq}
 use Rattle.pr_lens_wave.specs.declared.head.Signal.{Signal}
 use Rattle.pr_lens_wave.specs.declared.head.Signal.TheVariants as signal
 use Rattle.pr_lens_log.specs.declared.lines.Logged.{Logged}
+use Rattle.pr_lens_log.specs.declared.windows.Part.{Part}
 use Rattle.pr_lens_wave.specs.declared.changes.Teller.{Teller}
 use Rattle.pr_lens_log.specs.Boards.{stage_in, after_turn}
 use Rattle.pr_lens_log.specs.Lines.{is_into}
+use Rattle.pr_lens_log.specs.Windows.{part_in}
 use Rattle.pr_lens_wave.specs.Waves.{twice_and, number_of, number_change, bit_change, head_text}
 
 -- a text, and what it told last of each signal
@@ -98,6 +100,19 @@ after_cycles stripes number [] written s = s
 after_cycles stripes number (c ∷ cs) written s =
     after_cycles stripes (number + 1) cs written (after_cycle stripes number c (unwrap_or (slice_get written number) 0) s)
 
+-- after a cycle of which nothing is told
+abbrev pub passed_cycle : Logged → Scene → Scene
+passed_cycle c s = record {
+  page = s.page;
+  stages = after_turn s.stages c.turn.configured;
+  entered = count_after s.entered c.turn.entered;
+  left = count_after s.left c.turn.left;
+}
+
+abbrev pub passed_cycles : List Logged → Scene → Scene
+passed_cycles [] s = s
+passed_cycles (c ∷ cs) s = passed_cycles cs (passed_cycle c s)
+
 -- nothing is told yet but the signals
 abbrev pub first_scene : ℕ → List ℕ → Scene
 first_scene stripes text = record {
@@ -107,11 +122,12 @@ first_scene stripes text = record {
   left = 0;
 }
 
--- a text with the changes of all cycles, and the time at which the last one ends
-abbrev pub cycles_text : ℕ → List Logged → List ℕ → List ℕ → List ℕ
-cycles_text stripes cycles written text =
-    (after_cycles stripes 0 cycles written (first_scene stripes text)).page.text ++ time_text (length cycles)
+-- a text with the changes of these cycles, and the time at which the last of them ends
+abbrev pub cycles_text : Part → ℕ → List Logged → List ℕ → List ℕ → List ℕ
+cycles_text part stripes cycles written text =
+    (after_cycles stripes part.start (part_in part cycles) written (passed_cycles (take part.start cycles) (first_scene stripes text))).page.text
+    ++ time_text part.end
 
--- a whole waveform
-abbrev pub wave_text : ℕ → List Logged → List ℕ → List ℕ
-wave_text stripes cycles written = cycles_text stripes cycles written (head_text stripes)
+-- the waveform of these cycles of a log
+abbrev pub wave_text : Part → ℕ → List Logged → List ℕ → List ℕ
+wave_text part stripes cycles written = cycles_text part stripes cycles written (head_text stripes)

@@ -1,12 +1,14 @@
 //! The changes of signals.
 
-ghost use Rattle.std.specs.Prelude.{◌≡◌, ◌++◌, IfOk, OnOk, Some, replicate, None, slice_get, unwrap_or};
+ghost use Rattle.std.specs.Prelude.{◌≡◌, ◌≤◌, ◌++◌, ℕ, List, IfOk, OnOk, Some, length, replicate, None, slice_get, unwrap_or};
+ghost use Rattle.pr_lens_log.specs.Boards.{after_turn};
+ghost use Rattle.pr_lens_log.specs.Windows.{part_in};
 ghost use Rattle.pr_lens_wave.specs.Waves.{twice_and};
-ghost use Rattle.pr_lens_wave.specs.Scenes.{bit_number, stripes_shown, cycle_shown, count_after, time_text, scene_of, after_cycle, cycles_text};
+ghost use Rattle.pr_lens_wave.specs.Scenes.{bit_number, stripes_shown, cycle_shown, count_after, time_text, scene_of, after_cycle, after_cycles, cycles_text, passed_cycles};
 
 use crate::head::Signal;
 use crate::values::{put_bit_change, put_number_change};
-use pr_lens_log::{Board, Log, Logged};
+use pr_lens_log::{Board, Log, Logged, Part};
 use pr_lens_text::{put, put_counted};
 use std::alloc::{AllocError, Global};
 
@@ -209,6 +211,30 @@ fn teller_of(alloc: Global, stripes: usize) -> Result<Teller, AllocError>
     })
 }
 
+/// A cycle goes by.
+fn pass(teller: &mut Teller, logged: &Logged)
+    ensures screen { teller.new.screen ≡ teller.old.screen }
+    ensures board { teller.new.board.stages.items
+        ≡ after_turn teller.old.board.stages.items logged.now.turn.configured }
+    ensures entered { teller.new.counts.entered ≡ count_after teller.old.counts.entered logged.now.turn.entered }
+    ensures left { teller.new.counts.left ≡ count_after teller.old.counts.left logged.now.turn.left }
+{
+    teller.board.step(&logged.turn);
+    teller.counts = Counts {
+        entered: counted(teller.counts.entered, logged.turn.entered),
+        left: counted(teller.counts.left, logged.turn.left),
+    };
+}
+
+/// These cycles go by, and nothing is told of them.
+fn pass_all(teller: &mut Teller, cycles: &[Logged])
+    ensures { (text : List ℕ) → scene_of text teller.new ≡ passed_cycles cycles.now (scene_of text teller.old) }
+{
+    for logged in cycles {
+        pass(teller, logged);
+    }
+}
+
 /// Adds the changes of the cycle of this number.
 #[tactic(auto, unfolding(crate::specs::Scenes::after_cycle))]
 fn put_cycle(
@@ -223,11 +249,7 @@ fn put_cycle(
         (unwrap_or (slice_get log.now.written.items number) 0) (scene_of text.old.items teller.old)) }
 {
     put_time(text, number)?;
-    teller.board.step(&logged.turn);
-    teller.counts = Counts {
-        entered: counted(teller.counts.entered, logged.turn.entered),
-        left: counted(teller.counts.left, logged.turn.left),
-    };
+    pass(teller, logged);
     let counts = teller.counts;
     let written = log.written.get(number).copied().unwrap_or(0);
     show_stripes(
@@ -248,14 +270,39 @@ fn put_cycle(
     )
 }
 
-/// Adds the changes of all cycles, and the time at which the last one ends.
-pub fn put_cycles(alloc: Global, text: &mut Vec<u8>, log: &Log) -> Result<(), AllocError>
+/// Adds the changes of the cycles from a place on that stand before another.
+fn put_part(
+    alloc: Global,
+    text: &mut Vec<u8>,
+    teller: &mut Teller,
+    log: &Log,
+    part: Part,
+) -> Result<(), AllocError>
+    requires order { part.start ≤ part.end }
+    requires within { part.end ≤ length log.now.cycles.items }
+    ensures { OnOk result (scene_of text.new.items teller.new ≡ after_cycles log.now.stripes part.start
+        (part_in part log.now.cycles.items) log.now.written.items (scene_of text.old.items teller.old)) }
+{
+    for (index, logged) in log.cycles[part.start..part.end].iter().enumerate() {
+        put_cycle(alloc, text, teller, log, part.start + index, logged)?;
+    }
+    Ok(())
+}
+
+/// Adds the changes of these cycles, and the time at which the last of them ends.
+pub fn put_cycles(
+    alloc: Global,
+    text: &mut Vec<u8>,
+    log: &Log,
+    part: Part,
+) -> Result<(), AllocError>
+    requires order { part.start ≤ part.end }
+    requires within { part.end ≤ length log.now.cycles.items }
     ensures { OnOk result (text.new.items
-        ≡ cycles_text log.now.stripes log.now.cycles.items log.now.written.items text.old.items) }
+        ≡ cycles_text part log.now.stripes log.now.cycles.items log.now.written.items text.old.items) }
 {
     let mut teller = teller_of(alloc, log.stripes)?;
-    for (number, logged) in log.cycles.iter().enumerate() {
-        put_cycle(alloc, text, &mut teller, log, number, logged)?;
-    }
-    put_time(text, log.cycles.len())
+    pass_all(&mut teller, &log.cycles[..part.start]);
+    put_part(alloc, text, &mut teller, log, part)?;
+    put_time(text, part.end)
 }

@@ -18,4 +18,6 @@ returns c =
     let warnings = c.in_ok-warnings.ensures.shape c.flag-4.ensures.local ∙ ap₂ with_rule csv c.flag-4.ensures.rule in
     let name = c.in_ok-name.ensures.shape c.option_or-3.ensures.local ∙ ap₂ with_rule warnings c.option_or-3.ensures.rule in
     let signed = c.in_ok-signed.ensures.shape c.option.ensures.local ∙ ap₂ with_rule name c.option.ensures.rule in
-    IfOk-weaker c.arg-12.result _ _ (λ r h. h.shape c.option_or-4.ensures.local ∙ ap₂ with_rule signed c.option_or-4.ensures.rule) c.arg-12.ensures
+    let seed = c.in_ok-seed.ensures.shape c.option_or-4.ensures.local ∙ ap₂ with_rule signed c.option_or-4.ensures.rule in
+    let from = c.in_ok-from.ensures.shape c.option_or-5.ensures.local ∙ ap₂ with_rule seed c.option_or-5.ensures.rule in
+    IfOk-weaker c.arg-14.result _ _ (λ r h. h.shape c.option_or-6.ensures.local ∙ ap₂ with_rule from c.option_or-6.ensures.rule) c.arg-14.ensures

@@ -1,5 +1,5 @@
 use Rattle.std.proofs.Common.{◌≡◌, ◌∙◌}
-use Rattle.pr_lens_tool.specs.Outcomes.{bad_log_line}
+use Rattle.pr_lens_tool.specs.Outcomes.{bad_log_line, unshown_line}
 use Rattle.pr_lens_tool.proofs.outcomes.Reply.put_own.Goals as goal
 
 pub returns-in-Usage-clause-gains : goal.returns-in-Usage-clause-gains
@@ -24,3 +24,8 @@ returns-in-NoStream-clause-gains g c = rw c.in-NoStream.is (rw c.as_bytes-in-NoS
 
 pub returns-in-LongBench-clause-gains : goal.returns-in-LongBench-clause-gains
 returns-in-LongBench-clause-gains g c = rw c.in-LongBench.is (rw c.as_bytes-in-LongBench.ensures.value at c.put_bytes-in-LongBench.ensures.gains)
+
+pub returns-in-Unshown-clause-gains : goal.returns-in-Unshown-clause-gains
+returns-in-Unshown-clause-gains g c =
+    let line : c.as_bytes-in-Unshown.result.now ≡ unshown_line c.in-Unshown.first c.in-Unshown.last = c.as_bytes-in-Unshown.ensures.value ∙ (c.deref-in-Unshown.ensures.0 ∙ c.unshown-text.ensures) in
+    rw c.in-Unshown.is (rw line at c.put_bytes-in-Unshown.ensures.gains)
