@@ -67,16 +67,20 @@ class Trace:
         """How many cycles were stalled."""
         return sum(line.startswith("stall") for line in self.log)
 
-    def chart(self) -> str:
-        """The log as a picture, in SVG: stripes down, cycles across, a colour for each stage."""
-        return self._drawn("chart")
+    def chart(self, first: int | None = None, last: int | None = None) -> str:
+        """The log as a picture, in SVG: stripes down, cycles across, a colour for each stage.
 
-    def wave(self) -> str:
-        """The log as a waveform, in VCD, for GTKWave and its like."""
-        return self._drawn("wave")
+        It shows the cycles from ``first`` to ``last``, or all without them, at most 400.
+        """
+        return self._drawn("chart", first, last)
 
-    def _drawn(self, task: str) -> str:
-        status, note, told = call("pipelens", [task, "/dev/stdin"], None, [self.text.encode()])
+    def wave(self, first: int | None = None, last: int | None = None) -> str:
+        """The log as a waveform, in VCD, for GTKWave and its like: the cycles from ``first`` to ``last``, or all without them."""
+        return self._drawn("wave", first, last)
+
+    def _drawn(self, task: str, first: int | None, last: int | None) -> str:
+        words = [f"--{name}={cycle}" for name, cycle in (("from", first), ("to", last)) if cycle is not None]
+        status, note, told = call("pipelens", [task, "/dev/stdin", *words], None, [self.text.encode()])
         if status:
             raise failure("pipelens", status, note)
         return told.decode()

@@ -129,6 +129,8 @@ class Further(unittest.TestCase):
         self.assertTrue(trace.chart().startswith("<svg"))
         self.assertEqual(trace._repr_svg_(), trace.chart())
         self.assertIn("$enddefinitions", trace.wave())
+        self.assertIn("left out: the first 1 and the last ", trace.chart(1, 2))
+        self.assertIn("$enddefinitions $end\n#10\n", trace.wave(first=1))
 
     def test_configuration(self) -> None:
         program = Program(BOTH, signed=["less"], stripes=3)
