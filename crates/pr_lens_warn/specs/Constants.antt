@@ -11,25 +11,31 @@ use Rattle.pr_lens_source.specs.Tokens.{kind_of}
 use Rattle.pr_lens_rules.specs.Uses.{is_signed}
 use Rattle.pr_lens_warn.specs.declared.remarks.Remark.{Remark}
 use Rattle.pr_lens_warn.specs.declared.remarks.Remark.TheVariants.{Negative, Wrapping}
-use Rattle.pr_lens_warn.specs.Kinds.{is_const, is_close_round, is_minus, begins_sum, binds_closer}
+use Rattle.pr_lens_warn.specs.declared.constants.Named.{Named}
+use Rattle.pr_lens_warn.specs.Kinds.{is_const, is_let, is_close_round, is_minus, begins_sum, binds_closer}
 
 -- a number that a semicolon follows
 abbrev pub sole_number : Kind → Kind → Option ℕ
 sole_number (Number number) behind = if is_semi behind then Some number else None
 sole_number _ behind = None
 
--- the number that a name is, where it is introduced as a constant that is one number
-unfoldable pub constant_named : List Token → ℕ → Option ℕ
-constant_named tokens name =
-    if is_const (kind_of tokens (name - 1)) then sole_number (kind_of tokens (name + 2)) (kind_of tokens (name + 3)) else None
+-- a constant or a stream is introduced behind this token
+abbrev pub is_word_of : Named → Kind → Bool
+is_word_of Named.Constant = is_const
+is_word_of Named.Stream = is_let
 
-abbrev pub constant_by : List Token → Option ℕ → Option ℕ
-constant_by tokens None = None
-constant_by tokens (Some name) = constant_named tokens name
+-- the number that a name is, where it is introduced as one number: `const k = 3;` or `let k = 3;`
+unfoldable pub number_named : Named → List Token → ℕ → Option ℕ
+number_named named tokens name =
+    if is_word_of named (kind_of tokens (name - 1)) then sole_number (kind_of tokens (name + 2)) (kind_of tokens (name + 3)) else None
+
+abbrev pub number_by : Named → List Token → Option ℕ → Option ℕ
+number_by named tokens None = None
+number_by named tokens (Some name) = number_named named tokens name
 
 abbrev pub constant_of : List ℕ → List Token → List Span → ℕ → Kind → Option ℕ
 constant_of text tokens spans at (Number number) = Some number
-constant_of text tokens spans at Name = constant_by tokens (introduced_before text tokens spans at)
+constant_of text tokens spans at Name = number_by Named.Constant tokens (introduced_before text tokens spans at)
 constant_of text tokens spans at _ = None
 
 -- the number that a token is, or the constant of its name

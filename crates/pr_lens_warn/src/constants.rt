@@ -4,10 +4,10 @@ ghost use Rattle.std.specs.Prelude.{◌≡◌, ◌+◌, ◌-◌, ◌^◌, ◌<�
 ghost use Rattle.pr_flat.specs.Forms.{number_width};
 ghost use Rattle.pr_lens_rules.specs.Uses.{is_signed};
 ghost use Rattle.pr_lens_source.specs.Introduced.{introduced_before};
-ghost use Rattle.pr_lens_warn.specs.Constants.{constant_at, constant_by, constant_named, is_difference, is_signed_token, negative, negative_of, sole_number, wrapping, wrapping_of};
+ghost use Rattle.pr_lens_warn.specs.Constants.{constant_at, is_difference, is_signed_token, is_word_of, negative, negative_of, number_by, number_named, sole_number, wrapping, wrapping_of};
 
 use crate::kinds::{
-    begins_sum, binds_closer, is_close_round, is_const, is_minus, is_open_round, is_semi,
+    begins_sum, binds_closer, is_close_round, is_const, is_let, is_minus, is_open_round, is_semi,
 };
 use crate::remarks::Remark;
 use pr_base::bits_of;
@@ -15,7 +15,7 @@ use pr_lang::Kind;
 use pr_lens_source::{Source, introduced_before};
 
 /// A number that a semicolon follows.
-pub fn sole_number(kind: Kind, behind: Kind) -> Option<u64>
+fn sole_number(kind: Kind, behind: Kind) -> Option<u64>
     ensures { result ≡ sole_number kind behind }
 {
     match kind {
@@ -24,28 +24,45 @@ pub fn sole_number(kind: Kind, behind: Kind) -> Option<u64>
     }
 }
 
-/// The number that a name is, where it is introduced at this token as a constant that is one number.
-#[tactic(auto, unfolding(crate::specs::Constants::constant_named))]
-fn constant_named(source: &Source, name: usize) -> Option<u64>
-    requires { name < length source.now.tokens.now + 2 }
-    ensures { result ≡ constant_named source.now.tokens.now name }
+/// What a name can be introduced as.
+#[derive(Clone, Copy)]
+pub enum Named {
+    Constant,
+    Stream,
+}
+
+/// Whether a constant or a stream is introduced behind this token.
+fn is_word_of(named: Named, kind: Kind) -> bool
+    ensures { result ≡ is_word_of named kind }
 {
-    if is_const(source.kind(name.saturating_sub(1))) {
+    match named {
+        Named::Constant => is_const(kind),
+        Named::Stream => is_let(kind),
+    }
+}
+
+/// The number that a name is, where it is introduced so at this token, and is one number.
+#[tactic(auto, unfolding(crate::specs::Constants::number_named))]
+fn number_named(named: Named, source: &Source, name: usize) -> Option<u64>
+    requires { name < length source.now.tokens.now + 2 }
+    ensures { result ≡ number_named named source.now.tokens.now name }
+{
+    if is_word_of(named, source.kind(name.saturating_sub(1))) {
         sole_number(source.kind(name + 2), source.kind(name + 3))
     } else {
         None
     }
 }
 
-/// The number that the constant of a name is.
-fn constant_of_name(source: &Source, at: usize) -> Option<u64>
+/// The number that the constant or the stream of a name is.
+pub fn number_of_name(named: Named, source: &Source, at: usize) -> Option<u64>
     requires { at ≤ length source.now.tokens.now + 2 }
-    ensures { result ≡ constant_by source.now.tokens.now
+    ensures { result ≡ number_by named source.now.tokens.now
         (introduced_before source.now.text.now source.now.tokens.now source.now.spans.now at) }
 {
     match introduced_before(source, at) {
         None => None,
-        Some(name) => constant_named(source, name),
+        Some(name) => number_named(named, source, name),
     }
 }
 
@@ -58,7 +75,7 @@ pub fn constant_at(source: &Source, at: usize) -> Option<u64>
 {
     match source.kind(at) {
         Kind::Number(number) => Some(number),
-        Kind::Name => constant_of_name(source, at),
+        Kind::Name => number_of_name(Named::Constant, source, at),
         _ => None,
     }
 }
