@@ -9,6 +9,7 @@ use Rattle.pr_lang.specs.declared.tokens.Kind.TheVariants.{Number, Word}
 use Rattle.pr_lang.specs.declared.tokens.Token.{Token}
 use Rattle.pr_lens_source.specs.declared.sources.Span.{Span}
 use Rattle.pr_lens_source.specs.Tokens.{kind_of, first_of}
+use Rattle.pr_lens_fits.specs.declared.ends.Counted.{Counted}
 
 -- an item begins with this word
 abbrev pub BeginsWith : Keyword → List Token → List Span → ℕ → Type 0
@@ -35,6 +36,15 @@ input_bytes tokens spans item =
 -- how many outputs an item is
 abbrev pub output_count : List Token → List Span → ℕ → ℕ
 output_count tokens spans item = if is_output (kind_of tokens (first_of tokens spans item)) then 1 else 0
+
+-- how much an item adds to what is counted, and the word that such an item begins with
+abbrev pub amount_of : Counted → List Token → List Span → ℕ → ℕ
+amount_of Counted.Bytes = input_bytes
+amount_of Counted.Outputs = output_count
+
+abbrev pub word_of : Counted → Keyword
+word_of Counted.Bytes = Input
+word_of Counted.Outputs = Output
 
 -- how many the items before one have together, as far as 64 bits count
 abbrev pub together : (ℕ → ℕ) → ℕ → ℕ
