@@ -134,8 +134,7 @@ pub fn both_bitwise(
         slices_after units.old.items (both_at e a.now b.now (bitwise e table))) }
 {
     let both = both_widened(alloc, units, e, a, b)?;
-    let all = bitwise(alloc, units, e, table, &both.a, &both.b)?;
-    Ok(all)
+    bitwise(alloc, units, e, table, &both.a, &both.b)
 }
 
 /// Add.
@@ -152,8 +151,7 @@ pub fn both_added(
     ensures slices { IfOk result (λ s. s.items ≡ slices_after units.old.items (both_at e a.now b.now (added e))) }
 {
     let both = both_widened(alloc, units, e, a, b)?;
-    let all = added(alloc, units, e, &both.a, &both.b)?;
-    Ok(all)
+    added(alloc, units, e, &both.a, &both.b)
 }
 
 /// Sub.
@@ -171,8 +169,7 @@ pub fn both_subtracted(
     ensures slices { IfOk result (λ s. s.items ≡ slices_after units.old.items (both_at e a.now b.now (subtracted e))) }
 {
     let both = both_widened(alloc, units, e, a, b)?;
-    let all = subtracted(alloc, units, e, &both.a, &both.b)?;
-    Ok(all)
+    subtracted(alloc, units, e, &both.a, &both.b)
 }
 
 /// Choose, by the lowest bit of `c`.
@@ -192,8 +189,7 @@ pub fn both_chosen(
         slices_after units.old.items (both_at e a.now b.now (chosen e c.now))) }
 {
     let both = both_widened(alloc, units, e, a, b)?;
-    let all = chosen(alloc, units, e, c, &both.a, &both.b)?;
-    Ok(all)
+    chosen(alloc, units, e, c, &both.a, &both.b)
 }
 
 /// The product of factors that the rows see at these widths.
@@ -219,8 +215,7 @@ fn both_multiplied(
         b: &both.b,
         wb: widths.1,
     };
-    let all = product(alloc, units, &factors, e)?;
-    Ok(all)
+    product(alloc, units, &factors, e)
 }
 
 /// The sign of a difference of `m + 1` bits.
@@ -241,8 +236,7 @@ fn both_signed_less(
         slices_after units.old.items (both_at (m + 1) a.now b.now (difference_sign m table))) }
 {
     let both = both_widened(alloc, units, m + 1, a, b)?;
-    let all = sign_of_difference(alloc, units, m, table, &both.a, &both.b)?;
-    Ok(all)
+    sign_of_difference(alloc, units, m, table, &both.a, &both.b)
 }
 
 /// A comparison at `m` bits.
@@ -262,8 +256,7 @@ fn both_equal(
         slices_after units.old.items (both_at m a.now b.now (equal_at m closing))) }
 {
     let both = both_widened(alloc, units, m, a, b)?;
-    let all = carried_equal(alloc, units, m, closing, &both.a, &both.b)?;
-    Ok(all)
+    carried_equal(alloc, units, m, closing, &both.a, &both.b)
 }
 
 /// Mul.
@@ -322,8 +315,7 @@ pub fn equal(
         slices_after units.old.items (equal closing (argument_of a.now) (argument_of b.now))) }
 {
     let m = compared_width(a, b);
-    let all = both_equal(alloc, units, m, closing, a, b)?;
-    Ok(all)
+    both_equal(alloc, units, m, closing, a, b)
 }
 
 /// The width of a factor as the rows see it.

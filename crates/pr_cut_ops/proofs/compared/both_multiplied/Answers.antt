@@ -1,24 +1,20 @@
-use Rattle.std.proofs.Common.{◌∙◌, ap₂, List, ◌++◌, length}
+use Rattle.std.proofs.Common.{List}
 use Rattle.std.proofs.lemmas.Result.{IfOk-from_err}
 use Rattle.pr_net.specs.declared.cells.Slice.{Slice}
 use Rattle.pr_cut_units.specs.Parts.{Making}
 use Rattle.pr_cut_units.specs.Products.{product}
+use Rattle.pr_cut_ops.proofs.LastCalls.{last_units, last_slices}
 use Rattle.pr_cut_ops.proofs.compared.both_multiplied.Goals as goal
 
 pub returns-clause-units : goal.returns-clause-units
 returns-clause-units c =
-    let us = c.both_widened.new.units.items in
     let making : List Slice → List Slice → Making = λ x y. product c.args.e x c.args.widths.0 y c.args.widths.1 in
-    c.in_ok-all.ensures.units ∙ ap₂ (λ (x y : List Slice). us ++ (making x y (length us)).units) c.deref.ensures.value c.deref-2.ensures.value ∙ c.in_ok-both.ensures.units making
+    last_units _ making _ _ _ _ _ _ _ c.product.ensures.units c.deref.ensures.value c.deref-2.ensures.value (c.in_ok-both.ensures.units making)
 
 pub returns-clause-slices : goal.returns-clause-slices
 returns-clause-slices c =
-    let us = c.both_widened.new.units.items in
     let making : List Slice → List Slice → Making = λ x y. product c.args.e x c.args.widths.0 y c.args.widths.1 in
-    c.in_ok-all.ensures.slices ∙ ap₂ (λ (x y : List Slice). (making x y (length us)).slices) c.deref.ensures.value c.deref-2.ensures.value ∙ c.in_ok-both.ensures.slices making
+    last_slices _ making _ _ _ _ _ _ c.product.ensures.slices c.deref.ensures.value c.deref-2.ensures.value (c.in_ok-both.ensures.slices making)
 
 pub returns-in_err-both : goal.returns-in_err-both
 returns-in_err-both c = let h = c.from_residual.ensures.0 in record { grows = IfOk-from_err _ _ h; units = IfOk-from_err _ _ h; slices = IfOk-from_err _ _ h }
-
-pub returns-in_err-all : goal.returns-in_err-all
-returns-in_err-all c = let h = c.from_residual-in_err-all.ensures.0 in record { grows = IfOk-from_err _ _ h; units = IfOk-from_err _ _ h; slices = IfOk-from_err _ _ h }
