@@ -1,30 +1,38 @@
 -- Samples that a feed gave, and the rows that are put of them.
-use Rattle.std.proofs.Common.{◌≡◌, ◌≢◌, ◌≤◌, ◌+◌, ◌-◌, ℕ, List, [], ◌∷◌, ◌++◌, drop, length, length-drop, map, reverse, take, None, Some, Option, IfSome, append-nil, refl, sym, ap, ◌∙◌, subst, arith}
+use Rattle.std.proofs.Common.{◌≡◌, ◌≢◌, ◌≤◌, ◌+◌, ◌-◌, ◌^◌, ℕ, List, [], ◌∷◌, ◌++◌, drop, length, length-drop, map, reverse, take, None, Some, Option, IfSome, append-nil, refl, sym, ap, ◌∙◌, subst, arith}
 use Rattle.std.proofs.lemmas.List.{map-append, take_rest}
 use Rattle.pr_edge.specs.Files.{Told, OfFile}
 use Rattle.pr_edge.specs.Tape.{Tape, Appends, AppendsFront}
 use Rattle.pr_edge.proofs.Appending.{Appends-append}
 use Rattle.pr_flat.specs.declared.equations.Operand.{Operand}
-use Rattle.pr_flat.specs.Shape.{EquationShape}
+use Rattle.pr_flat.specs.declared.flat.Flat.{Flat}
+use Rattle.pr_flat.specs.Shape.{EquationShape, shapes_of}
 use Rattle.pr_flat.specs.Values.{row_of, rows_of}
+use Rattle.pr_flat.specs.Widths.{AreWidths}
 use Rattle.pr_lang.specs.declared.trees.Program.{Program}
 use Rattle.pr_lang_meaning.specs.Programs.{out}
+use Rattle.pr_expand_spec.specs.Programs.{equations_of}
+use Rattle.pr_compile_front.specs.Passed.{HasEquations}
 use Rattle.pr_samples.specs.declared.tails.Tail.{Tail}
 use Rattle.pr_samples.specs.declared.feed.Feed.{Feed}
 use Rattle.pr_samples.specs.declared.feed.Got.{Got}
 use Rattle.pr_samples.specs.Feed.{name_of, given_of, fed, SameFile, StandsFor, Begins, IsSeen, ReadsOn, IsGiven, Gives}
+use Rattle.pr_samples.specs.Fed.{fed_of}
 use Rattle.pr_samples.specs.Got.{given_by}
 use Rattle.pr_samples.proofs.ResultLemmas.{put_front}
+use Rattle.pr_scope.specs.declared.checking.Scoped.{Scoped}
 use Rattle.pr_source.specs.declared.evaluator.Evaluator.{Evaluator}
 use Rattle.pr_source.specs.Outputs.{given, given_all}
 use Rattle.pr_source.specs.Standing.{Stands}
 use Rattle.pr_source.proofs.Latest.{rows_of-more}
+use Rattle.pr_source_laws.proofs.Meaning.{rows_mean}
+use Rattle.pr_tool_modes.specs.Samples.{fed_at_most, fed_in}
 use Rattle.pr_tool_modes.proofs.SampleLemmas.{HasGiven, given_more, done_all}
 use Rattle.pr_lens_tracks.specs.declared.looks.Form.{Form}
 use Rattle.pr_lens_tracks.specs.declared.looks.Track.{Track}
 use Rattle.pr_lens_tracks.specs.Texts.{rows_text, text_behind}
 use Rattle.pr_lens_tracks.proofs.RowLemmas.{rows-more}
-use Rattle.pr_lens_signals.specs.Reading.{HasBegun, HasEnded, IsLongFeed, cut_rows}
+use Rattle.pr_lens_signals.specs.Reading.{AreFirst, HasBegun, HasEnded, IsLongFeed, cut_rows}
 
 -- a feed that began as this one has given these samples, and the evaluator was given them
 pub record HasTaken (told : Told) (equations : List EquationShape) (widths : List ℕ) (first f : Feed) (v : Evaluator) : Type 0 where
@@ -40,6 +48,12 @@ pub record HasPut (told : Told) (equations : List EquationShape) (outputs : List
   pub taken : HasTaken told equations widths first f v
   pub text : Put (rows_shown front equations outputs widths taken.samples)
 
+-- ---- a file of any length
+pub long-fed : (widths : List ℕ) (f : Feed) (file : List ℕ) → IsLongFeed widths f → fed f file ≡ fed_in widths file
+unfolding fed_at_most
+long-fed widths f file is =
+    ap (λ (ws : List ℕ). fed_of ws f.limit f.most file) is.inputs ∙ (ap (λ (n : ℕ). fed_of widths n f.most file) is.limit ∙ ap (λ (n : ℕ). fed_of widths (2 ^ 44) n file) is.most)
+
 -- ---- before the first sample
 any_some : (o : Option (List ℕ)) (P : List ℕ → Type 0) → ((file : List ℕ) → P file) → IfSome o P
 any_some None P all = tt
@@ -50,7 +64,7 @@ any_file None name P all = tt
 any_file (Some files) name P all = any_some (files name) P all
 
 -- no sample was given
-reads_none : (told : Told) (inputs : List ℕ) (f : Feed) → IsLongFeed inputs f → ReadsOn told [] f f (λ file. HasGiven f f file [])
+pub reads_none : (told : Told) (inputs : List ℕ) (f : Feed) → IsLongFeed inputs f → ReadsOn told [] f f (λ file. HasGiven f f file [])
 reads_none told inputs f long =
     let begins : (file : List ℕ) → Begins f.tail [] file = λ file. record { rest = file; whole = refl; end = λ ended. (let no : Tail.Open ≡ Tail.Ended = sym long.fresh.bytes.1 ∙ ended in cc) } in
     record {
@@ -60,6 +74,15 @@ reads_none told inputs f long =
       holds = λ file begun. record { stands = long.fresh.stands file; samples = sym (ap (λ (n : ℕ). take n (fed f file).samples) long.fresh.samples) };
     }
 
+-- what was given are first samples
+pub reads_first : (told : Told) (first f : Feed) (samples : List (List ℕ)) → ReadsOn told [] first f (λ file. HasGiven first f file samples) → ReadsOn told [] first f (λ file. AreFirst first file samples)
+reads_first told first f samples reads = record {
+  bytes = reads.bytes;
+  seen = reads.seen;
+  began = reads.began;
+  holds = λ file begins. (given_of f, (reads.holds file begins).samples);
+}
+
 pub put_nothing : (told : Told) (equations : List EquationShape) (outputs : List Operand) (widths inputs : List ℕ) (front : ℕ) (f : Feed) (v : Evaluator) (Put : List (List ℕ) → Type 0) → IsLongFeed inputs f → Stands equations widths [] v → Put []
     → HasPut told equations outputs widths front f f v Put
 put_nothing told equations outputs widths inputs front f v Put long stands none =
@@ -67,27 +90,35 @@ put_nothing told equations outputs widths inputs front f v Put long stands none 
 
 pub begun_nothing : (told : Told) (program : Program) (inputs : List ℕ) (front : ℕ) (f : Feed) (Put : List (List ℕ) → Type 0) → IsLongFeed inputs f → Put (cut_rows front (out program [])) → HasBegun told program front f f Put
 begun_nothing told program inputs front f Put long none =
-    let reads = reads_none told inputs f long in
-    record {
-      samples = [];
-      reads = record {
-        bytes = reads.bytes;
-        seen = reads.seen;
-        began = reads.began;
-        holds = λ file begins. (given_of f, (reads.holds file begins).samples);
-      };
-      text = none;
-    }
+    record { samples = []; reads = reads_first told f f [] (reads_none told inputs f long); text = none }
 
 -- ---- one sample more
+pub reads_more : (told : Told) (first f f' : Feed) (samples : List (List ℕ)) (numbers : List ℕ) → ReadsOn told [] first f (λ file. HasGiven first f file samples) → SameFile first f' → given_of f' ≡ given_of f + 1
+    → ((bytes : List ℕ) → IsSeen told bytes f → ReadsOn told bytes f f' (λ file. StandsFor f file → IsGiven f' (given_of f) numbers file)) → ReadsOn told [] first f' (λ file. HasGiven first f' file (samples ++ numbers ∷ []))
+reads_more told first f f' samples numbers reads same count next =
+    let on = next reads.bytes reads.seen in
+    record {
+      bytes = on.bytes;
+      seen = on.seen;
+      began = λ file begins. reads.began file (on.began file begins);
+      holds = λ file begins.
+          (let before = reads.holds file (on.began file begins) in
+          given_more first f f' file samples numbers same count before (on.holds file begins before.stands));
+    }
+
+-- the row of a sample stands behind those before
+pub given_all-more : (equations : List EquationShape) (outputs : List Operand) (widths : List ℕ) (samples : List (List ℕ)) (numbers row : List ℕ) → row ≡ given equations outputs (row_of equations widths (reverse (rows_of equations widths samples)) numbers)
+    → given_all equations outputs widths (samples ++ numbers ∷ []) ≡ given_all equations outputs widths samples ++ row ∷ []
+given_all-more equations outputs widths samples numbers row is =
+    let rows = rows_of equations widths samples in
+    let last = row_of equations widths (reverse rows) numbers in
+    ap (map (given equations outputs)) (rows_of-more equations widths samples numbers)
+    ∙ (map-append (given equations outputs) rows (last ∷ []) ∙ ap (λ (r : List ℕ). map (given equations outputs) rows ++ r ∷ []) (sym is))
+
 shown-more : (front : ℕ) (equations : List EquationShape) (outputs : List Operand) (widths : List ℕ) (samples : List (List ℕ)) (numbers row : List ℕ) → row ≡ given equations outputs (row_of equations widths (reverse (rows_of equations widths samples)) numbers)
     → rows_shown front equations outputs widths (samples ++ numbers ∷ []) ≡ rows_shown front equations outputs widths samples ++ drop front row ∷ []
 shown-more front equations outputs widths samples numbers row is =
-    let rows = rows_of equations widths samples in
-    let last = row_of equations widths (reverse rows) numbers in
-    let all : given_all equations outputs widths (samples ++ numbers ∷ []) ≡ given_all equations outputs widths samples ++ row ∷ [] =
-    ap (map (given equations outputs)) (rows_of-more equations widths samples numbers) ∙ (map-append (given equations outputs) rows (last ∷ []) ∙ ap (λ (r : List ℕ). map (given equations outputs) rows ++ r ∷ []) (sym is)) in
-    ap (cut_rows front) all ∙ map-append (drop front) (given_all equations outputs widths samples) (row ∷ [])
+    ap (cut_rows front) (given_all-more equations outputs widths samples numbers row is) ∙ map-append (drop front) (given_all equations outputs widths samples) (row ∷ [])
 
 pub put_more : (told : Told) (equations : List EquationShape) (outputs : List Operand) (widths : List ℕ) (front : ℕ) (first f f' : Feed) (v v' : Evaluator) (numbers row : List ℕ) (Put Put' : List (List ℕ) → Type 0)
     → (has : HasPut told equations outputs widths front first f v Put) → SameFile first f' → given_of f' ≡ given_of f + 1
@@ -96,22 +127,25 @@ pub put_more : (told : Told) (equations : List EquationShape) (outputs : List Op
     → (Put (rows_shown front equations outputs widths has.taken.samples) → Put' (rows_shown front equations outputs widths has.taken.samples ++ drop front row ∷ [])) → HasPut told equations outputs widths front first f' v' Put'
 put_more told equations outputs widths front first f f' v v' numbers row Put Put' has same count next stands is put =
     let taken = has.taken in
-    let on = next taken.reads.bytes taken.reads.seen in
     record {
       taken = record {
         samples = taken.samples ++ numbers ∷ [];
-        reads = record {
-          bytes = on.bytes;
-          seen = on.seen;
-          began = λ file begins. taken.reads.began file (on.began file begins);
-          holds = λ file begins.
-              (let before = taken.reads.holds file (on.began file begins) in
-              given_more first f f' file taken.samples numbers same count before (on.holds file begins before.stands));
-        };
+        reads = reads_more told first f f' taken.samples numbers taken.reads same count next;
         stands = stands;
       };
       text = subst Put' (sym (shown-more front equations outputs widths taken.samples numbers row is)) (put has.text);
     }
+
+-- the equations of a program give what the program means on samples that an evaluator was given
+pub given-mean : (scoped : Scoped) (flat : Flat) (widths : List ℕ) (samples : List (List ℕ)) (v : Evaluator) → HasEquations scoped.program flat → AreWidths (equations_of scoped.program).equations widths
+    → Stands (shapes_of flat.equations.items) widths samples v → given_all (shapes_of flat.equations.items) flat.outputs.items widths samples ≡ out scoped.program samples
+given-mean scoped flat widths samples v has wide stands = rows_mean scoped.program flat widths samples (record {
+  lawful = scoped.lawful;
+  equations = has.equations;
+  outputs = has.outputs;
+  wide = subst (λ (es : List EquationShape). AreWidths es widths) (sym has.equations) wide;
+  rows = stands.lawful;
+})
 
 -- a row without its front
 pub row-rest : (row : List ℕ) (k front : ℕ) → k ≡ front → take (length row - k) (drop k row) ≡ drop front row
@@ -161,12 +195,7 @@ module _ (told : Told) (program : Program) (equations : List EquationShape) (out
   pub put_broken : HasBegun told program front first f Put
   put_broken = record {
     samples = has.taken.samples;
-    reads = record {
-      bytes = has.taken.reads.bytes;
-      seen = has.taken.reads.seen;
-      began = has.taken.reads.began;
-      holds = λ file begins. (given_of f, (has.taken.reads.holds file begins).samples);
-    };
+    reads = reads_first told first f has.taken.samples has.taken.reads;
     text = text-means;
   }
 

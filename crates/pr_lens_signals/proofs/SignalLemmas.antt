@@ -1,5 +1,5 @@
 -- What is written of a program that shows its instances, as the streams of a program's names.
-use Rattle.std.proofs.Common.{◌≡◌, ◌≢◌, ◌+◌, ◌≤◌, ◌^◌, ℕ, List, [], ◌∷◌, ◌++◌, drop, length, map, take, None, Some, refl, sym, ap, ap₂, ◌∙◌, subst, arith, inl, inr}
+use Rattle.std.proofs.Common.{◌≡◌, ◌≢◌, ◌+◌, ◌≤◌, ℕ, List, [], ◌∷◌, ◌++◌, drop, length, map, take, None, Some, refl, sym, ap, ap₂, ◌∙◌, subst, arith, inl, inr}
 use Rattle.std.specs.List.{range_with_len}
 use Rattle.std.proofs.lemmas.List.{length-map, map-append}
 use Rattle.std.proofs.Math.Seq.{drop-append_seam}
@@ -21,14 +21,14 @@ use Rattle.pr_probe.specs.Probes.{numbers_at}
 use Rattle.pr_run.proofs.Lines.{nothing_appended}
 use Rattle.pr_samples.specs.declared.feed.Feed.{Feed}
 use Rattle.pr_samples.specs.declared.feed.Got.{Got}
-use Rattle.pr_samples.specs.Fed.{Fed, Ending, End, BadSample, Limit, fed_of}
+use Rattle.pr_samples.specs.Fed.{Fed, Ending, End, BadSample, Limit}
 use Rattle.pr_samples.specs.Feed.{name_of, fed, Begins}
 use Rattle.pr_samples.proofs.ResultLemmas.{put_front}
 use Rattle.pr_samples.proofs.SeenLemmas.{begins_itself, both_of}
 use Rattle.pr_tool_answers.specs.declared.answers.Answer.{Answer}
 use Rattle.pr_tool_modes.specs.Evaluations.{EndsBy, answer_by}
 use Rattle.pr_tool_modes.specs.Programs.{inputs_of}
-use Rattle.pr_tool_modes.specs.Samples.{fed_at_most, fed_in}
+use Rattle.pr_tool_modes.specs.Samples.{fed_in}
 use Rattle.pr_tool_modes.proofs.FileLemmas.{rose_earlier}
 use Rattle.pr_tool_modes.proofs.SampleLemmas.{some_file}
 use Rattle.pr_lens_probe.specs.Shown.{HasColumns, Shows, width_of}
@@ -41,18 +41,13 @@ use Rattle.pr_lens_tracks.specs.Texts.{head_text, rows_text}
 use Rattle.pr_lens_signals.specs.Manners.{Manner, tracks_of}
 use Rattle.pr_lens_signals.specs.Reading.{all_widths, cut_rows, front_of, HasBegun, HasEnded, IsLongFeed, IsReady, IsSetUp, IsWriteCause}
 use Rattle.pr_lens_signals.specs.Signals.{AreFirst, IsBegun, IsShown, IsSignals, IsUnshown, IsWhole, rows_of}
-use Rattle.pr_lens_signals.proofs.RowLemmas.{begun_nothing, front_more}
+use Rattle.pr_lens_signals.proofs.RowLemmas.{begun_nothing, front_more, long-fed}
 
 -- ---- inputs
 inputs-made : (program : Program) → offence program ≡ None → inputs_of program ≡ input_widths (equations_of program).equations
 inputs-made program none =
     let walk = program-inverted program none in
     ap inputs_after walk.walk ∙ (inputs-walked 0 program.items.items start walk.last walk.all ∙ sym (inputs-of-equations program none))
-
-long-fed : (widths : List ℕ) (f : Feed) (file : List ℕ) → IsLongFeed widths f → fed f file ≡ fed_in widths file
-unfolding fed_at_most
-long-fed widths f file is =
-    ap (λ (ws : List ℕ). fed_of ws f.limit f.most file) is.inputs ∙ (ap (λ (n : ℕ). fed_of widths n f.most file) is.limit ∙ ap (λ (n : ℕ). fed_of widths (2 ^ 44) n file) is.most)
 
 -- ---- pieces
 front-longer : (old new : Tape) (text more : List ℕ) → AppendsFront old new text → AppendsFront old new (text ++ more)

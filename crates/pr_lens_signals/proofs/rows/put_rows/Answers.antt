@@ -9,7 +9,6 @@ use Rattle.pr_samples.specs.declared.feed.Got.{Got}
 use Rattle.pr_samples.specs.Feed.{name_of, given_of, widths_of, StandsFor, IsSeen, ReadsOn, IsGiven, Gives}
 use Rattle.pr_scope_facts.proofs.Inputs.{inputs-of-equations}
 use Rattle.pr_scope_facts.proofs.InvertedItems.{inputs-scoped}
-use Rattle.pr_source_laws.proofs.Meaning.{rows_mean}
 use Rattle.pr_tool_modes.specs.Programs.{inputs_of}
 use Rattle.pr_tool_modes.proofs.FileLemmas.{cause_earlier}
 use Rattle.pr_tool_modes.proofs.SampleLemmas.{lawful_next, same_later}
@@ -18,7 +17,7 @@ use Rattle.std.specs.Prelude.{Vec}
 use Rattle.std.specs.declared.alloc.Global.{Global}
 use Rattle.pr_lens_tracks.specs.declared.looks.Track.{Track}
 use Rattle.pr_lens_tracks.specs.Texts.{HasWritten, rows_text}
-use Rattle.pr_lens_signals.proofs.RowLemmas.{put-less, put_broken, put_ended, put_faulted, put_more, put_nothing, row-appended, row-front, row-rest, rows_shown}
+use Rattle.pr_lens_signals.proofs.RowLemmas.{given-mean, put-less, put_broken, put_ended, put_faulted, put_more, put_nothing, row-appended, row-front, row-rest, rows_shown}
 use Rattle.pr_lens_signals.proofs.rows.put_rows.Goals as goal
 
 pub samples-init : goal.samples-init
@@ -123,13 +122,7 @@ returns-in_default-clause-ended g c = λ no_fault.
     let flat = showing.probed.flat in
     let same = same_later c.args.work.now.feed f f' c.samples.invariant.file c.next.ensures.file in
     let seen = subst (λ (t : Told). (bytes : List ℕ) → IsSeen t bytes f → ReadsOn t bytes f f' (λ file. StandsFor f file → Gives c.next.result (given_of f) f' c.next.new.into file)) c.samples.invariant.same c.next.ensures.seen in
-    let means = rows_mean scoped.program flat showing.widths put.taken.samples (record {
-      lawful = scoped.lawful;
-      equations = c.requires.ready.flat.equations;
-      outputs = c.requires.ready.flat.outputs;
-      wide = subst (λ (es : List EquationShape). AreWidths es showing.widths) (sym c.requires.ready.flat.equations) c.requires.ready.widths;
-      rows = put.taken.stands.lawful;
-    }) in
+    let means = given-mean scoped flat showing.widths put.taken.samples _ c.requires.ready.flat c.requires.ready.widths put.taken.stands in
     put_ended (g.S.Shelf.told c.args.shelf.now) scoped.program (shapes_of flat.equations.items) flat.outputs.items showing.widths (front_of showing) c.args.work.now.feed f c.samples.work.evaluator _ put means f' c.next.new.into c.next.result same
     c.next.ensures.given seen c.in_default.not-Sample no_fault
 
@@ -144,13 +137,7 @@ returns-in_default-clause-begun g c = λ fault.
     let scoped = showing.probed.scoped in
     let flat = showing.probed.flat in
     let seen = subst (λ (t : Told). (bytes : List ℕ) → IsSeen t bytes f → ReadsOn t bytes f f' (λ file. StandsFor f file → Gives c.next.result (given_of f) f' c.next.new.into file)) c.samples.invariant.same c.next.ensures.seen in
-    let means = rows_mean scoped.program flat showing.widths put.taken.samples (record {
-      lawful = scoped.lawful;
-      equations = c.requires.ready.flat.equations;
-      outputs = c.requires.ready.flat.outputs;
-      wide = subst (λ (es : List EquationShape). AreWidths es showing.widths) (sym c.requires.ready.flat.equations) c.requires.ready.widths;
-      rows = put.taken.stands.lawful;
-    }) in
+    let means = given-mean scoped flat showing.widths put.taken.samples _ c.requires.ready.flat c.requires.ready.widths put.taken.stands in
     put_faulted (g.S.Shelf.told c.args.shelf.now) scoped.program (shapes_of flat.equations.items) flat.outputs.items showing.widths (front_of showing) c.args.work.now.feed f c.samples.work.evaluator _ put means f' _ seen
 
 pub returns-in_default-clause-there : goal.returns-in_default-clause-there
@@ -184,11 +171,5 @@ returns-in-Err-clause-cut g c =
     c.in-Sample.ensures.given seen (c.next-in-Sample.ensures.stands put.taken.samples put.taken.stands) (c.next-in-Sample.ensures.given put.taken.samples put.taken.stands)
     (λ h. row-front first.form pen.form first.tracks.items pen.tracks.items rows (drop front row) _ c.samples.invariant.form (ap (λ (v : Vec Track Global). v.items) c.samples.invariant.tracks) rest old
     (g.K.Sink.told c.samples.out) new h.0 (c.in-Err.ensures.front rows h.1)) in
-    let means = rows_mean scoped.program flat showing.widths broken.taken.samples (record {
-      lawful = scoped.lawful;
-      equations = c.requires.ready.flat.equations;
-      outputs = c.requires.ready.flat.outputs;
-      wide = subst (λ (es : List EquationShape). AreWidths es showing.widths) (sym c.requires.ready.flat.equations) c.requires.ready.widths;
-      rows = broken.taken.stands.lawful;
-    }) in
+    let means = given-mean scoped flat showing.widths broken.taken.samples _ c.requires.ready.flat c.requires.ready.widths broken.taken.stands in
     put_broken told scoped.program (shapes_of flat.equations.items) flat.outputs.items showing.widths (front_of showing) c.args.work.now.feed f' _ _ broken means
