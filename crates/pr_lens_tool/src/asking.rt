@@ -1,7 +1,10 @@
 //! From words to an order.
 
 ghost use Rattle.std.specs.Prelude.{◌≡◌, IfOk, IsErrOf, Some, None, true, false, option_map};
+ghost use Rattle.clap.specs.Values.{kind_of};
 ghost use Rattle.clap.specs.Words.{app_of, rule_of, found_of};
+ghost use Rattle.clap.specs.declared.error.Error.{Error};
+ghost use Rattle.clap.specs.declared.error.kind.ErrorKind.TheVariants.{OutOfMemory};
 ghost use Rattle.pr_tool_words.specs.Lawful.{is_true, number_in};
 ghost use Rattle.pr_tool_words.specs.Shape.{place, option, option_or, flag};
 ghost use Rattle.pr_lens_tool.specs.Tasks.{module_named};
@@ -28,6 +31,9 @@ pub enum OrderFault {
     /// Memory was wanting.
     #[error("out of memory")]
     Memory(AllocError),
+    /// The parser of command lines had no memory. This is its own error, which is of that kind.
+    #[error("out of memory")]
+    Unparsed(clap::error::Error),
 }
 
 impl From<AllocError> for OrderFault {
@@ -198,12 +204,13 @@ pub fn read_order<'a>(alloc: Global, words: &'a [String]) -> Result<Order<'a>, O
     ensures order { IfOk result (λ o. asked_by words.entry.now ≡ Some (asked_in o)) }
     ensures usage { IsErrOf result OrderFault.Usage → asked_by words.entry.now ≡ None }
     ensures help { IsErrOf result OrderFault.Help → asked_by words.entry.now ≡ None }
+    ensures unparsed { (e : Error) → IsErrOf result (OrderFault.Unparsed e) → kind_of e ≡ OutOfMemory }
 {
     let command = command(alloc)?;
     let matches = match command.try_get_matches_from(words) {
         Ok(matches) => matches,
         Err(e) => match e.kind() {
-            ErrorKind::OutOfMemory => return Err(OrderFault::Memory(AllocError)),
+            ErrorKind::OutOfMemory => return Err(OrderFault::Unparsed(e)),
             ErrorKind::DisplayHelp => return Err(OrderFault::Help),
             _ => return Err(OrderFault::Usage),
         },

@@ -162,6 +162,8 @@ pub fn pipelens<S: Shelf, K: Sink>(
         }
         Err(OrderFault::Help) => bare(written(out, HELP, Outcome::Plain(Answer::Ok))),
         Err(OrderFault::Usage) => bare(Outcome::Usage),
-        Err(OrderFault::Memory(_)) => bare(Outcome::Plain(Answer::Memory)),
+        Err(OrderFault::Memory(_) | OrderFault::Unparsed(_)) => bare(Outcome::Plain(
+            Answer::Memory,
+        )),
     }
 }
