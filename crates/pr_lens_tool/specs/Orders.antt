@@ -62,11 +62,11 @@ is_fit task second = is_none second
 abbrev pub fit : Asked → Option Asked
 fit asked = if is_fit asked.task asked.second then Some asked else None
 
--- by the values of the options and the places, where all are lawful
 -- a number of 64 bits
 abbrev pub long_in : Text → Option ℕ
 long_in = number_in 0 18446744073709551615
 
+-- by the values of the options and the places, where all are lawful
 abbrev pub asked_from : (task file second fabric narrow samples json csv no_warnings name signed seed from to : Option Text) → Option Asked
 asked_from task file second fabric narrow samples json csv no_warnings name signed seed from to =
     option_and_then fit (option_and_then (λ t. option_and_then (λ f. option_and_then (λ b. option_and_then (λ n. option_and_then (λ m. option_and_then (λ k. option_and_then (λ a. option_map (λ z. record {
