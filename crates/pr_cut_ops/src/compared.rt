@@ -315,7 +315,8 @@ pub fn equal(
         slices_after units.old.items (equal closing (argument_of a.now) (argument_of b.now))) }
 {
     let m = compared_width(a, b);
-    both_equal(alloc, units, m, closing, a, b)
+    let all = both_equal(alloc, units, m, closing, a, b)?;
+    Ok(all)
 }
 
 /// The width of a factor as the rows see it.
