@@ -10,8 +10,12 @@ from collections.abc import Iterable, Sequence
 from functools import cache
 from typing import Any
 
-from ._numbers import NONE, ends_of
+from ._numbers import ends_of
 from ._streams import numpy
+
+# What stands for a leading zero, until all of them are deleted.
+_NONE = 0
+
 
 def in_turn(columns: Sequence[Sequence[int]]) -> list[int]:
     """The numbers of columns, row by row."""
@@ -23,12 +27,31 @@ def in_turn(columns: Sequence[Sequence[int]]) -> list[int]:
 
 # Numbers below 256, each in a byte
 
+# For each place: the figure of every number there.
+_FIGURES = [
+    bytes(ord("0") + n // power % 10 if n >= least else _NONE for n in range(256))
+    for power, least in ((100, 100), (10, 10), (1, 0))
+]
+
 # For each place, the ones first: what each figure there is worth. A space is worth nothing.
 _WORTHS = [
     bytes((byte - ord("0")) * power % 256 if chr(byte) in "0123456789" else 0 for byte in range(256)) for power in (1, 10, 100)
 ]
 
 _TABS = bytes.maketrans(b" \n", b"\t\t")
+
+
+def lines_of_bytes(columns: Sequence[bytes]) -> bytes:
+    """The lines of columns of numbers below 256."""
+    count = len(columns[0])
+    places = []
+    for column, end in zip(columns, ends_of(len(columns))):
+        places += [column.translate(figures) for figures in _FIGURES]
+        places.append(end * count)
+    text = bytearray(len(places) * count)
+    for place, figures in enumerate(places):
+        text[place :: len(places)] = figures
+    return bytes(text.translate(None, bytes([_NONE])))
 
 
 def bytes_of(text: bytes) -> bytes:
@@ -48,7 +71,7 @@ def lines_of_arrays(columns: Sequence[Any]) -> bytes:
     text = numpy.empty((len(columns[0]), len(parts)), dtype=numpy.uint32)
     for place, part in enumerate(parts):
         text[:, place] = part
-    return text.tobytes().translate(None, bytes([NONE]))
+    return text.tobytes().translate(None, bytes([_NONE]))
 
 
 def _parts(column: Any, end: bytes) -> list[Any]:
@@ -84,7 +107,7 @@ def _upper_parts() -> Any:
 
 
 def _table(texts: Iterable[bytes]) -> Any:
-    return numpy.frombuffer(b"".join(text.rjust(4, bytes([NONE])) for text in texts), dtype=numpy.uint32)
+    return numpy.frombuffer(b"".join(text.rjust(4, bytes([_NONE])) for text in texts), dtype=numpy.uint32)
 
 
 def array_of(text: bytes) -> Any:

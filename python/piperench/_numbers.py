@@ -1,11 +1,11 @@
 """Whole numbers as lines of decimals and as words of 8 bytes. Called as a program, it turns one into the other.
 
-Python takes about as long to write and to read a sample as the program takes to work on it, and longer for numbers above 8 bits. So
-where there are many samples, two further Pythons stand before and behind the program in a pipeline:
+Python takes longer to write and to read a sample of numbers above 8 bits than the program takes to work on it. So where there
+are many samples, two further Pythons stand before and behind the program in a pipeline:
 
     pieces | _numbers.py write | piperench run .. | _numbers.py read | words
 
-A piece has words, bytes, or lines that were made before. The further Pythons want no package, and no setting of their caller.
+A piece has words, or lines that were made before. The further Pythons want no package, and no setting of their caller.
 """
 
 from __future__ import annotations
@@ -26,18 +26,8 @@ PROGRAM = [sys.executable, os.path.abspath(__file__)]
 #: How it is called; ``write`` or ``read`` comes behind.
 COMMAND = [sys.executable, "-I", "-S", PROGRAM[1]]
 
-# What stands before each piece: how many numbers a line is to have, the bytes of a number, or 0 where lines follow, and how many
-# bytes follow.
-_HEAD = struct.Struct("=3q")
-
-#: What stands for a leading zero, until all of them are deleted.
-NONE = 0
-
-# For each place of a number below 256: its figure there.
-_FIGURES = [
-    bytes(ord("0") + n // power % 10 if n >= least else NONE for n in range(256))
-    for power, least in ((100, 100), (10, 10), (1, 0))
-]
+# What stands before each piece: how many numbers a line is to have, or 0 where lines follow, and how many bytes follow.
+_HEAD = struct.Struct("=2q")
 
 _WITH_COMMAS = bytes.maketrans(b" \n", b",,")
 
@@ -53,19 +43,6 @@ def lines_of(numbers: Sequence[int], count: int) -> bytes:
     return line * (len(numbers) // count) % tuple(numbers)
 
 
-def lines_of_bytes(columns: Sequence[bytes]) -> bytes:
-    """The lines of columns of numbers below 256: a figure of all numbers at a time."""
-    count = len(columns[0])
-    places = []
-    for column, end in zip(columns, ends_of(len(columns))):
-        places += [column.translate(figures) for figures in _FIGURES]
-        places.append(end * count)
-    text = bytearray(len(places) * count)
-    for place, figures in enumerate(places):
-        text[place :: len(places)] = figures
-    return bytes(text.translate(None, bytes([NONE])))
-
-
 def numbers_of(lines: bytes) -> list[int]:
     """The numbers of whole lines."""
     # The reader of JSON takes less time than a call of int for each number.
@@ -79,37 +56,22 @@ def as_words(numbers: Sequence[int], count: int) -> bytes:
     except struct.error:
         # A number is negative, or has more bits. The program is to see it as it is.
         return as_lines(numbers, count)
-    return _HEAD.pack(count, 8, len(words)) + words
-
-
-def as_bytes(columns: Sequence[bytes]) -> bytes:
-    """A piece of columns of numbers below 256, to be written row by row."""
-    numbers = b"".join(columns)
-    return _HEAD.pack(len(columns), 1, len(numbers)) + numbers
+    return _HEAD.pack(count, len(words)) + words
 
 
 def as_lines(numbers: Sequence[int], count: int) -> bytes:
     """A piece that is written already, in lines of so many numbers."""
     lines = lines_of(numbers, count)
-    return _HEAD.pack(count, 0, len(lines)) + lines
-
-
-def _lines_in(data: bytes, count: int, size: int) -> bytes:
-    """The lines of a piece with so many numbers a line, of so many bytes each; it has its lines already where these are none."""
-    if size == 0:
-        return data
-    if size == 1:
-        rows = len(data) // count
-        return lines_of_bytes([data[start : start + rows] for start in range(0, len(data), rows)])
-    return lines_of(array("Q", data), count)
+    return _HEAD.pack(0, len(lines)) + lines
 
 
 def write() -> None:
     """Writes the lines of pieces, until there are no more, or nobody reads on."""
     try:
         while head := sys.stdin.buffer.read(_HEAD.size):
-            count, size, length = _HEAD.unpack(head)
-            sys.stdout.buffer.write(_lines_in(sys.stdin.buffer.read(length), count, size))
+            count, size = _HEAD.unpack(head)
+            data = sys.stdin.buffer.read(size)
+            sys.stdout.buffer.write(lines_of(array("Q", data), count) if count else data)
             sys.stdout.buffer.flush()
     except BrokenPipeError:
         os._exit(0)

@@ -76,7 +76,8 @@ class PackedResults(Results):
 
 def results_of(samples: Any, outputs: Callable[[], Sequence[Port]]) -> Results:
     """What takes the results of the samples, packed where that takes less time."""
-    return PackedResults(outputs) if are_many(samples) and 0 < widest(outputs()) <= 64 else Results(outputs)
+    # Results of 8 bits are read in less time than a further process needs to start.
+    return PackedResults(outputs) if are_many(samples) and 8 < widest(outputs()) <= 64 else Results(outputs)
 
 
 def streams_of(lines: bytes, outputs: Sequence[Port]) -> Streams:

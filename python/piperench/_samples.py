@@ -13,7 +13,7 @@ from typing import Any
 
 from . import _decimals as decimals
 from ._call import Feed
-from ._numbers import PROGRAM, as_bytes, as_lines, as_words, lines_of, lines_of_bytes
+from ._numbers import PROGRAM, as_lines, as_words, lines_of
 from ._streams import Port, Streams, numbers, numpy
 
 #: How many samples are written in one piece: few enough for the processor's cache, and for a pipe to hold more than one piece.
@@ -41,7 +41,8 @@ def counted_pieces(samples: Any, inputs: Sequence[Port], chunk: int) -> Iterator
 
 def feed_of(samples: Any, inputs: Sequence[Port]) -> Feed:
     """The samples for a call, packed where that takes less time."""
-    if are_many(samples) and 0 < widest(inputs) <= 64:
+    # Samples of 8 bits are made into lines in as little time as into words.
+    if are_many(samples) and 8 < widest(inputs) <= 64:
         return Feed(_packed_pieces(samples, inputs), packed=True)
     return Feed(pieces_of(samples, inputs))
 
@@ -69,15 +70,10 @@ def count_of(samples: Any) -> int:
 
 
 def _packed_pieces(samples: Any, inputs: Sequence[Port]) -> Iterator[bytes]:
-    """Pieces for the process that writes lines.
-
-    Numbers of up to 8 bits are bytes. Of others every second piece has its lines, so that the two processes write half of them each.
-    """
+    """Pieces for the process that writes lines. Every second one has its lines, so that the two processes write half of them each."""
     done = 0
     for columns, made in zip(columns_of(samples, inputs, CHUNK), cycle((as_lines, as_words))):
-        pairs = list(zip(columns, inputs))
-        octets = _octets_of(pairs)
-        yield as_bytes(octets) if octets else made(_in_turn(pairs, done), len(inputs))
+        yield made(_in_turn(list(zip(columns, inputs)), done), len(inputs))
         done += len(columns[0])
 
 
@@ -148,9 +144,11 @@ def _is_array(values: Any) -> bool:
 def _text_of(columns: list[Any], inputs: Sequence[Port], done: int) -> bytes:
     """The lines of these columns, after so many samples, by the fastest way that there is to write them."""
     pairs = list(zip(columns, inputs))
-    octets = _octets_of(pairs)
-    if octets:
-        return lines_of_bytes(octets)
+    if all(port.width is not None and port.width <= 8 for port in inputs) and not any(map(_is_array, columns)):
+        try:
+            return decimals.lines_of_bytes([_plain_bytes(column, port) for column, port in pairs])
+        except (ValueError, OverflowError):
+            pass  # A number is too large or negative.
     if numpy is not None:
         arrays = [_plain_array(_as_array(column, port), port) for column, port in pairs]
         if all(map(_is_array, arrays)):
@@ -185,16 +183,6 @@ def _plain_array(column: Any, port: Port) -> Any:
     if int(column.min()) < -half or int(column.max()) >= half:
         return None
     return column.astype(numpy.int64).view(numpy.uint64) & ((half << 1) - 1)
-
-
-def _octets_of(pairs: list[tuple[Any, Port]]) -> list[bytes]:
-    """Columns of numbers of at most 8 bits as bytes; none where a number is larger or negative, or a column is one of numpy."""
-    if any(port.width is None or port.width > 8 or _is_array(column) for column, port in pairs):
-        return []
-    try:
-        return [_plain_bytes(column, port) for column, port in pairs]
-    except (ValueError, OverflowError):
-        return []
 
 
 def _plain_bytes(column: Any, port: Port) -> bytes:

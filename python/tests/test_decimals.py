@@ -8,7 +8,6 @@ import unittest
 from fractions import Fraction
 
 from piperench import _decimals as decimals
-from piperench._numbers import lines_of_bytes
 from piperench._results import Results, streams_of
 from piperench._samples import pieces_of
 from piperench._streams import Port
@@ -188,5 +187,5 @@ class Tables(unittest.TestCase):
     def test_each_byte(self) -> None:
         every = bytes(range(256))
         text = plain([list(every)])
-        self.assertEqual(lines_of_bytes([every]), text)
+        self.assertEqual(decimals.lines_of_bytes([every]), text)
         self.assertEqual(decimals.bytes_of(text), every)
