@@ -76,7 +76,7 @@ class PackedResults(Results):
 
 def results_of(samples: Any, outputs: Callable[[], Sequence[Port]]) -> Results:
     """What takes the results of the samples, packed where that takes less time."""
-    # Results of 8 bits are read in less time than a further process needs to start.
+    # Runs with results of 8 bits took less time without a further process (bench/README.md).
     return PackedResults(outputs) if are_many(samples) and 8 < widest(outputs()) <= 64 else Results(outputs)
 
 
