@@ -49,7 +49,7 @@ class Feed:
 class Call:
     """A running call of a program. Its standard input takes samples, and what it writes is read as it comes.
 
-    With ``packed_input`` it takes pieces for ``_numbers.write``; with ``packed_output`` it gives the words of ``_numbers.read``.
+    With ``packed_input`` it takes pieces for ``_numbers.write``; with ``word`` it gives words of so many bytes, of ``_numbers.read``.
     """
 
     def __init__(
@@ -58,7 +58,7 @@ class Call:
         words: Sequence[str],
         folder: str | None = None,
         packed_input: bool = False,
-        packed_output: bool = False,
+        word: int = 0,
     ) -> None:
         program = executable(name)
         self._notes = tempfile.TemporaryFile()
@@ -67,8 +67,8 @@ class Call:
             if packed_input:
                 self._start([*COMMAND, "write"])
             self._process = self._start(["/bin/sh", "-c", _WITH_A_DEEP_STACK, program, *words], self._notes, folder)
-            if packed_output:
-                self._start([*COMMAND, "read"])
+            if word:
+                self._start([*COMMAND, "read", str(word)])
         except BaseException:
             self.stop()
             raise
@@ -172,10 +172,10 @@ def pipe(
     folder: str | None,
     feed: Feed,
     take: Callable[[bytes], object],
-    packed: bool = False,
+    word: int = 0,
 ) -> tuple[int, str]:
     """Calls a program to its end, and gives ``take`` what it writes, as it comes: its status and its note."""
-    with Call(name, words, folder, feed.packed, packed) as running:
+    with Call(name, words, folder, feed.packed, word) as running:
         for data in running.exchange(feed.pieces):
             take(data)
         return running.end()

@@ -28,70 +28,55 @@ def in_turn(columns: Sequence[Sequence[int]]) -> list[int]:
 # Numbers below 256, each in a byte
 
 # For each place: the figure of every number there.
-_FIGURES = [
-    bytes(ord("0") + n // power % 10 if n >= least else _NONE for n in range(256))
-    for power, least in ((100, 100), (10, 10), (1, 0))
-]
+_FIGURES = [bytes(ord("0") + n // power % 10 for n in range(256)) for power in (100, 10, 1)]
 
-# For each place, the ones first: what each figure there is worth. A space is worth nothing.
-_WORTHS = [
-    bytes((byte - ord("0")) * power % 256 if chr(byte) in "0123456789" else 0 for byte in range(256)) for power in (1, 10, 100)
-]
-
-_TABS = bytes.maketrans(b" \n", b"\t\t")
+# The same without leading zeros.
+_FIGURES_ALONE = [bytes([_NONE] * least) + figures[least:] for figures, least in zip(_FIGURES, (100, 10, 0))]
 
 
-def lines_of_bytes(columns: Sequence[bytes]) -> bytes:
-    """The lines of columns of numbers below 256."""
+def lines_of_bytes(columns: Sequence[bytes], zeros: bool = False) -> bytes:
+    """The lines of columns of numbers below 256. With ``zeros`` each number has three figures, which takes less time."""
     count = len(columns[0])
     places = []
     for column, end in zip(columns, ends_of(len(columns))):
-        places += [column.translate(figures) for figures in _FIGURES]
+        places += [column.translate(figures) for figures in (_FIGURES if zeros else _FIGURES_ALONE)]
         places.append(end * count)
     text = bytearray(len(places) * count)
     for place, figures in enumerate(places):
         text[place :: len(places)] = figures
-    return bytes(text.translate(None, bytes([_NONE])))
-
-
-def bytes_of(text: bytes) -> bytes:
-    """The numbers of a text, all below 256, with one space or LF behind each."""
-    # From the last number to the first, each in four bytes: its ones first, and spaces where it has no more figures.
-    fields = (text[-2::-1] + b"\n").translate(_TABS).expandtabs(4)
-    # Each sum stays below 256, so no number carries into the one above it.
-    total = sum(int.from_bytes(fields[place::4].translate(worth), "little") for place, worth in enumerate(_WORTHS))
-    return total.to_bytes(len(fields) // 4, "big")
+    return bytes(text if zeros else text.translate(None, bytes([_NONE])))
 
 
 # Arrays of numpy
 
-def lines_of_arrays(columns: Sequence[Any]) -> bytes:
-    """The lines of columns of numpy of whole numbers, none of them negative."""
-    parts = [part for column, end in zip(columns, ends_of(len(columns))) for part in _parts(column, end)]
+def lines_of_arrays(columns: Sequence[Any], zeros: bool = False) -> bytes:
+    """The lines of columns of numpy of whole numbers, none of them negative. With ``zeros`` numbers may have leading zeros."""
+    parts = [part for column, end in zip(columns, ends_of(len(columns))) for part in _parts(column, end, zeros)]
     text = numpy.empty((len(columns[0]), len(parts)), dtype=numpy.uint32)
     for place, part in enumerate(parts):
         text[:, place] = part
-    return text.tobytes().translate(None, bytes([_NONE]))
+    return text.tobytes() if zeros else text.tobytes().translate(None, bytes([_NONE]))
 
 
-def _parts(column: Any, end: bytes) -> list[Any]:
+def _parts(column: Any, end: bytes, zeros: bool) -> list[Any]:
     """The texts of numbers with an end behind each, in parts of four bytes: so many as the greatest number takes."""
     if column.max() < 1000:
-        return [_last_parts(end).take(column.astype(numpy.int64))]
+        return [_texts_of(column.astype(numpy.int64), _last_parts(end), 0, zeros)]
     wide = column.astype(numpy.uint64)
     rest = wide // 1000
-    low = wide - rest * 1000
-    parts = [_last_parts(end).take(_with_zeros(low, rest, 1000))]
+    parts = [_texts_of(wide - rest * 1000, _last_parts(end), rest, zeros)]
     while rest.any():
         above = rest // 10000
-        parts.append(_upper_parts().take(_with_zeros(rest - above * 10000, above, 10000)))
+        parts.append(_texts_of(rest - above * 10000, _upper_parts(), above, zeros))
         rest = above
     return parts[::-1]
 
 
-def _with_zeros(part: Any, above: Any, size: int) -> Any:
-    """Where each part of a number stands in a table: from ``size`` on where a figure stands before it."""
-    return part.astype(numpy.int64) + size * (above > 0)
+def _texts_of(part: Any, table: Any, above: Any, zeros: bool) -> Any:
+    """The texts of a part of each number: with leading zeros, or with those that have a figure before them."""
+    half = len(table) // 2
+    places = part.view(numpy.int64)
+    return table[half:].take(places) if zeros else table.take(places + half * (above > 0))
 
 
 @cache

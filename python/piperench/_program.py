@@ -283,17 +283,19 @@ class Program:
         options: Sequence[str],
         stall: str | None,
         take: Callable[[bytes], object],
-        packed: bool = False,
+        word: int = 0,
     ) -> tuple[int, str]:
         with self._folder(stall) as folder:
             if isinstance(samples, (str, os.PathLike)):
                 return pipe("piperench", self._words(mode, options, _existing(samples), stall), folder, Feed(), take)
             words = self._words(mode, options, "/dev/stdin", stall)
-            return pipe("piperench", words, folder, feed_of(samples, self.inputs), take, packed)
+            # What `eval` takes is counted in bytes of text, so there each number is as short as it can be.
+            feed = feed_of(samples, self.inputs, zeros=mode != "eval")
+            return pipe("piperench", words, folder, feed, take, word)
 
     def _streams(self, mode: str, samples: Any, options: Sequence[str], stall: str | None = None) -> Streams:
         results = results_of(samples, lambda: self.outputs)
-        status, note = self._sampled(mode, samples, options, stall, results.take, results.packed)
+        status, note = self._sampled(mode, samples, options, stall, results.take, results.word)
         if status:
             raise self._failure(status, note, samples, results)
         return results.streams()
@@ -352,7 +354,7 @@ class _Stored:
         stripes: int | None,
         stall: str | None,
         take: Callable[[bytes], object],
-        packed: bool = False,
+        word: int = 0,
     ) -> tuple[int, str]:
         size = self.stripes if stripes is None else _lawful_stripes(stripes)
         with tempfile.TemporaryDirectory(prefix="piperench-") as folder:
@@ -365,11 +367,11 @@ class _Stored:
                 return pipe("piperench", [mode, "content", _existing(samples), *options], folder, Feed(), take)
             # A damaged file may name no inputs; the program says what is wrong with it before it reads a sample.
             feed = feed_of(samples, self.inputs) if self.inputs else Feed()
-            return pipe("piperench", [mode, "content", "/dev/stdin", *options], folder, feed, take, packed)
+            return pipe("piperench", [mode, "content", "/dev/stdin", *options], folder, feed, take, word)
 
     def _streams(self, mode: str, samples: Any, stripes: int | None, stall: str | None) -> Streams:
         results = results_of(samples, lambda: self.outputs)
-        status, note = self._call(mode, samples, stripes, stall, results.take, results.packed)
+        status, note = self._call(mode, samples, stripes, stall, results.take, results.word)
         if status:
             error = failure("piperench", status, note)
             if isinstance(error, Refused) and status != 9:

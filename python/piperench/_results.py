@@ -8,7 +8,7 @@ from collections.abc import Callable, Iterable, Iterator, Sequence
 from typing import Any
 
 from . import _decimals as decimals
-from ._numbers import PIECE, numbers_of
+from ._numbers import PIECE, numbers_of, words_of
 from ._samples import are_many, widest
 from ._streams import Port, Streams, column_of, numpy
 
@@ -19,8 +19,8 @@ class Results:
     ``outputs`` gives the outputs; it is asked when the first results are there, and not where there are none.
     """
 
-    #: Whether the results come as words of 8 bytes, and not as lines.
-    packed = False
+    #: The size of the words that the results come as, in bytes; 0 where they come as lines.
+    word = 0
 
     def __init__(self, outputs: Callable[[], Sequence[Port]]) -> None:
         self._outputs = outputs
@@ -61,23 +61,29 @@ class Results:
 
 
 class PackedResults(Results):
-    """The results of a call that come as words of 8 bytes. The outputs have at most 64 bits."""
+    """The results of a call that come as words of 1, 2 or 8 bytes, none of them narrower than an output."""
 
-    packed = True
+    def __init__(self, outputs: Callable[[], Sequence[Port]], word: int) -> None:
+        super().__init__(outputs)
+        self.word = word
 
     def _whole(self, data: bytes) -> int:
-        return len(data) - len(data) % (8 * len(self._outputs()))
+        return len(data) - len(data) % (self.word * len(self._outputs()))
 
     def _columns(self, rows: bytes) -> list[Any]:
-        ports = self._outputs()
-        words = array("Q", rows)
-        return [_column_of_words(words[k :: len(ports)], port) for k, port in enumerate(ports)]
+        return _columns_of_words(rows, self.word, self._outputs())
 
 
 def results_of(samples: Any, outputs: Callable[[], Sequence[Port]]) -> Results:
     """What takes the results of the samples, packed where that takes less time."""
-    # Runs with results of 8 bits took less time without a further process (bench/README.md).
-    return PackedResults(outputs) if are_many(samples) and 8 < widest(outputs()) <= 64 else Results(outputs)
+    word = _word_of(outputs()) if are_many(samples) else 0
+    return PackedResults(outputs, word) if word else Results(outputs)
+
+
+def _word_of(ports: Sequence[Port]) -> int:
+    """The bytes of a word for the numbers of these outputs; 0 where one has more than 64 bits, or how many is not known."""
+    width = widest(ports)
+    return next((word for word in (1, 2, 8) if 0 < width <= 8 * word), 0)
 
 
 def streams_of(lines: bytes, outputs: Sequence[Port]) -> Streams:
@@ -91,16 +97,19 @@ def _columns_of(lines: bytes, ports: Sequence[Port]) -> list[Any]:
     """A column for each output, from whole lines. It is a list where the output's width is not known."""
     count = len(ports)
     if numpy is not None and widest(ports) <= 64:
-        values = decimals.array_of(lines)
-        return [_array_of(values[k::count], port) for k, port in enumerate(ports)]
-    if widest(ports) <= 8:
-        octets = decimals.bytes_of(lines)
-        return [_widened(octets[k::count], port) for k, port in enumerate(ports)]
+        return _arrays_of(decimals.array_of(lines), ports)
+    if word := _word_of(ports):
+        return _columns_of_words(words_of(lines, word), word, ports)
     values = numbers_of(lines)
     columns = [signed_values(values[k::count], port) for k, port in enumerate(ports)]
     return [
         column if port.width is None else column_of(column, port.width, port.signed) for column, port in zip(columns, ports)
     ]
+
+
+def _arrays_of(values: Any, ports: Sequence[Port]) -> list[Any]:
+    """A column of numpy for each output, from its numbers row by row."""
+    return [_array_of(values[k :: len(ports)], port) for k, port in enumerate(ports)]
 
 
 def _array_of(values: Any, port: Port) -> Any:
@@ -112,25 +121,39 @@ def _array_of(values: Any, port: Port) -> Any:
     return column - ((column >> port.width - 1) << port.width) if port.signed else numpy.ascontiguousarray(column)
 
 
-def _column_of_words(words: "array[int]", port: Port) -> Any:
+def _columns_of_words(data: bytes, size: int, ports: Sequence[Port]) -> list[Any]:
+    """A column for each output of at most 64 bits, from words of so many bytes."""
+    count = len(ports)
+    if numpy is not None:
+        return _arrays_of(numpy.frombuffer(data, "=u8" if size == 8 else f">u{size}").astype(numpy.uint64), ports)
+    if size == 8:
+        words = array("Q", data)
+        return [_column_of_numbers(words[k::count], port) for k, port in enumerate(ports)]
+    # The last byte of a word is the lowest one.
+    octets = [data[place :: size * count] for place in range(size * count)]
+    return [_widened(octets[size * k : size * (k + 1)][::-1], port) for k, port in enumerate(ports)]
+
+
+def _column_of_numbers(words: "array[int]", port: Port) -> Any:
     """Numbers of a port of at most 64 bits as a column."""
     if port.width == 64:
         return array("q", words.tobytes()) if port.signed else words
     return column_of(signed_values(words.tolist(), port), port.width, True) if port.signed else array("q", words.tobytes())
 
 
-def _widened(octets: bytes, port: Port) -> Any:
-    """Numbers of a port of at most 8 bits as a column."""
+def _widened(octets: list[bytes], port: Port) -> Any:
+    """Numbers of a port as a column, from their lowest bytes and, where they have more, their second ones."""
     assert port.width is not None
-    half = 1 << port.width - 1
-    wide = bytearray(8 * len(octets))
-    low, *above = range(8) if sys.byteorder == "little" else range(7, -1, -1)
-    if not port.signed:
-        wide[low::8] = octets
-    else:
-        wide[low::8] = octets.translate(bytes(n if n < half else (n - 2 * half) % 256 for n in range(256)))
-        signs = octets.translate(bytes(0 if n < half else 255 for n in range(256)))
-        for place in above:
+    wide = bytearray(8 * len(octets[0]))
+    places = range(8) if sys.byteorder == "little" else range(7, -1, -1)
+    for place, part in zip(places, octets):
+        wide[place::8] = part
+    if port.signed:
+        last, bits = divmod(port.width - 1, 8)
+        half = 1 << bits
+        wide[places[last] :: 8] = octets[last].translate(bytes(n if n < half else (n - 2 * half) % 256 for n in range(256)))
+        signs = octets[last].translate(bytes(0 if n < half else 255 for n in range(256)))
+        for place in places[last + 1 :]:
             wide[place::8] = signs
     return array("q", wide)
 

@@ -13,7 +13,7 @@ from typing import Any
 
 from . import _decimals as decimals
 from ._call import Feed
-from ._numbers import PROGRAM, as_lines, as_words, lines_of
+from ._numbers import PROGRAM, as_lines, as_words, lines_of, lines_of_words, piece_of
 from ._streams import Port, Streams, numbers, numpy
 
 #: How many samples are written in one piece: few enough for the processor's cache, and for a pipe to hold more than one piece.
@@ -26,30 +26,36 @@ MANY = 100_000
 _CUT = (list, tuple, range, bytes, bytearray)
 
 
-def pieces_of(samples: Any, inputs: Sequence[Port]) -> Iterator[bytes]:
-    """The lines of samples, in pieces."""
-    return (text for _, text in counted_pieces(samples, inputs, CHUNK))
+def pieces_of(samples: Any, inputs: Sequence[Port], zeros: bool = False) -> Iterator[bytes]:
+    """The lines of samples, in pieces. With ``zeros`` numbers may have leading zeros, which takes less time."""
+    return (text for _, text in counted_pieces(samples, inputs, CHUNK, zeros))
 
 
-def counted_pieces(samples: Any, inputs: Sequence[Port], chunk: int) -> Iterator[tuple[int, bytes]]:
+def counted_pieces(samples: Any, inputs: Sequence[Port], chunk: int, zeros: bool = False) -> Iterator[tuple[int, bytes]]:
     """The lines of samples, in pieces of at most ``chunk`` samples, with the number of samples in each."""
     done = 0
     for columns in columns_of(samples, inputs, chunk):
-        yield len(columns[0]), _text_of(columns, inputs, done)
+        yield len(columns[0]), _text_of(columns, inputs, done, zeros)
         done += len(columns[0])
 
 
-def feed_of(samples: Any, inputs: Sequence[Port]) -> Feed:
-    """The samples for a call, packed where that takes less time."""
-    # Samples of 8 bits are made into lines in as little time as into words.
-    if are_many(samples) and 8 < widest(inputs) <= 64:
+def feed_of(samples: Any, inputs: Sequence[Port], zeros: bool = True) -> Feed:
+    """The samples for a call, packed where that takes less time. ``zeros`` is that of ``pieces_of``."""
+    # Samples of up to 8 bits are made into lines in as little time as into words, and words of 16 bits into lines with zeros.
+    if are_many(samples) and (8 if zeros else 16) < widest(inputs) <= 64:
         return Feed(_packed_pieces(samples, inputs), packed=True)
-    return Feed(pieces_of(samples, inputs))
+    return Feed(pieces_of(samples, inputs, zeros))
 
 
 def are_many(samples: Any) -> bool:
-    """Whether further processes are worth starting, which they are not with numpy or on two processors, and can be started."""
-    return numpy is None and count_of(samples) >= MANY and processors() >= 3 and all(map(os.path.isfile, PROGRAM))
+    """Whether further processes are worth starting, which they are not for arrays of numpy or on two processors, and can be started."""
+    return count_of(samples) >= MANY and processors() >= 3 and not _has_arrays(samples) and all(map(os.path.isfile, PROGRAM))
+
+
+def _has_arrays(samples: Any) -> bool:
+    """Whether samples are taken as arrays of numpy."""
+    columns = [samples[name] for name in samples.keys()] if isinstance(samples, (Mapping, Streams)) else [samples]
+    return numpy is not None and any(isinstance(column, (array, numpy.ndarray)) for column in columns)
 
 
 def processors() -> int:
@@ -70,11 +76,21 @@ def count_of(samples: Any) -> int:
 
 
 def _packed_pieces(samples: Any, inputs: Sequence[Port]) -> Iterator[bytes]:
-    """Pieces for the process that writes lines. Every second one has its lines, so that the two processes write half of them each."""
+    """Pieces for the process that writes lines."""
     done = 0
+    # Above 16 bits every second piece has its lines, so that the two processes write half of them each.
     for columns, made in zip(columns_of(samples, inputs, CHUNK), cycle((as_lines, as_words))):
-        yield made(_in_turn(list(zip(columns, inputs)), done), len(inputs))
+        pairs = list(zip(columns, inputs))
+        yield _short_piece(pairs, done) if widest(inputs) <= 16 else made(_in_turn(pairs, done), len(inputs))
         done += len(columns[0])
+
+
+def _short_piece(pairs: list[tuple[Any, Port]], done: int) -> bytes:
+    """A piece of columns of at most 16 bits: in words of two bytes, or in lines where a number is too large or negative."""
+    try:
+        return piece_of(_plain_words(pairs, done), len(pairs), 2)
+    except struct.error:
+        return as_lines(_in_turn(pairs, done), len(pairs))
 
 
 def columns_of(samples: Any, inputs: Sequence[Port], chunk: int) -> Iterator[list[Any]]:
@@ -141,18 +157,21 @@ def _is_array(values: Any) -> bool:
 
 # The text of a piece
 
-def _text_of(columns: list[Any], inputs: Sequence[Port], done: int) -> bytes:
+def _text_of(columns: list[Any], inputs: Sequence[Port], done: int, zeros: bool) -> bytes:
     """The lines of these columns, after so many samples, by the fastest way that there is to write them."""
     pairs = list(zip(columns, inputs))
-    if all(port.width is not None and port.width <= 8 for port in inputs) and not any(map(_is_array, columns)):
+    if not any(map(_is_array, columns)):
         try:
-            return decimals.lines_of_bytes([_plain_bytes(column, port) for column, port in pairs])
-        except (ValueError, OverflowError):
+            if widest(inputs) <= 8:
+                return decimals.lines_of_bytes([_plain_bytes(column, port) for column, port in pairs], zeros)
+            if widest(inputs) <= 16 and zeros and numpy is None:
+                return lines_of_words(_plain_words(pairs, done), len(inputs))
+        except (ValueError, OverflowError, struct.error):
             pass  # A number is too large or negative.
     if numpy is not None:
         arrays = [_plain_array(_as_array(column, port), port) for column, port in pairs]
         if all(map(_is_array, arrays)):
-            return decimals.lines_of_arrays(arrays)
+            return decimals.lines_of_arrays(arrays, zeros)
     return lines_of(_in_turn(pairs, done), len(inputs))
 
 
@@ -196,6 +215,12 @@ def _plain_bytes(column: Any, port: Port) -> bytes:
     if made.translate(None, lawful):
         raise ValueError
     return made.translate(bytes(n & (half << 1) - 1 for n in range(256)))
+
+
+def _plain_words(pairs: list[tuple[Any, Port]], done: int) -> bytes:
+    """The numbers of columns of at most 16 bits, row by row, as words of two bytes. Raises struct.error where one has more."""
+    values = decimals.in_turn([_plain_numbers(column, port, done) if port.signed else column for column, port in pairs])
+    return struct.pack(f"<{len(values)}H", *values)
 
 
 def _plain_numbers(column: Any, port: Port, done: int) -> Sequence[int]:

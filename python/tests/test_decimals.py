@@ -8,6 +8,7 @@ import unittest
 from fractions import Fraction
 
 from piperench import _decimals as decimals
+from piperench._numbers import words_of
 from piperench._results import Results, streams_of
 from piperench._samples import pieces_of
 from piperench._streams import Port
@@ -41,7 +42,11 @@ def signed(value: int, width: int) -> int:
 
 
 def written(samples: object, *ports: Port) -> bytes:
-    return b"".join(pieces_of(samples, ports))
+    """The lines of samples. Those with leading zeros have to be of the same numbers."""
+    text, longer = (b"".join(pieces_of(samples, ports, zeros)) for zeros in (False, True))
+    lines = [[word.lstrip(b"0") or b"0" for word in line.split(b" ")] for line in longer.split(b"\n")[:-1]]
+    assert b"".join(b" ".join(line) + b"\n" for line in lines) == text, longer
+    return text
 
 
 class Writing(unittest.TestCase):
@@ -188,4 +193,5 @@ class Tables(unittest.TestCase):
         every = bytes(range(256))
         text = plain([list(every)])
         self.assertEqual(decimals.lines_of_bytes([every]), text)
-        self.assertEqual(decimals.bytes_of(text), every)
+        self.assertEqual(decimals.lines_of_bytes([every], zeros=True), b"".join(b"%03d\n" % n for n in every))
+        self.assertEqual(words_of(text, 1), every)
