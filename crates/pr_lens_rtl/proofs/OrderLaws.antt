@@ -15,7 +15,7 @@ use Rattle.pr_conf.specs.Rules.{IsLawful, is_lawful_source, is_lawful_bit, is_la
 use Rattle.pr_lens_rtl.specs.declared.vectors.Part.{Part}
 use Rattle.pr_lens_rtl.specs.declared.vectors.Net.{Net}
 use Rattle.pr_lens_rtl.specs.Verilog.{Expr}
-use Rattle.pr_lens_rtl.specs.Module.{read, source_expr, picked_expr, shifted_expr, two_input, four_of, looked_expr, c_expr, carry_in_expr, sum_expr, result_expr, result_net, low_bits, is_bare, output_expr, carry_expr, pe_wires, pes_wires, state_registers, passed_registers, row_registers, stage_registers, stages_wires, stages_registers, hand_wires, tap_expr, tap_wires, taps_of, last_of, module_of}
+use Rattle.pr_lens_rtl.specs.Module.{read, source_expr, picked_expr, shifted_expr, two_input, four_of, looked_expr, c_expr, carry_in_expr, has_carry_in, added_expr, sum_expr, result_expr, result_net, low_bits, is_bare, output_expr, carry_expr, pe_wires, pes_wires, state_registers, passed_registers, row_registers, stage_registers, stages_wires, stages_registers, hand_wires, tap_expr, tap_wires, taps_of, last_of, module_of}
 use Rattle.pr_lens_rtl.specs.Kept.{reads, place}
 use Rattle.pr_code.specs.Spelling.{has_bytes, have_tap_bytes, has_pe_bytes}
 use Rattle.pr_lens_rtl.proofs.PeLaws.{site_at, place_below, Lawful, lawful_parts}
@@ -107,10 +107,14 @@ module _ (N P bus s i : ℕ) (columns : N ≤ 64) (registers : P ≤ 16) where
   looked_below q (Bit.Of x bit) table m = (m, below_both q (reads (four_of table 4 (read Part.A s i) (read Part.B s i))) (reads (four_of table 0 (read Part.A s i) (read Part.B s i))) (four_below q table 4 (omega (arith, m))) (four_below q table 0 (omega (arith, m))))
   looked_below q Bit.CarryIn table m = (m, below_both q (reads (four_of table 4 (read Part.A s i) (read Part.B s i))) (reads (four_of table 0 (read Part.A s i) (read Part.B s i))) (four_below q table 4 (omega (arith, m))) (four_below q table 0 (omega (arith, m))))
 
-  sum_below : (q : ℕ) (mode : Mode) → place (Net.Of Part.X s i) < q → Below q (reads (sum_expr mode s i))
-  sum_below q Mode.Plain m = (m, tt)
-  sum_below q Mode.Sum m = (omega (arith, m), (m, (omega (arith, m), tt)))
-  sum_below q Mode.Zero m = (m, tt)
+  added_below : (q : ℕ) (t : Bool) → place (Net.Of Part.X s i) < q → Below q (reads (added_expr t s i))
+  added_below q true m = (omega (arith, m), (m, (omega (arith, m), tt)))
+  added_below q false m = (omega (arith, m), (m, tt))
+
+  sum_below : (q : ℕ) (mode : Mode) (carry : Carry) → place (Net.Of Part.X s i) < q → Below q (reads (sum_expr mode carry s i))
+  sum_below q Mode.Plain carry m = (m, tt)
+  sum_below q Mode.Sum carry m = added_below q (has_carry_in carry) m
+  sum_below q Mode.Zero carry m = (m, tt)
 
   carry_below : (q : ℕ) (mode : Mode) → place (Net.Of Part.Sum s i) < q → Below q (reads (carry_expr mode s i))
   carry_below q Mode.Plain m = tt
@@ -122,8 +126,8 @@ module _ (N P bus s i : ℕ) (columns : N ≤ 64) (registers : P ≤ 16) where
   result_below q Mode.Sum m = (m, tt)
   result_below q Mode.Zero m = (omega (arith, m), tt)
 
-  output_below : (q : ℕ) (mode : Mode) (mask : ℕ) → place (Net.Of Part.Sum s i) < q → Below q (reads (output_expr mode mask s i))
-  output_below q mode mask m = go (low_bits mask == 0) (is_bare mode mask)
+  output_below : (q : ℕ) (mode : Mode) (carry : Carry) (mask : ℕ) → place (Net.Of Part.Sum s i) < q → Below q (reads (output_expr mode carry mask s i))
+  output_below q mode carry mask m = go (low_bits mask == 0) (is_bare mode carry mask)
     where
       net_below : (mode : Mode) → place (result_net mode s i) < q
       net_below Mode.Plain = omega (arith, m)
@@ -154,11 +158,11 @@ module _ (N P bus s i : ℕ) (columns : N ≤ 64) (registers : P ≤ 16) where
             (refl, looked_below (place (Net.Of Part.X s i)) pe.c pe.table (omega arith)),
             (
               omega arith,
-              (refl, sum_below (place (Net.Of Part.Sum s i)) pe.mode (omega arith)),
+              (refl, sum_below (place (Net.Of Part.Sum s i)) pe.mode pe.cin (omega arith)),
               (
                 omega arith,
                 (refl, carry_below (place (Net.Of Part.Carry s i)) pe.mode (omega arith)),
-                (omega arith, (refl, output_below (place (Net.Of Part.Output s i)) pe.mode pe.mask (omega arith)), omega arith),
+                (omega arith, (refl, output_below (place (Net.Of Part.Output s i)) pe.mode pe.cin pe.mask (omega arith)), omega arith),
               ),
             ),
           ),

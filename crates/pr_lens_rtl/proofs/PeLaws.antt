@@ -1,5 +1,5 @@
 -- The wires of a processing element hold what it makes.
-use Rattle.std.proofs.Common.{◌≡◌, ◌<◌, ◌≤◌, ℕ, zero, suc, ◌+◌, ◌-◌, ◌*◌, ◌/◌, ◌%◌, ◌^◌, ◌==◌, ◌&&◌, nat_lt, max, Bool, true, false, get_or, bit_and, bit_or, refl, sym, ap, subst, ◌∙◌, arith, if◌then◌else◌}
+use Rattle.std.proofs.Common.{◌≡◌, ◌<◌, ◌≤◌, ℕ, zero, suc, ◌+◌, ◌-◌, ◌*◌, ◌/◌, ◌%◌, ◌^◌, ◌==◌, ◌&&◌, not, nat_lt, max, Bool, true, false, get_or, bit_and, bit_or, refl, sym, ap, subst, ◌∙◌, arith, if◌then◌else◌}
 use Rattle.std.specs.Int.{bit_at}
 use Rattle.std.proofs.Math.Nat.{lt_of_lt_of_le, mod-eq_of_lt, mod-lt, mul-le-mul_right}
 use Rattle.std.proofs.Math.Pow.{mod-mod-pow, pow_mono}
@@ -20,7 +20,7 @@ use Rattle.pr_conf.specs.StageMap.{Sight, source_byte, source_bit, c_of, cin_of,
 use Rattle.pr_lens_rtl.specs.declared.vectors.Part.{Part}
 use Rattle.pr_lens_rtl.specs.declared.vectors.Net.{Net}
 use Rattle.pr_lens_rtl.specs.Verilog.{Expr, Values, bit_of, width_of, value, Takes, Fit}
-use Rattle.pr_lens_rtl.specs.Module.{read, source_expr, shifted_expr, two_input, four_of, looked_expr, c_expr, carry_in_expr, picked_expr, result_expr, result_net, low_bits, is_bare, output_expr, sum_expr, carry_expr, pe_wires}
+use Rattle.pr_lens_rtl.specs.Module.{read, source_expr, shifted_expr, two_input, four_of, looked_expr, c_expr, carry_in_expr, picked_expr, result_expr, result_net, low_bits, is_always_masked, is_bare, output_expr, has_carry_in, added_expr, sum_expr, carry_expr, pe_wires}
 use Rattle.pr_code.specs.Spelling.{is_byte, has_source_byte, has_c_byte, has_pe_bytes}
 use Rattle.pr_lens_rtl.proofs.Tables.{table_law, four_small}
 
@@ -108,10 +108,8 @@ low_and n mask k few is =
     ∙ sym (and_mask (n % 256) k)
     ∙ ap (bit_and (n % 256)) (let e : 2 ^ k - 1 ≡ mask = omega (arith, is) in e)
 
-bare_law : (mode : Mode) (mask : ℕ) → is_bare mode mask ≡ true → mask ≡ 255
-bare_law Mode.Plain mask h = eqb-true mask 255 h
-bare_law Mode.Sum mask h = absurd (cc)
-bare_law Mode.Zero mask h = eqb-true mask 255 h
+bare_law : (mode : Mode) (carry : Carry) (mask : ℕ) → is_bare mode carry mask ≡ true → mask ≡ 255
+bare_law mode carry mask h = eqb-true mask 255 (and_parts (mask == 255) (not (is_always_masked mode carry)) h).0
 
 -- the result in nine bits
 abbrev pub full : Mode → ℕ → ℕ → ℕ → ℕ
@@ -262,14 +260,31 @@ module _ (now : Values) (N P bus s i : ℕ) (sight : Sight) (fit : Fit now) (sho
   x_law (Bit.Of x place) table cin h = chosen_law table (c_of N sight (Bit.Of x place) cin) h
   x_law Bit.CarryIn table cin h = chosen_law table cin h
 
-  sum_law : (mode : Mode) → value now (sum_expr mode s i) (max 9 (width_of (sum_expr mode s i))) % 512 ≡ full mode (now (Net.Of Part.A s i)) (now (Net.Of Part.X s i)) (now (Net.Of Part.CarryIn s i))
-  sum_law Mode.Plain = mod-eq_of_lt (let x = fit (Net.Of Part.X s i) in omega (arith, x))
-  sum_law Mode.Sum =
+  -- where no carry may come in, none is there
+  no_carry_law : (carry : Carry) (last bit : ℕ) → has_carry_in carry ≡ false → carry_in carry last bit ≡ 0
+  no_carry_law Carry.Zero last bit h = refl
+  no_carry_law Carry.One last bit h = absurd (cc)
+  no_carry_law Carry.Chain last bit h = absurd (cc)
+  no_carry_law Carry.FromC last bit h = absurd (cc)
+
+  added_law : (t : Bool) → (t ≡ false → now (Net.Of Part.CarryIn s i) ≡ 0)
+      → value now (added_expr t s i) (max 9 (width_of (added_expr t s i))) % 512 ≡ full Mode.Sum (now (Net.Of Part.A s i)) (now (Net.Of Part.X s i)) (now (Net.Of Part.CarryIn s i))
+  added_law true none =
       let a : now (Net.Of Part.A s i) < 256 = fit (Net.Of Part.A s i) in
       let x : now (Net.Of Part.X s i) < 256 = fit (Net.Of Part.X s i) in
       let c : now (Net.Of Part.CarryIn s i) < 2 = fit (Net.Of Part.CarryIn s i) in
       omega arith
-  sum_law Mode.Zero = mod-eq_of_lt (let x = fit (Net.Of Part.X s i) in omega (arith, x))
+  added_law false none =
+      let a : now (Net.Of Part.A s i) < 256 = fit (Net.Of Part.A s i) in
+      let x : now (Net.Of Part.X s i) < 256 = fit (Net.Of Part.X s i) in
+      let c : now (Net.Of Part.CarryIn s i) ≡ 0 = none refl in
+      omega arith
+
+  sum_law : (mode : Mode) (carry : Carry) → (has_carry_in carry ≡ false → now (Net.Of Part.CarryIn s i) ≡ 0)
+      → value now (sum_expr mode carry s i) (max 9 (width_of (sum_expr mode carry s i))) % 512 ≡ full mode (now (Net.Of Part.A s i)) (now (Net.Of Part.X s i)) (now (Net.Of Part.CarryIn s i))
+  sum_law Mode.Plain carry none = mod-eq_of_lt (let x = fit (Net.Of Part.X s i) in omega (arith, x))
+  sum_law Mode.Sum carry none = added_law (has_carry_in carry) none
+  sum_law Mode.Zero carry none = mod-eq_of_lt (let x = fit (Net.Of Part.X s i) in omega (arith, x))
 
   zero_law : (cin : ℕ) (t : Bool) → cin < 2 → bit_and cin (if t then 1 else 0) % 2 ≡ (if cin == 1 && t then 1 else 0)
   zero_law zero true l = refl
@@ -306,9 +321,9 @@ module _ (now : Values) (N P bus s i : ℕ) (sight : Sight) (fit : Fit now) (sho
   result_small Mode.Sum = omega arith
   result_small Mode.Zero = fit (Net.Of Part.X s i)
 
-  output_law : (mode : Mode) (mask : ℕ) → mask < 256 → now (Net.Of Part.Sum s i) ≡ full mode (now (Net.Of Part.A s i)) (now (Net.Of Part.X s i)) (now (Net.Of Part.CarryIn s i))
-      → let e = output_expr mode mask s i in value now e (max 8 (width_of e)) % 256 ≡ bit_and (result_of mode (now (Net.Of Part.A s i)) (now (Net.Of Part.X s i)) (now (Net.Of Part.CarryIn s i))) mask
-  output_law mode mask small h = go (low_bits mask == 0) refl
+  output_law : (mode : Mode) (carry : Carry) (mask : ℕ) → mask < 256 → now (Net.Of Part.Sum s i) ≡ full mode (now (Net.Of Part.A s i)) (now (Net.Of Part.X s i)) (now (Net.Of Part.CarryIn s i))
+      → let e = output_expr mode carry mask s i in value now e (max 8 (width_of e)) % 256 ≡ bit_and (result_of mode (now (Net.Of Part.A s i)) (now (Net.Of Part.X s i)) (now (Net.Of Part.CarryIn s i))) mask
+  output_law mode carry mask small h = go (low_bits mask == 0) refl
     where
       r : ℕ
       r = result_of mode (now (Net.Of Part.A s i)) (now (Net.Of Part.X s i)) (now (Net.Of Part.CarryIn s i))
@@ -316,10 +331,10 @@ module _ (now : Values) (N P bus s i : ℕ) (sight : Sight) (fit : Fit now) (sho
       masked : Expr
       masked = Expr.And (result_expr mode s i) (Expr.Byte mask)
 
-      whole : (t : Bool) → is_bare mode mask ≡ t → let e = (if t then result_expr mode s i else masked) in value now e (max 8 (width_of e)) % 256 ≡ bit_and r mask
+      whole : (t : Bool) → is_bare mode carry mask ≡ t → let e = (if t then result_expr mode s i else masked) in value now e (max 8 (width_of e)) % 256 ≡ bit_and r mask
       whole true is =
           ap (λ n. n % 256) (result_law mode (max 8 (width_of (result_expr mode s i))) h)
-          ∙ sym (and_numeral r 254 refl) ∙ ap (bit_and r) (sym (bare_law mode mask is))
+          ∙ sym (and_numeral r 254 refl) ∙ ap (bit_and r) (sym (bare_law mode carry mask is))
       whole false is =
           ap (λ n. bit_and n (mask % 256) % 256) (result_law mode (max 8 (max (width_of (result_expr mode s i)) 8)) h)
           ∙ and_mod r (mask % 256) 8
@@ -327,8 +342,8 @@ module _ (now : Values) (N P bus s i : ℕ) (sight : Sight) (fit : Fit now) (sho
           ∙ ap (bit_and r) (let e : mask % 256 % 256 ≡ mask = omega arith in e)
 
       go : (t : Bool) → (low_bits mask == 0) ≡ t
-          → let e = (if t then (if is_bare mode mask then result_expr mode s i else masked) else Expr.Low (result_net mode s i) (low_bits mask)) in value now e (max 8 (width_of e)) % 256 ≡ bit_and r mask
-      go true is = whole (is_bare mode mask) refl
+          → let e = (if t then (if is_bare mode carry mask then result_expr mode s i else masked) else Expr.Low (result_net mode s i) (low_bits mask)) in value now e (max 8 (width_of e)) % 256 ≡ bit_and r mask
+      go true is = whole (is_bare mode carry mask) refl
       go false is =
           let low = mask_law mask is in
           low_and (now (result_net mode s i)) mask (low_bits mask) low.few low.is ∙ ap (λ n. bit_and n mask) (net_law mode h)
@@ -375,9 +390,9 @@ module _ (now : Values) (N P bus s i : ℕ) (sight : Sight) (fit : Fit now) (sho
       let ec : now (Net.Of Part.C s i) ≡ c = h.1.1.1.0 ∙ c_law pe.c cin ei lawful.c bytes.c in
       let ex : now (Net.Of Part.X s i) ≡ looked_up pe.table a' b' c =
       h.1.1.1.1.0 ∙ x_law pe.c pe.table cin ec ∙ ap (λ n. looked_up pe.table n (now (Net.Of Part.B s i)) c) ea ∙ ap (λ n. looked_up pe.table a' n c) eb in
-      let et : now (Net.Of Part.Sum s i) ≡ full pe.mode (now (Net.Of Part.A s i)) (now (Net.Of Part.X s i)) (now (Net.Of Part.CarryIn s i)) = h.1.1.1.1.1.0 ∙ sum_law pe.mode in
+      let et : now (Net.Of Part.Sum s i) ≡ full pe.mode (now (Net.Of Part.A s i)) (now (Net.Of Part.X s i)) (now (Net.Of Part.CarryIn s i)) = h.1.1.1.1.1.0 ∙ sum_law pe.mode pe.cin (λ none. ei ∙ no_carry_law pe.cin (last_carry sight.columns) (source_bit N sight pe.c) none) in
       let ek = h.1.1.1.1.1.1.0 ∙ carry_law pe.mode et in
-      let eo = h.1.1.1.1.1.1.1.0 ∙ output_law pe.mode pe.mask bytes.mask et in
+      let eo = h.1.1.1.1.1.1.1.0 ∙ output_law pe.mode pe.cin pe.mask bytes.mask et in
       let x' = looked_up pe.table a' b' c in
       record {
         a = ea;

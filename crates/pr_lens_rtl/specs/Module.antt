@@ -1,5 +1,5 @@
 -- The module of a configuration.
-use Rattle.std.specs.Prelude.{ℕ, zero, suc, ◌+◌, ◌-◌, ◌*◌, ◌==◌, Bool, true, false, List, [], ◌∷◌, ◌++◌, length, if◌then◌else◌}
+use Rattle.std.specs.Prelude.{ℕ, zero, suc, ◌+◌, ◌-◌, ◌*◌, ◌==◌, ◌&&◌, not, Bool, true, false, List, [], ◌∷◌, ◌++◌, length, if◌then◌else◌}
 use Rattle.std.specs.List.{flat_map}
 use Rattle.std.specs.Int.{bit_at}
 use Rattle.pr_base.specs.declared.choices.Mode.{Mode}
@@ -92,11 +92,23 @@ carry_in_expr N s col c Carry.One = Expr.Bit true
 carry_in_expr N s col c Carry.Chain = read Part.Carry s (col - 1)
 carry_in_expr N s col c Carry.FromC = bit_expr N s c
 
+-- a carry may come in
+abbrev pub has_carry_in : Carry → Bool
+has_carry_in Carry.Zero = false
+has_carry_in Carry.One = true
+has_carry_in Carry.Chain = true
+has_carry_in Carry.FromC = true
+
+-- A and X, and the carry-in where one may come
+abbrev pub added_expr : Bool → ℕ → ℕ → Expr
+added_expr true s col = Expr.Plus (Expr.Plus (wide Part.A s col) (wide Part.X s col)) (wide Part.CarryIn s col)
+added_expr false s col = Expr.Plus (wide Part.A s col) (wide Part.X s col)
+
 -- nine bits: the result with what does not fit into the byte
-abbrev pub sum_expr : Mode → ℕ → ℕ → Expr
-sum_expr Mode.Plain s col = wide Part.X s col
-sum_expr Mode.Sum s col = Expr.Plus (Expr.Plus (wide Part.A s col) (wide Part.X s col)) (wide Part.CarryIn s col)
-sum_expr Mode.Zero s col = wide Part.X s col
+abbrev pub sum_expr : Mode → Carry → ℕ → ℕ → Expr
+sum_expr Mode.Plain carry s col = wide Part.X s col
+sum_expr Mode.Sum carry s col = added_expr (has_carry_in carry) s col
+sum_expr Mode.Zero carry s col = wide Part.X s col
 
 -- the result before the mask
 abbrev pub result_expr : Mode → ℕ → ℕ → Expr
@@ -116,17 +128,21 @@ low_bits mask =
     if mask == 1 then 1 else if mask == 3 then 2 else if mask == 7 then 3 else if mask == 15 then 4 else if mask == 31 then 5
     else if mask == 63 then 6 else if mask == 127 then 7 else 0
 
--- the output is the result without a mask. A sum has one even where it keeps all bits: Yosys then joins both additions into one
-abbrev pub is_bare : Mode → ℕ → Bool
-is_bare Mode.Plain mask = mask == 255
-is_bare Mode.Sum mask = false
-is_bare Mode.Zero mask = mask == 255
+-- the output has a mask even where that keeps all bits: a sum to which a carry is added. Yosys then joins both additions into one
+abbrev pub is_always_masked : Mode → Carry → Bool
+is_always_masked Mode.Plain carry = false
+is_always_masked Mode.Sum carry = has_carry_in carry
+is_always_masked Mode.Zero carry = false
 
-abbrev pub masked_expr : Mode → ℕ → ℕ → ℕ → Expr
-masked_expr mode mask s col = if is_bare mode mask then result_expr mode s col else Expr.And (result_expr mode s col) (Expr.Byte mask)
+-- the output is the result without a mask
+abbrev pub is_bare : Mode → Carry → ℕ → Bool
+is_bare mode carry mask = mask == 255 && not (is_always_masked mode carry)
 
-abbrev pub output_expr : Mode → ℕ → ℕ → ℕ → Expr
-output_expr mode mask s col = if low_bits mask == 0 then masked_expr mode mask s col else Expr.Low (result_net mode s col) (low_bits mask)
+abbrev pub masked_expr : Mode → Carry → ℕ → ℕ → ℕ → Expr
+masked_expr mode carry mask s col = if is_bare mode carry mask then result_expr mode s col else Expr.And (result_expr mode s col) (Expr.Byte mask)
+
+abbrev pub output_expr : Mode → Carry → ℕ → ℕ → ℕ → Expr
+output_expr mode carry mask s col = if low_bits mask == 0 then masked_expr mode carry mask s col else Expr.Low (result_net mode s col) (low_bits mask)
 
 abbrev pub carry_expr : Mode → ℕ → ℕ → Expr
 carry_expr Mode.Plain s col = Expr.Bit false
@@ -149,9 +165,9 @@ read_wires N s col pe =
 abbrev pub made_wires : ℕ → ℕ → Pe → List Assign
 made_wires s col pe =
     to Part.X s col (looked_expr pe.c pe.table (read Part.A s col) (read Part.B s col) (read Part.C s col))
-    ∷ to Part.Sum s col (sum_expr pe.mode s col)
+    ∷ to Part.Sum s col (sum_expr pe.mode pe.cin s col)
     ∷ to Part.Carry s col (carry_expr pe.mode s col)
-    ∷ to Part.Output s col (output_expr pe.mode pe.mask s col)
+    ∷ to Part.Output s col (output_expr pe.mode pe.cin pe.mask s col)
     ∷ []
 
 abbrev pub pe_wires : ℕ → ℕ → ℕ → Pe → List Assign

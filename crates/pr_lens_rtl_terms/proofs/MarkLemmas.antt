@@ -20,6 +20,7 @@ pub reads_two : (sign : Sign) (x y : Expr) → reads (two_expr sign x y) ≡ rea
 reads_two Sign.And x y = refl
 reads_two Sign.Or x y = refl
 reads_two Sign.Xor x y = refl
+reads_two Sign.Plus x y = refl
 
 -- ---- assignments
 abbrev step : Assign → List Bool → List Bool

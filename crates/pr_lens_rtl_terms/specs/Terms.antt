@@ -32,6 +32,7 @@ abbrev pub two_expr : Sign → Expr → Expr → Expr
 two_expr Sign.And x y = Expr.And x y
 two_expr Sign.Or x y = Expr.Or x y
 two_expr Sign.Xor x y = Expr.Xor x y
+two_expr Sign.Plus x y = Expr.Plus x y
 
 abbrev pub form_expr : Form → Expr
 form_expr (Form.One x) = factor_expr x

@@ -4,7 +4,7 @@ ghost use Rattle.std.specs.Prelude.{◌≡◌, ◌+◌, ◌-◌, ◌*◌, ◌<�
 ghost use Rattle.pr_lens_rtl.specs.declared.vectors.Net.{Net};
 ghost use Rattle.pr_lens_rtl.specs.declared.vectors.Part.{Part};
 ghost use Rattle.pr_lens_rtl.specs.Verilog.{Expr};
-ghost use Rattle.pr_lens_rtl.specs.Module.{source_expr, picked_expr, bit_expr, c_expr, carry_in_expr, two_input, four_of, is_one_at, looked_expr, shifted_expr, sum_expr, result_expr, result_net, low_bits, is_bare, masked_expr, output_expr, carry_expr, read};
+ghost use Rattle.pr_lens_rtl.specs.Module.{source_expr, picked_expr, bit_expr, c_expr, carry_in_expr, two_input, four_of, is_one_at, looked_expr, shifted_expr, has_carry_in, added_expr, sum_expr, result_expr, result_net, low_bits, is_always_masked, is_bare, masked_expr, output_expr, carry_expr, read};
 ghost use Rattle.pr_lens_rtl_terms.specs.Terms.{atom_expr, form_expr, term_expr};
 
 use crate::terms::{Atom, Factor, Form, Sign, Term};
@@ -207,18 +207,37 @@ fn wide(part: Part, stage: u32, col: u32) -> Atom
     Atom::Wide(Net::Of(part, stage, col))
 }
 
-/// The result with what does not fit into the byte.
-pub fn sum_term(mode: Mode, stage: u32, col: u32) -> Term
-    ensures { term_expr result ≡ sum_expr mode stage col }
+/// Whether a carry may come in.
+fn has_carry_in(carry: Carry) -> bool
+    ensures { result ≡ has_carry_in carry }
 {
-    let x = wide(Part::X, stage, col);
+    match carry {
+        Carry::Zero => false,
+        Carry::One | Carry::Chain | Carry::FromC => true,
+    }
+}
+
+/// A and X added, and the carry-in where one may come.
+fn added_term(with_carry: bool, stage: u32, col: u32) -> Term
+    ensures { term_expr result ≡ added_expr with_carry stage col }
+{
+    let (a, x) = (wide(Part::A, stage, col), wide(Part::X, stage, col));
+    if with_carry {
+        Term::Sum(a, x, wide(Part::CarryIn, stage, col))
+    } else {
+        Term::Whole(Form::Two(Sign::Plus, Factor::Plain(a), Factor::Plain(x)))
+    }
+}
+
+/// The result with what does not fit into the byte.
+pub fn sum_term(mode: Mode, carry: Carry, stage: u32, col: u32) -> Term
+    ensures { term_expr result ≡ sum_expr mode carry stage col }
+{
     match mode {
-        Mode::Plain | Mode::Zero => Term::Whole(Form::One(Factor::Plain(x))),
-        Mode::Sum => Term::Sum(
-            wide(Part::A, stage, col),
-            x,
-            wide(Part::CarryIn, stage, col),
-        ),
+        Mode::Plain | Mode::Zero => {
+            Term::Whole(Form::One(Factor::Plain(wide(Part::X, stage, col))))
+        }
+        Mode::Sum => added_term(has_carry_in(carry), stage, col),
     }
 }
 
@@ -258,22 +277,29 @@ fn low_bits(mask: u8) -> u8
     }
 }
 
-/// Whether the output is the result without a mask.
-fn is_bare(mode: Mode, mask: u8) -> bool
-    ensures { result ≡ is_bare mode mask }
+/// Whether the output has a mask even where that keeps all bits.
+fn is_always_masked(mode: Mode, carry: Carry) -> bool
+    ensures { result ≡ is_always_masked mode carry }
 {
     match mode {
-        Mode::Plain | Mode::Zero => mask == 255,
-        Mode::Sum => false,
+        Mode::Plain | Mode::Zero => false,
+        Mode::Sum => has_carry_in(carry),
     }
 }
 
+/// Whether the output is the result without a mask.
+fn is_bare(mode: Mode, carry: Carry, mask: u8) -> bool
+    ensures { result ≡ is_bare mode carry mask }
+{
+    mask == 255 && !is_always_masked(mode, carry)
+}
+
 /// The result under its mask.
-fn masked_form(mode: Mode, mask: u8, stage: u32, col: u32) -> Form
-    ensures { form_expr result ≡ masked_expr mode mask stage col }
+fn masked_form(mode: Mode, carry: Carry, mask: u8, stage: u32, col: u32) -> Form
+    ensures { form_expr result ≡ masked_expr mode carry mask stage col }
 {
     let all = Factor::Plain(result_atom(mode, stage, col));
-    if is_bare(mode, mask) {
+    if is_bare(mode, carry, mask) {
         Form::One(all)
     } else {
         Form::Two(Sign::And, all, Factor::Plain(Atom::Byte(mask)))
@@ -281,12 +307,12 @@ fn masked_form(mode: Mode, mask: u8, stage: u32, col: u32) -> Form
 }
 
 /// The output.
-pub fn output_form(mode: Mode, mask: u8, stage: u32, col: u32) -> Form
-    ensures { form_expr result ≡ output_expr mode mask stage col }
+pub fn output_form(mode: Mode, carry: Carry, mask: u8, stage: u32, col: u32) -> Form
+    ensures { form_expr result ≡ output_expr mode carry mask stage col }
 {
     let low = low_bits(mask);
     if low == 0 {
-        masked_form(mode, mask, stage, col)
+        masked_form(mode, carry, mask, stage, col)
     } else {
         Form::One(Factor::Plain(Atom::Low(result_net(mode, stage, col), low)))
     }

@@ -57,14 +57,14 @@ fn add_element(
     let carry_in = plain(carry_in_atom(columns, stage, col, pe.c, pe.cin));
     let c = plain(c_atom(columns, stage, col, pe.c));
     let carry = Term::Whole(carry_form(pe.mode, stage, col));
-    let output = Term::Whole(output_form(pe.mode, pe.mask, stage, col));
+    let output = Term::Whole(output_form(pe.mode, pe.cin, pe.mask, stage, col));
     let all = [
         to(Part::A, stage, col, a),
         to(Part::B, stage, col, b),
         to(Part::CarryIn, stage, col, carry_in),
         to(Part::C, stage, col, c),
         to(Part::X, stage, col, x_term(stage, col, pe.c, pe.table)),
-        to(Part::Sum, stage, col, sum_term(pe.mode, stage, col)),
+        to(Part::Sum, stage, col, sum_term(pe.mode, pe.cin, stage, col)),
         to(Part::Carry, stage, col, carry),
         to(Part::Output, stage, col, output),
     ];

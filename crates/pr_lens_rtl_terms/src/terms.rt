@@ -34,7 +34,7 @@ pub enum Factor {
     IsZero(Atom),
 }
 
-/// The operators on bits.
+/// The operators between two.
 #[derive(Clone, Copy)]
 pub enum Sign {
     /// Both.
@@ -43,6 +43,8 @@ pub enum Sign {
     Or,
     /// One alone.
     Xor,
+    /// The sum.
+    Plus,
 }
 
 /// At most one operator.

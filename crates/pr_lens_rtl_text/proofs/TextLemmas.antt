@@ -27,12 +27,14 @@ pub two_is : (whole : Bool) (sign : Sign) (x y : Expr) → expr_text whole (two_
 two_is whole Sign.And x y = refl
 two_is whole Sign.Or x y = refl
 two_is whole Sign.Xor x y = refl
+two_is whole Sign.Plus x y = refl
 
 pub not_two_is : (whole : Bool) (sign : Sign) (x y : Expr)
     → expr_text whole (Expr.Not (two_expr sign x y)) ≡ codes "~" ++ between_text false (sign_text sign) (expr_text false x) (expr_text false y)
 not_two_is whole Sign.And x y = refl
 not_two_is whole Sign.Or x y = refl
 not_two_is whole Sign.Xor x y = refl
+not_two_is whole Sign.Plus x y = refl
 
 -- ---- assignments that are written
 kept_step : (b : Bool) (a : Assign) (xs ys : List Assign) → (if b then a ∷ (xs ++ ys) else xs ++ ys) ≡ (if b then a ∷ xs else xs) ++ ys

@@ -232,6 +232,7 @@ fn sign_text(sign: Sign) -> &'static str
         Sign::And => " & ",
         Sign::Or => " | ",
         Sign::Xor => " ^ ",
+        Sign::Plus => " + ",
     }
 }
 
