@@ -60,17 +60,10 @@ place (Net.Out k) = 67110914 + k
 place (Net.Valid s) = s * 2048 + 1
 place (Net.Of part s k) = s * 2048 + 2 + place_in part k
 
--- the ports and the flags are always kept
+-- the ports and the flags are always kept: all but the parts of stages
 abbrev pub is_root : Net → Bool
-is_root Net.Reset = true
-is_root Net.InValid = true
-is_root Net.InReady = true
-is_root Net.OutValid = true
-is_root Net.OutReady = true
-is_root (Net.In k) = true
-is_root (Net.Out k) = true
-is_root (Net.Valid s) = true
 is_root (Net.Of part s k) = false
+is_root other = true
 
 abbrev pub is_kept : List Bool → Net → Bool
 is_kept marks n = is_root n || slice_index_or marks (place n) false
