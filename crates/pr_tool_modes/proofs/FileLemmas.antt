@@ -6,7 +6,7 @@ use Rattle.pr_edge.specs.Count.{Rose}
 use Rattle.pr_edge.specs.Files.{Told, OfFile, IsMissing, HasReadCause}
 use Rattle.pr_tool_answers.specs.declared.answers.Answer.{Answer}
 use Rattle.pr_tool_answers.specs.Owed.{IsOwed}
-use Rattle.pr_tool_modes.specs.Files.{IsLong, IsUnread, IsFileRefusal, IsRefusedFile}
+use Rattle.pr_tool_modes.specs.Files.{ShowsFault, IsLong, IsUnread, IsFileRefusal, IsRefusedFile}
 use Rattle.pr_tool_modes.proofs.ReasonLemmas.{refuses, IsKind}
 
 pub long_file : (told : Told) (name : List ℕ) (limit : ℕ) → OfFile told name (λ file. limit < length file) → (IsMissing told name → ⊥) → IsLong told name limit
@@ -32,6 +32,11 @@ pub unread_earlier : (limit : ℕ) (cap : Cap) (told : Told) (name : List ℕ) (
 unread_earlier limit cap told name a b n answer h (inl long) = inl long
 unread_earlier limit cap told name a b n answer h (inr (inl read)) = inr (inl (read.0, cause_earlier told name a b n h read.1))
 unread_earlier limit cap told name a b n answer h (inr (inr memory)) = inr (inr memory)
+
+-- an answer that shows a failed read shows it of both calls together, where none failed in the first
+pub shown_earlier : (a b n : ℕ) (answer : Answer) → b ≡ a → ShowsFault b n answer → ShowsFault a n answer
+shown_earlier a b n answer steady (inl is) = inl is
+shown_earlier a b n answer steady (inr same) = inr (same ∙ steady)
 
 -- ---- the verdict
 module _ (limit : ℕ) (cap : Cap) (reasons : List ℕ → Answer → Type 0) where

@@ -22,21 +22,21 @@ use Rattle.pr_tool_modes.specs.Stalls.{HasStall, after_stall}
 use Rattle.pr_tool_modes.specs.Texts.{IsPut}
 use Rattle.pr_tool_modes.specs.Resumptions.{IsMoveVerdict}
 use Rattle.pr_tool_modes.specs.Folds.{mark_after, HasMarked, IsUnmarked, HasRunFor, IsMarkPut, IsFoldOf, IsFoldEnd, HasFolded, IsFolded, HasExtended, HasWrittenMark, AreMarkBytes, AreExtendedBytes}
-use Rattle.pr_tool_modes.proofs.FileLemmas.{rose_earlier}
+use Rattle.pr_tool_modes.proofs.FileLemmas.{rose_earlier, shown_earlier}
 use Rattle.pr_tool_modes.proofs.ReasonLemmas.{IsKind, kind_never, kind_fault}
 use Rattle.pr_tool_modes.proofs.RunVerdicts.{later_refusal, passes_stall, file_end, last_owed, refused_owed, refusal_is, untold_rose}
 
 -- ---- the parts
 -- what the run was made of was read before
-later_run : (j : Job) (before mid now : View) (c : Shape) (end came : Course → Type 0) → mid.told ≡ before.told → before.faults ≤ mid.faults → ((q : List ℕ) → q ≢ first_of j → mid.reach q ≡ before.reach q)
+later_run : (j : Job) (before mid now : View) (c : Shape) (end came : Course → Type 0) → mid.told ≡ before.told → mid.faults ≡ before.faults → ((q : List ℕ) → q ≢ first_of j → mid.reach q ≡ before.reach q)
     → ((r : Course) → end r → came r) → HasRunFor (IsNoStall j) c j mid now end → HasRunFor (IsNeither j) c j before now came
-later_run j before mid now c end came told later reach more run = record {
+later_run j before mid now c end came told steady reach more run = record {
   turns = run.turns;
   stall = subst (λ (t : Told). HasStall t j.stall run.turns) told run.stall;
   start = run.start;
   later = record {
     told = run.later.told ∙ told;
-    faults = omega (arith, later, run.later.faults);
+    faults = run.later.faults ∙ steady;
     reach = λ q kept. run.later.reach q kept.1 ∙ reach q kept.0;
   };
   came = more _ run.came;
@@ -44,9 +44,9 @@ later_run j before mid now c end came told later reach more run = record {
 
 -- a configuration that was to be run, after the source was read
 pub folded_of : (j : Job) (k : Call) (mid : View) (loaded : Loadable) (before : ℕ) (a : Answer) → Gives k.before.told j.source (columns_in loaded) (registers_in loaded) (shape_in loaded) → count_in j.source ≡ before
-    → mid.told ≡ k.before.told → k.before.faults ≤ mid.faults → ((q : List ℕ) → q ≢ first_of j → mid.reach q ≡ k.before.reach q)
+    → mid.told ≡ k.before.told → mid.faults ≡ k.before.faults → ((q : List ℕ) → q ≢ first_of j → mid.reach q ≡ k.before.reach q)
     → IsFoldOf loaded before j (call mid k.now k.old k.new k.out_before k.out_now) a → IsFolded j k a
-folded_of j k mid loaded before a gives count told later reach (inl run) =
+folded_of j k mid loaded before a gives count told steady reach (inl run) =
     let N = columns_in loaded in
     let P = registers_in loaded in
     let c = shape_in loaded in
@@ -55,15 +55,16 @@ folded_of j k mid loaded before a gives count told later reach (inl run) =
       P = P;
       conf = c;
       gives = gives;
-      run = later_run j k.before mid k.now c (λ r. IsMarkPut N P r before (call mid k.now k.old k.new k.out_before k.out_now) a) (λ r. IsFoldEnd N P r (count_in j.source) k a) told later reach
+      run = later_run j k.before mid k.now c (λ r. IsMarkPut N P r before (call mid k.now k.old k.new k.out_before k.out_now) a) (λ r. IsFoldEnd N P r (count_in j.source) k a) told steady reach
           (λ r put. inl (record { bytes = put.bytes; marked = subst (λ (n : ℕ). HasMarked N P r n put.bytes) (sym count) put.marked; put = put.put })) run;
     })
-folded_of j k mid loaded before a gives count told later reach (inr (inl early, unwritten)) = inl (record {
-  cause = later_refusal j k mid.told mid.faults (columns_in loaded) (registers_in loaded) (shape_in loaded) a gives told later early.cause;
+folded_of j k mid loaded before a gives count told steady reach (inr (inl early, unwritten)) = inl (record {
+  cause = later_refusal j k mid.told mid.faults (columns_in loaded) (registers_in loaded) (shape_in loaded) a gives told (omega (arith, steady)) early.cause;
   unwritten = unwritten;
   unread = λ q kept. early.unread q kept.1 ∙ reach q kept.0;
+  shown = shown_earlier k.before.faults mid.faults k.now.faults a steady early.shown;
 })
-folded_of j k mid loaded before a gives count told later reach (inr (inr run, unwritten)) =
+folded_of j k mid loaded before a gives count told steady reach (inr (inr run, unwritten)) =
     let N = columns_in loaded in
     let P = registers_in loaded in
     let c = shape_in loaded in
@@ -72,7 +73,7 @@ folded_of j k mid loaded before a gives count told later reach (inr (inr run, un
       P = P;
       conf = c;
       gives = gives;
-      run = later_run j k.before mid k.now c (λ r. IsUnmarked r a) (λ r. IsFoldEnd N P r (count_in j.source) k a) told later reach (λ r unmarked. inr (unmarked, unwritten)) run;
+      run = later_run j k.before mid k.now c (λ r. IsUnmarked r a) (λ r. IsFoldEnd N P r (count_in j.source) k a) told steady reach (λ r unmarked. inr (unmarked, unwritten)) run;
     })
 
 -- the checkpoint that a run is for was to be written
@@ -120,7 +121,7 @@ fold_owed files j k a told (inr has) =
     passes_stall files j.stall run.turns _ (subst (λ (t : Told). HasStall t j.stall run.turns) told run.stall) in
     last_owed files j has.N has.P has.conf k.before.faults k.now.faults k.out_before k.out_now a (subst (λ (t : Told). Gives t j.source has.N has.P has.conf) told has.gives)
     (subst (λ (v : Answer). IsOwed (λ o. o ≡ v) k.before.faults k.now.faults k.out_before k.out_now a) (sym stall)
-    (fold_end_owed files (course has.conf j.stripes run.turns false (most_in j.source) j.second run.start k.now untold untold) (count_in j.source) has.N has.P k a k.before.faults (run.later.told ∙ told) run.later.faults run.came))
+    (fold_end_owed files (course has.conf j.stripes run.turns false (most_in j.source) j.second run.start k.now untold untold) (count_in j.source) has.N has.P k a k.before.faults (run.later.told ∙ told) (omega (arith, run.later.faults)) run.came))
 
 pub extend_owed : (files : List ℕ → Option (List ℕ)) (r : Resumption) (k : Call) (a : Answer) → k.before.told ≡ Some files → HasExtended r k a → IsOwed (IsMoveVerdict files r) k.before.faults k.now.faults k.out_before k.out_now a
 extend_owed files r k a told (count, come) =
@@ -136,7 +137,7 @@ pub fold_fault : (j : Job) (k : Call) (a : Answer) → IsFolded j k a → a ≡ 
 fold_fault j k a (inl none) is untold = kind_fault _ a (refusal_is j k a none.cause) is untold
 fold_fault j k a (inr has) is untold = elim (end_of j k a Answer.ReadFault has is) as (λ e. Rose k.before.faults k.now.faults) [
   | inl put ↦ absurd put.put
-  | inr unmarked ↦ rose_earlier k.before.faults has.run.start.faults k.now.faults has.run.later.faults (untold_rose has.run.start.told j.second has.run.start.faults k.now.faults unmarked.0 (has.run.later.told ∙ untold))
+  | inr unmarked ↦ rose_earlier k.before.faults has.run.start.faults k.now.faults (omega (arith, has.run.later.faults)) (untold_rose has.run.start.told j.second has.run.start.faults k.now.faults unmarked.0 (has.run.later.told ∙ untold))
 ]
 
 pub fold_memory : (j : Job) (k : Call) (a : Answer) → IsFolded j k a → a ≡ Answer.Memory → k.new ≡ k.old

@@ -106,7 +106,7 @@ come : (g : Generation) (k : Call) (loaded : Loadable) (bench : Bench) (a : Answ
     → IsOnFabric (Some (generated g.turns)) program_file g.target (columns_in loaded) (registers_in loaded) (shape_in loaded)
     → IsRunOf loaded (job_for g) k Bench.Nothing bench a → HasCome (job_for g) k Bench.Nothing bench a
 come g k loaded bench a told gives ran =
-    come_of (job_for g) k k.before loaded Bench.Nothing bench a (subst (λ (t : Told). Gives t (job_for g).source (columns_in loaded) (registers_in loaded) (shape_in loaded)) (sym told) gives) refl (omega arith) (λ q other. refl) ran
+    come_of (job_for g) k k.before loaded Bench.Nothing bench a (subst (λ (t : Told). Gives t (job_for g).source (columns_in loaded) (registers_in loaded) (shape_in loaded)) (sym told) gives) refl refl (λ q other. refl) ran
 
 told_ran : (g : Generation) (k : Call) (ran : Ran) (units : ℕ) (bytes text : List ℕ) → 2 ≤ g.stripes → k.old.bytes ≡ Some [] → k.new.bytes ≡ Some bytes
     → IsWholeRun (MeansLines (generated g.turns) (job_for g)) (generated g.turns) (job_for g) samples_text k (bench_in ran) End → IsCounted (Some (generated g.turns)) program_file g.target.narrowed units

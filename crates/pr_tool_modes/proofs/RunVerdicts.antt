@@ -28,22 +28,22 @@ use Rattle.pr_tool_modes.specs.Runs.{Course, course, HasAll, IsEnd}
 use Rattle.pr_tool_modes.specs.Samples.{ended_by, samples_verdict}
 use Rattle.pr_tool_modes.specs.Sources.{count_in, most_in, columns_in, registers_in, shape_in, Gives, IsGood, IsSourceRefusal, IsRefusedSource}
 use Rattle.pr_tool_modes.specs.Stalls.{HasStall, HasBadStall, IsStallRefusal, after_text, after_stall, bad_or, first_bad}
-use Rattle.pr_tool_modes.proofs.FileLemmas.{rose_earlier, unread_earlier}
+use Rattle.pr_tool_modes.proofs.FileLemmas.{rose_earlier, unread_earlier, shown_earlier}
 use Rattle.pr_tool_modes.proofs.ReasonLemmas.{refuses, IsKind, kind_never, kind_fault}
 use Rattle.pr_tool_modes.proofs.SourceLemmas.{source_owed, source_kind, one_source, never_source, one_conf}
 
 -- ---- the parts
 -- what a run was made of was read before
 later_run : {N P : ℕ} (j : Job) (before mid now : View) (old new : Tape) (c : Shape) (machine : Going N P) (answer : Answer)
-    → mid.told ≡ before.told → before.faults ≤ mid.faults → ((q : List ℕ) → q ≢ first_of j → mid.reach q ≡ before.reach q)
+    → mid.told ≡ before.told → mid.faults ≡ before.faults → ((q : List ℕ) → q ≢ first_of j → mid.reach q ≡ before.reach q)
     → HasRun (IsNoStall j) c j mid now old new machine answer → HasRun (IsNeither j) c j before now old new machine answer
-later_run j before mid now old new c machine answer told later reach run = record {
+later_run j before mid now old new c machine answer told steady reach run = record {
   turns = run.turns;
   stall = subst (λ (t : Told). HasStall t j.stall run.turns) told run.stall;
   start = run.start;
   later = record {
     told = run.later.told ∙ told;
-    faults = omega (arith, later, run.later.faults);
+    faults = run.later.faults ∙ steady;
     reach = λ q kept. run.later.reach q kept.1 ∙ reach q kept.0;
   };
   run = run.run;
@@ -51,12 +51,12 @@ later_run j before mid now old new c machine answer told later reach run = recor
 
 -- the source was read before
 pub has_ran : {N P : ℕ} (j : Job) (k : Call) (mid : View) (c : Shape) (machine : Going N P) (answer : Answer) → Gives k.before.told j.source N P c
-    → mid.told ≡ k.before.told → k.before.faults ≤ mid.faults → ((q : List ℕ) → q ≢ first_of j → mid.reach q ≡ k.before.reach q)
+    → mid.told ≡ k.before.told → mid.faults ≡ k.before.faults → ((q : List ℕ) → q ≢ first_of j → mid.reach q ≡ k.before.reach q)
     → (answer ≡ Answer.WriteFault → Rose k.out_before k.out_now) → HasRun (IsNoStall j) c j mid k.now k.old k.new machine answer → HasRan j k machine answer
-has_ran j k mid c machine answer gives told later reach write run = record {
+has_ran j k mid c machine answer gives told steady reach write run = record {
   conf = c;
   gives = gives;
-  run = later_run j k.before mid k.now k.old k.new c machine answer told later reach run;
+  run = later_run j k.before mid k.now k.old k.new c machine answer told steady reach run;
   write_fault = write;
 }
 
@@ -80,20 +80,21 @@ fresh_source (named.Program name target) = refl
 
 -- a configuration that was to be run, after the source was read
 pub come_of : (j : Job) (k : Call) (mid : View) (l : Loadable) (was bench : Bench) (a : Answer) → Gives k.before.told j.source (columns_in l) (registers_in l) (shape_in l)
-    → mid.told ≡ k.before.told → k.before.faults ≤ mid.faults → ((q : List ℕ) → q ≢ first_of j → mid.reach q ≡ k.before.reach q)
+    → mid.told ≡ k.before.told → mid.faults ≡ k.before.faults → ((q : List ℕ) → q ≢ first_of j → mid.reach q ≡ k.before.reach q)
     → IsRunOf l j (call mid k.now k.old k.new k.out_before k.out_now) was bench a → HasCome j k was bench a
-come_of j k mid l was bench a gives told later reach (inl held) = inl (record {
-  cause = later_refusal j k mid.told mid.faults (columns_in l) (registers_in l) (shape_in l) a gives told later held.cause;
+come_of j k mid l was bench a gives told steady reach (inl held) = inl (record {
+  cause = later_refusal j k mid.told mid.faults (columns_in l) (registers_in l) (shape_in l) a gives told (omega (arith, steady)) held.cause;
   unwritten = held.unwritten;
   kept = held.kept;
   unread = λ q neither. held.unread q neither.1 ∙ reach q neither.0;
+  shown = shown_earlier k.before.faults mid.faults k.now.faults a steady held.shown;
 })
-come_of j k mid (Loadable.Base conf) was (Bench.Base machine) a gives told later reach (inr ran) = inr (has_ran j k mid (shape_of conf) machine a gives told later reach ran.write_fault ran.run)
-come_of j k mid (Loadable.Wide conf) was (Bench.Wide machine) a gives told later reach (inr ran) = inr (has_ran j k mid (shape_of conf) machine a gives told later reach ran.write_fault ran.run)
-come_of j k mid (Loadable.Base conf) was (Bench.Wide machine) a gives told later reach (inr ran) = absurd ran
-come_of j k mid (Loadable.Base conf) was Bench.Nothing a gives told later reach (inr ran) = absurd ran
-come_of j k mid (Loadable.Wide conf) was (Bench.Base machine) a gives told later reach (inr ran) = absurd ran
-come_of j k mid (Loadable.Wide conf) was Bench.Nothing a gives told later reach (inr ran) = absurd ran
+come_of j k mid (Loadable.Base conf) was (Bench.Base machine) a gives told steady reach (inr ran) = inr (has_ran j k mid (shape_of conf) machine a gives told steady reach ran.write_fault ran.run)
+come_of j k mid (Loadable.Wide conf) was (Bench.Wide machine) a gives told steady reach (inr ran) = inr (has_ran j k mid (shape_of conf) machine a gives told steady reach ran.write_fault ran.run)
+come_of j k mid (Loadable.Base conf) was (Bench.Wide machine) a gives told steady reach (inr ran) = absurd ran
+come_of j k mid (Loadable.Base conf) was Bench.Nothing a gives told steady reach (inr ran) = absurd ran
+come_of j k mid (Loadable.Wide conf) was (Bench.Base machine) a gives told steady reach (inr ran) = absurd ran
+come_of j k mid (Loadable.Wide conf) was Bench.Nothing a gives told steady reach (inr ran) = absurd ran
 
 -- ---- the stall text
 passes_text : (file : Option (List ℕ)) (text : List ℕ) (next : Answer) → file ≡ Some text → length text ≤ 1048576 → first_bad text ≡ None → after_text file next ≡ next
@@ -164,7 +165,7 @@ ran_owed {N} {P} files j k machine a told has =
     passes_stall files j.stall run.turns _ (subst (λ (t : Told). HasStall t j.stall run.turns) told run.stall) in
     last_owed files j N P has.conf k.before.faults k.now.faults k.out_before k.out_now a (subst (λ (t : Told). Gives t j.source N P has.conf) told has.gives)
     (subst (λ (v : Answer). IsOwed (λ o. o ≡ v) k.before.faults k.now.faults k.out_before k.out_now a) (sym stall)
-    (end_owed N P files (course has.conf j.stripes run.turns j.log (most_in j.source) j.second run.start k.now k.old k.new) run.run.rows run.run.history a k.before.faults k.out_before k.out_now (run.later.told ∙ told) run.later.faults has.write_fault run.run.end))
+    (end_owed N P files (course has.conf j.stripes run.turns j.log (most_in j.source) j.second run.start k.now k.old k.new) run.run.rows run.run.history a k.before.faults k.out_before k.out_now (run.later.told ∙ told) (omega (arith, run.later.faults)) has.write_fault run.run.end))
 
 pub refused_owed : (files : List ℕ → Option (List ℕ)) (j : Job) (k : Call) (a : Answer) → k.before.told ≡ Some files → IsRunRefusal j k.before k.now a → IsOwed (IsRunVerdict files j) k.before.faults k.now.faults k.out_before k.out_now a
 refused_owed files j k a told (inl source) =
@@ -219,7 +220,7 @@ ran_fault : {N P : ℕ} (j : Job) (k : Call) (machine : Going N P) (a : Answer) 
 ran_fault {N} {P} j k machine a has is untold =
     let run = has.run in
     let end = subst (λ (o : Answer). IsEnd N P (course has.conf j.stripes run.turns j.log (most_in j.source) j.second run.start k.now k.old k.new) run.run.rows run.run.history o) is run.run.end in
-    rose_earlier k.before.faults run.start.faults k.now.faults run.later.faults (untold_rose run.start.told j.second run.start.faults k.now.faults end.0.cause (run.later.told ∙ untold))
+    rose_earlier k.before.faults run.start.faults k.now.faults (omega (arith, run.later.faults)) (untold_rose run.start.told j.second run.start.faults k.now.faults end.0.cause (run.later.told ∙ untold))
 
 pub run_fault : (j : Job) (k : Call) (was bench : Bench) (a : Answer) → HasCome j k was bench a → a ≡ Answer.ReadFault → k.before.told ≡ None → Rose k.before.faults k.now.faults
 run_fault j k was bench a (inl none) is untold = kind_fault _ a (refusal_is j k a none.cause) is untold

@@ -15,7 +15,7 @@ use Rattle.pr_samples.specs.declared.feed.Got.{Got}
 use Rattle.pr_run.specs.Setting.{IsFresh}
 use Rattle.pr_tool_answers.specs.declared.answers.Answer.{Answer}
 use Rattle.pr_tool_modes.specs.Calls.{Call}
-use Rattle.pr_tool_modes.specs.Files.{IsText, IsLong, IsFileRefusal, IsRefusedFile}
+use Rattle.pr_tool_modes.specs.Files.{IsText, ShowsFault, IsLong, IsFileRefusal, IsRefusedFile}
 use Rattle.pr_tool_modes.specs.Programs.{inputs_of, IsBadProgram, HasProgram}
 use Rattle.pr_tool_modes.specs.Samples.{fed_in, whole_file_verdict}
 
@@ -56,6 +56,7 @@ pub record HasNoResult (first : List ℕ) (k : Call) (answer : Answer) : Type 0 
   pub cause : IsFileRefusal most_program_bytes Cap.ProgramBytes IsBadProgram k.before.told first k.before.faults k.now.faults answer
   pub unwritten : k.new ≡ k.old
   pub unread : (q : List ℕ) → q ≢ first → k.now.reach q ≡ k.before.reach q
+  pub shown : ShowsFault k.before.faults k.now.faults answer
 
 -- the program is refused at no point, and the samples decide
 pub record HasResult (first second : List ℕ) (k : Call) (answer : Answer) : Type 0 where

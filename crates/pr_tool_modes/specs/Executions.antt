@@ -1,5 +1,5 @@
 -- What a mode comes to that runs a configuration on samples.
-use Rattle.std.specs.Prelude.{◌≡◌, ◌⊎◌, ◌≤◌, ℕ, List, Option, Some}
+use Rattle.std.specs.Prelude.{◌≡◌, ◌⊎◌, ℕ, List, Option, Some}
 use Rattle.pr_edge.specs.Count.{Rose}
 use Rattle.pr_edge.specs.Tape.{Tape}
 use Rattle.pr_conf.specs.Shape.{Shape}
@@ -11,6 +11,7 @@ use Rattle.pr_tool_answers.specs.declared.answers.Answer.{Answer}
 use Rattle.pr_tool_modes.specs.declared.benches.Bench.{Bench}
 use Rattle.pr_tool_modes.specs.declared.executions.Ran.{Ran}
 use Rattle.pr_tool_modes.specs.Calls.{Call}
+use Rattle.pr_tool_modes.specs.Files.{ShowsFault}
 use Rattle.pr_tool_modes.specs.declared.loadables.Loadable.{Loadable}
 use Rattle.pr_tool_modes.specs.Jobs.{Job, IsNoStall, IsNeither}
 use Rattle.pr_tool_modes.specs.Runs.{course, IsRun}
@@ -18,10 +19,10 @@ use Rattle.pr_tool_modes.specs.Samples.{samples_verdict}
 use Rattle.pr_tool_modes.specs.Sources.{most_in, Gives, IsGood, IsSourceRefusal, IsRefusedSource}
 use Rattle.pr_tool_modes.specs.Stalls.{HasStall, IsStallRefusal, after_stall}
 
--- between the two only files of other names than these were read
+-- between the two only files of other names than these were read, and no read failed
 pub record IsLater (kept : List ℕ → Type 0) (before start : View) : Type 0 where
   pub told : start.told ≡ before.told
-  pub faults : before.faults ≤ start.faults
+  pub faults : start.faults ≡ before.faults
   pub reach : (q : List ℕ) → kept q → start.reach q ≡ before.reach q
 
 -- a run of this configuration, before which files of other names than these were read
@@ -38,6 +39,7 @@ pub record IsHeldBack (j : Job) (k : Call) (was bench : Bench) (answer : Answer)
   pub unwritten : k.new ≡ k.old
   pub kept : bench ≡ was
   pub unread : (q : List ℕ) → IsNoStall j q → k.now.reach q ≡ k.before.reach q
+  pub shown : ShowsFault k.before.faults k.now.faults answer
 
 -- a run of this configuration, of which a write fails only by a count
 pub record HasBeenRun {N P : ℕ} (c : Shape) (j : Job) (k : Call) (machine : Going N P) (answer : Answer) : Type 0 where
@@ -89,6 +91,7 @@ pub record HasNoRun (j : Job) (k : Call) (was bench : Bench) (answer : Answer) :
   pub unwritten : k.new ≡ k.old
   pub kept : bench ≡ was
   pub unread : (q : List ℕ) → IsNeither j q → k.now.reach q ≡ k.before.reach q
+  pub shown : ShowsFault k.before.faults k.now.faults answer
 
 abbrev pub HasCome : Job → Call → Bench → Bench → Answer → Type 0
 HasCome j k was bench answer = HasNoRun j k was bench answer ⊎ IsExecuted j k bench answer

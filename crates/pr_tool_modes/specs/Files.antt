@@ -9,6 +9,10 @@ abbrev pub IsText : Told → List ℕ → List ℕ → Type 0
 IsText None name text = ⊤
 IsText (Some files) name text = files name ≡ Some text
 
+-- no failed read is kept quiet: the answer is a read fault, or the shelf's count of faults is as it was
+abbrev pub ShowsFault : ℕ → ℕ → Answer → Type 0
+ShowsFault before now answer = (answer ≡ Answer.ReadFault) ⊎ (now ≡ before)
+
 -- the file has more bytes than the limit
 pub record IsLong (told : Told) (name : List ℕ) (limit : ℕ) : Type 0 where
   pub text : List ℕ

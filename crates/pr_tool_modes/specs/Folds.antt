@@ -13,6 +13,7 @@ use Rattle.pr_tool_answers.specs.declared.answers.Answer.{Answer}
 use Rattle.pr_tool_modes.specs.declared.loadables.Loadable.{Loadable}
 use Rattle.pr_tool_modes.specs.Calls.{Call}
 use Rattle.pr_tool_modes.specs.Executions.{IsLater, IsRunRefusal}
+use Rattle.pr_tool_modes.specs.Files.{ShowsFault}
 use Rattle.pr_tool_modes.specs.Jobs.{Job, Resumption, resumed, IsNoStall, IsNeither}
 use Rattle.pr_tool_modes.specs.Runs.{Course, course, HasAll}
 use Rattle.pr_tool_modes.specs.Samples.{fed_at_most, pieces}
@@ -56,6 +57,7 @@ pub record HasRunFor (kept : List ℕ → Type 0) (c : Shape) (j : Job) (before 
 pub record IsUnasked (j : Job) (before now : View) (answer : Answer) : Type 0 where
   pub cause : IsStallRefusal before.told j.stall before.faults now.faults answer ⊎ (answer ≡ Answer.Memory)
   pub unread : (q : List ℕ) → IsNoStall j q → now.reach q ≡ before.reach q
+  pub shown : ShowsFault before.faults now.faults answer
 
 -- why there is no checkpoint: no samples were asked for, or none comes of them
 abbrev pub IsUnfolded : Shape → Job → View → View → Answer → Type 0
@@ -79,6 +81,7 @@ pub record HasNoFold (j : Job) (k : Call) (answer : Answer) : Type 0 where
   pub cause : IsRunRefusal j k.before k.now answer
   pub unwritten : k.new ≡ k.old
   pub unread : (q : List ℕ) → IsNeither j q → k.now.reach q ≡ k.before.reach q
+  pub shown : ShowsFault k.before.faults k.now.faults answer
 
 -- the checkpoint was to be written, or none came of the samples and nothing is written
 abbrev pub IsFoldEnd : ℕ → ℕ → Course → ℕ → Call → Answer → Type 0

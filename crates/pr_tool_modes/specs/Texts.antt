@@ -7,6 +7,7 @@ use Rattle.pr_code.specs.Spelling.{bytes_of_words, words_of}
 use Rattle.pr_code_show.specs.Shown.{shown}
 use Rattle.pr_tool_answers.specs.declared.answers.Answer.{Answer}
 use Rattle.pr_tool_modes.specs.declared.texts.Form.{Form}
+use Rattle.pr_tool_modes.specs.Files.{ShowsFault}
 use Rattle.pr_tool_modes.specs.Sources.{Source, Gives, IsGood, IsSourceRefusal, IsRefusedSource}
 use Rattle.pr_tool_modes.specs.Calls.{Call}
 
@@ -26,14 +27,16 @@ IsPut text old new before now answer = ⊥
 pub record HasNoText (source : Source) (k : Call) (answer : Answer) : Type 0 where
   pub cause : IsSourceRefusal k.before.told source k.before.faults k.now.faults answer
   pub unwritten : k.new ≡ k.old
+  pub shown : ShowsFault k.before.faults k.now.faults answer
 
--- the text of the configuration was to be written
+-- the text of the configuration was to be written; no read failed
 pub record HasText (form : Form) (source : Source) (k : Call) (answer : Answer) : Type 0 where
   pub N : ℕ
   pub P : ℕ
   pub conf : Shape
   pub gives : Gives k.before.told source N P conf
   pub put : IsPut (text_in form N P conf) k.old k.new k.out_before k.out_now answer
+  pub steady : k.now.faults ≡ k.before.faults
 
 -- what a mode comes to that writes a text of a configuration
 abbrev pub IsTexted : Form → Source → Call → Answer → Type 0

@@ -2,6 +2,7 @@
 ghost use Rattle.std.specs.Prelude.{◌≡◌, ◌≢◌, ◌≤◌, ◌^◌, ℕ, List, drop, None, IfOk, OnOk, IfErr};
 ghost use Rattle.pr_conf.specs.Configuration.{shape_of};
 ghost use Rattle.pr_code.specs.Marks.{IsMark, bad_mark, count_read, shape_marked};
+ghost use Rattle.pr_tool_modes.specs.Files.{ShowsFault};
 ghost use Rattle.pr_tool_modes.specs.Configurations.{IsWordRefusal};
 ghost use Rattle.pr_tool_modes.specs.Checkpoints.{broken_mark, IsResumable, HasMark, IsNotMarked};
 ghost use Rattle.pr_tool_modes.specs.Sources.{columns_in, registers_in, shape_in};
@@ -85,6 +86,8 @@ pub fn read_checkpoint<S: Shelf>(alloc: Global, shelf: &mut S, name: &str) -> Re
         (shape_in l.conf)) }
     ensures refused { IfErr result (IsNotMarked (S.told shelf.old) name.now (S.faults shelf.old) (S.faults shelf.new)) }
     ensures later { S.faults shelf.old ≤ S.faults shelf.new }
+    ensures steady { OnOk result (S.faults shelf.new ≡ S.faults shelf.old) }
+    ensures shown { IfErr result (ShowsFault (S.faults shelf.old) (S.faults shelf.new)) }
     ensures same { S.told shelf.new ≡ S.told shelf.old }
     ensures others { (q : List ℕ) → q ≢ name.now → S.reach shelf.new q ≡ S.reach shelf.old q }
 {

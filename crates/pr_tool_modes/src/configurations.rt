@@ -3,6 +3,7 @@ ghost use Rattle.std.specs.Prelude.{◌≡◌, ◌≢◌, ◌≤◌, ℕ, List, 
 ghost use Rattle.pr_conf.specs.Configuration.{shape_of};
 ghost use Rattle.pr_code.specs.Spelling.{IsFile};
 ghost use Rattle.pr_code.specs.Rules.{bad_word, shape_read};
+ghost use Rattle.pr_tool_modes.specs.Files.{ShowsFault};
 ghost use Rattle.pr_tool_modes.specs.Configurations.{columns_of, registers_of, IsWordRefusal, IsLoadable, HasConfiguration, IsNotConfigured};
 ghost use Rattle.pr_tool_modes.specs.Sources.{columns_in, registers_in, shape_in};
 
@@ -59,6 +60,8 @@ pub fn read_configuration<S: Shelf>(
     ensures refused { IfErr result
         (IsNotConfigured (S.told shelf.old) name.now (S.faults shelf.old) (S.faults shelf.new)) }
     ensures later { S.faults shelf.old ≤ S.faults shelf.new }
+    ensures steady { OnOk result (S.faults shelf.new ≡ S.faults shelf.old) }
+    ensures shown { IfErr result (ShowsFault (S.faults shelf.old) (S.faults shelf.new)) }
     ensures same { S.told shelf.new ≡ S.told shelf.old }
     ensures others { (q : List ℕ) → q ≢ name.now → S.reach shelf.new q ≡ S.reach shelf.old q }
 {

@@ -4,6 +4,7 @@ ghost use Rattle.pr_edge.specs.Count.{Rose};
 ghost use Rattle.pr_conf.specs.Configuration.{shape_of};
 ghost use Rattle.pr_run.specs.Setting.{view};
 ghost use Rattle.pr_tool_modes.specs.Calls.{call};
+ghost use Rattle.pr_tool_modes.specs.Files.{ShowsFault};
 ghost use Rattle.pr_tool_modes.specs.Jobs.{job_on, job_of, stall_in, IsNoStall, IsNeither};
 ghost use Rattle.pr_tool_modes.specs.Sources.{Source, count_in};
 ghost use Rattle.pr_tool_modes.specs.Stalls.{IsStallRefusal};
@@ -41,6 +42,7 @@ fn run_on<const N: usize, const P: usize, S: Shelf, K: Sink>(
     ensures refused { IfErr result
         (λ a. IsStallRefusal (S.told shelf.old) (stall_in run.now) (S.faults shelf.old) (S.faults shelf.new) a
         ⊎ (a ≡ Answer.Memory)) }
+    ensures shown { IfErr result (ShowsFault (S.faults shelf.old) (S.faults shelf.new)) }
     ensures unwritten { OnErr result (K.told out.new ≡ K.told out.old) }
     ensures unread { OnErr result
         ((q : List ℕ) → stall_in run.now ≢ Some q → S.reach shelf.new q ≡ S.reach shelf.old q) }
@@ -105,6 +107,7 @@ pub fn run_either<S: Shelf, K: Sink>(
     ensures refused { IfErr result
         (λ a. IsStallRefusal (S.told shelf.old) (stall_in run.now) (S.faults shelf.old) (S.faults shelf.new) a
         ⊎ (a ≡ Answer.Memory)) }
+    ensures shown { IfErr result (ShowsFault (S.faults shelf.old) (S.faults shelf.new)) }
     ensures unwritten { OnErr result (K.told out.new ≡ K.told out.old) }
     ensures unread { OnErr result
         ((q : List ℕ) → stall_in run.now ≢ Some q → S.reach shelf.new q ≡ S.reach shelf.old q) }

@@ -1,6 +1,6 @@
 //! Files that are read whole.
-ghost use Rattle.std.specs.Prelude.{◌≡◌, ◌≢◌, ◌≤◌, ℕ, List, length, IfOk, IfErr};
-ghost use Rattle.pr_tool_modes.specs.Files.{IsText, IsUnread};
+ghost use Rattle.std.specs.Prelude.{◌≡◌, ◌≢◌, ◌≤◌, ℕ, List, length, IfOk, OnOk, IfErr};
+ghost use Rattle.pr_tool_modes.specs.Files.{IsText, ShowsFault, IsUnread};
 
 use pr_base::Cap;
 use pr_edge::{ReadAll, Shelf, read_all};
@@ -20,6 +20,11 @@ pub fn read_file<S: Shelf>(
     ensures refused { IfErr result
         (IsUnread limit cap (S.told shelf.old) name.now (S.faults shelf.old) (S.faults shelf.new)) }
     ensures later { S.faults shelf.old ≤ S.faults shelf.new }
+
+    // A read that fails is not tried again: it ends with ReadFault.
+    ensures steady { OnOk result (S.faults shelf.new ≡ S.faults shelf.old) }
+    ensures shown { IfErr result (ShowsFault (S.faults shelf.old) (S.faults shelf.new)) }
+
     ensures same { S.told shelf.new ≡ S.told shelf.old }
     ensures others { (q : List ℕ) → q ≢ name.now → S.reach shelf.new q ≡ S.reach shelf.old q }
 {

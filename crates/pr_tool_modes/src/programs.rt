@@ -1,8 +1,9 @@
 //! Programs that are read from files.
-ghost use Rattle.std.specs.Prelude.{◌≡◌, ◌≢◌, ◌≤◌, ◌⊎◌, ℕ, List, length, IfOk, IfErr};
+ghost use Rattle.std.specs.Prelude.{◌≡◌, ◌≢◌, ◌≤◌, ◌⊎◌, ℕ, List, length, IfOk, OnOk, IfErr};
 ghost use Rattle.pr_base.specs.Fabrics.{columns, registers};
 ghost use Rattle.pr_conf.specs.Configuration.{shape_of};
 ghost use Rattle.pr_compile.specs.Configured.{IsCompiled, HasUnits};
+ghost use Rattle.pr_tool_modes.specs.Files.{ShowsFault};
 ghost use Rattle.pr_tool_modes.specs.Programs.{front_answer, compile_answer, IsNotLoaded, IsUncompiled, IsNotCompiled, IsLoaded, HasCompiled, IsCounted};
 ghost use Rattle.pr_tool_modes.specs.Sources.{columns_in, registers_in, shape_in, IsOnFabric};
 
@@ -48,6 +49,8 @@ pub fn load_program<S: Shelf>(alloc: Global, shelf: &mut S, name: &str) -> Resul
     ensures loaded { IfOk result (λ f. IsLoaded (S.told shelf.old) name.now f) }
     ensures refused { IfErr result (IsNotLoaded (S.told shelf.old) name.now (S.faults shelf.old) (S.faults shelf.new)) }
     ensures later { S.faults shelf.old ≤ S.faults shelf.new }
+    ensures steady { OnOk result (S.faults shelf.new ≡ S.faults shelf.old) }
+    ensures shown { IfErr result (ShowsFault (S.faults shelf.old) (S.faults shelf.new)) }
     ensures same { S.told shelf.new ≡ S.told shelf.old }
     ensures others { (q : List ℕ) → q ≢ name.now → S.reach shelf.new q ≡ S.reach shelf.old q }
 {
@@ -105,6 +108,8 @@ pub fn compile_on<const N: usize, const P: usize, S: Shelf>(
     ensures refused { IfErr result
         (IsNotCompiled N P narrowed (S.told shelf.old) name.now (S.faults shelf.old) (S.faults shelf.new)) }
     ensures later { S.faults shelf.old ≤ S.faults shelf.new }
+    ensures steady { OnOk result (S.faults shelf.new ≡ S.faults shelf.old) }
+    ensures shown { IfErr result (ShowsFault (S.faults shelf.old) (S.faults shelf.new)) }
     ensures same { S.told shelf.new ≡ S.told shelf.old }
     ensures others { (q : List ℕ) → q ≢ name.now → S.reach shelf.new q ≡ S.reach shelf.old q }
 {
@@ -128,6 +133,8 @@ pub fn compile_file<S: Shelf>(
         (IsNotCompiled (columns target.fabric) (registers target.fabric) target.narrowed (S.told shelf.old) name.now
         (S.faults shelf.old) (S.faults shelf.new)) }
     ensures later { S.faults shelf.old ≤ S.faults shelf.new }
+    ensures steady { OnOk result (S.faults shelf.new ≡ S.faults shelf.old) }
+    ensures shown { IfErr result (ShowsFault (S.faults shelf.old) (S.faults shelf.new)) }
     ensures same { S.told shelf.new ≡ S.told shelf.old }
     ensures others { (q : List ℕ) → q ≢ name.now → S.reach shelf.new q ≡ S.reach shelf.old q }
 {

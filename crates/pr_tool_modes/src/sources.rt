@@ -1,5 +1,6 @@
 //! Configurations of either fabric, and where they come from.
-ghost use Rattle.std.specs.Prelude.{◌≡◌, ◌≢◌, ◌≤◌, ℕ, List, IfOk, IfErr};
+ghost use Rattle.std.specs.Prelude.{◌≡◌, ◌≢◌, ◌≤◌, ℕ, List, IfOk, OnOk, IfErr};
+ghost use Rattle.pr_tool_modes.specs.Files.{ShowsFault};
 ghost use Rattle.pr_tool_modes.specs.Sources.{columns_in, registers_in, shape_in, name_in, Gives, IsSourceRefusal};
 ghost use Rattle.pr_tool_modes.specs.Jobs.{source_of};
 
@@ -19,6 +20,8 @@ pub fn load<S: Shelf>(alloc: Global, source: &Source<'_>, shelf: &mut S) -> Resu
     ensures refused { IfErr result
         (IsSourceRefusal (S.told shelf.old) (source_of source.now) (S.faults shelf.old) (S.faults shelf.new)) }
     ensures later { S.faults shelf.old ≤ S.faults shelf.new }
+    ensures steady { OnOk result (S.faults shelf.new ≡ S.faults shelf.old) }
+    ensures shown { IfErr result (ShowsFault (S.faults shelf.old) (S.faults shelf.new)) }
     ensures same { S.told shelf.new ≡ S.told shelf.old }
     ensures others { (q : List ℕ) → q ≢ name_in (source_of source.now) → S.reach shelf.new q ≡ S.reach shelf.old q }
 {

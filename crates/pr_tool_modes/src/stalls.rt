@@ -1,9 +1,9 @@
 //! Stall texts that are read from files.
-ghost use Rattle.std.specs.Prelude.{◌≡◌, ◌≢◌, ◌≤◌, ℕ, List, length, Some, IfOk, IfErr, IsSomeAnd, option_map};
+ghost use Rattle.std.specs.Prelude.{◌≡◌, ◌≢◌, ◌≤◌, ℕ, List, length, Some, IfOk, OnOk, IfErr, IsSomeAnd, option_map};
 ghost use Rattle.pr_base.specs.declared.caps.Cap.{Cap};
 ghost use Rattle.pr_samples.specs.Stall.{turns_left};
 ghost use Rattle.pr_run.specs.Setting.{stall_turns};
-ghost use Rattle.pr_tool_modes.specs.Files.{IsUnread};
+ghost use Rattle.pr_tool_modes.specs.Files.{ShowsFault, IsUnread};
 ghost use Rattle.pr_tool_modes.specs.Stalls.{IsStallText, HasStall, IsStallRefusal};
 
 use crate::files::read_file;
@@ -21,6 +21,8 @@ fn read_text<S: Shelf>(alloc: Global, shelf: &mut S, name: Option<&str>) -> Resu
         (λ a. IsSomeAnd (option_map (λ s. s.now) name.entry)
         (λ n. IsUnread 1048576 Cap.StallBytes (S.told shelf.old) n (S.faults shelf.old) (S.faults shelf.new) a)) }
     ensures later { S.faults shelf.old ≤ S.faults shelf.new }
+    ensures steady { OnOk result (S.faults shelf.new ≡ S.faults shelf.old) }
+    ensures shown { IfErr result (ShowsFault (S.faults shelf.old) (S.faults shelf.new)) }
     ensures same { S.told shelf.new ≡ S.told shelf.old }
     ensures others { (q : List ℕ) → option_map (λ s. s.now) name.entry ≢ Some q
         → S.reach shelf.new q ≡ S.reach shelf.old q }
@@ -44,6 +46,8 @@ pub fn read_stall<S: Shelf>(
         (λ a. IsStallRefusal (S.told shelf.old) (option_map (λ s. s.now) name.entry) (S.faults shelf.old)
         (S.faults shelf.new) a) }
     ensures later { S.faults shelf.old ≤ S.faults shelf.new }
+    ensures steady { OnOk result (S.faults shelf.new ≡ S.faults shelf.old) }
+    ensures shown { IfErr result (ShowsFault (S.faults shelf.old) (S.faults shelf.new)) }
     ensures same { S.told shelf.new ≡ S.told shelf.old }
     ensures others { (q : List ℕ) → option_map (λ s. s.now) name.entry ≢ Some q
         → S.reach shelf.new q ≡ S.reach shelf.old q }

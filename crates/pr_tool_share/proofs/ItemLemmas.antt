@@ -13,6 +13,7 @@ use Rattle.pr_share.specs.Items.{conf_in, IsReady, AreReady, names_of, IsNoneOf}
 use Rattle.pr_share_list.specs.List.{Entry, entry_of, entry_by, counts, list_lines, IsListed}
 use Rattle.pr_tool_words.specs.Lawful.{number_in}
 use Rattle.pr_tool_answers.specs.declared.answers.Answer.{Answer}
+use Rattle.pr_tool_modes.specs.Files.{ShowsFault}
 use Rattle.pr_tool_modes.specs.Sources.{Gives, IsSourceRefusal}
 use Rattle.pr_tool_modes.proofs.FileLemmas.{unread_earlier}
 use Rattle.pr_tool_share.specs.Lists.{source_in, part_answer, IsProgramRefusal, IsNoSamples, AreCompiled}
@@ -100,6 +101,11 @@ refused_at told before mid now (e ∷ entries) (x ∷ items) k (suc i) entry cau
       record { N = 16; P = 8; conf = are.0.conf; gives = are.0.compiled },
       subst (λ (m : ℕ). IsProgramRefusal told before now (k + 1) entries (part_answer m cause)) n (refused_at told before mid now entries items (k + 1) i entry cause are.1 here le is),
     )
+
+-- a read of one failed, and the answer shows it
+pub part_shown : (k before now : ℕ) (cause : Answer) → ShowsFault before now cause → ShowsFault before now (part_answer k cause)
+part_shown k before now cause (inl is) = inl (ap (part_answer k) is)
+part_shown k before now cause (inr same) = inr same
 
 -- one was refused after other files were read
 pub program_earlier : (told : Told) (before mid now k : ℕ) (entries : List Entry) (a : Answer) → before ≤ mid → IsProgramRefusal told mid now k entries a → IsProgramRefusal told before now k entries a

@@ -160,22 +160,21 @@ share_fault list stripes k a (inl held) is untold = by_cause held.cause
     by_cause (inr (inr memory)) = absurd (let no : Answer.ReadFault ≡ Answer.Memory = sym is ∙ memory in cc)
 share_fault list stripes k a (inr shared) is untold = by_end shared.turned.taken
   where
-    by_end : HaveTaken shared.firsts shared.items (world k.before.told shared.faults k.old) (world k.before.told k.now.faults k.new) k.out_before k.out_now a → Rose k.before.faults k.now.faults
+    by_end : HaveTaken shared.firsts shared.items (world k.before.told k.before.faults k.old) (world k.before.told k.now.faults k.new) k.out_before k.out_now a → Rose k.before.faults k.now.faults
     by_end (inl done) =
         let s = done.0 in
         let all = subst (λ (t : Told). AreAll t shared.firsts shared.items s.givens) untold s.each in
         let n = untold_faults shared.firsts shared.items s.givens s.items_count s.givens_count all (some_fault (map end_of shared.items) (sym done.1 ∙ is)) in
         let counted = subst (λ (t : Told). 1 ≤ read_faults t shared.firsts s.givens) (sym untold) n in
         let rose = s.faults in
-        let le = shared.later in
-        omega (arith, counted, rose, le)
+        omega (arith, counted, rose)
     by_end (inr stopped) = absurd (let no : Answer.ReadFault ≡ Answer.WriteFault = sym is ∙ stopped.1.0 in cc)
 
 pub share_write : (list : List ℕ) (stripes : ℕ) (k : Call) (a : Answer) → IsSharedBy list stripes k a → a ≡ Answer.WriteFault → Rose k.out_before k.out_now
 share_write list stripes k a (inl held) is = absurd (true≢false (sym (ap is_other is) ∙ held_other list k a held.cause))
 share_write list stripes k a (inr shared) is = by_end shared.turned.taken
   where
-    by_end : HaveTaken shared.firsts shared.items (world k.before.told shared.faults k.old) (world k.before.told k.now.faults k.new) k.out_before k.out_now a → Rose k.out_before k.out_now
+    by_end : HaveTaken shared.firsts shared.items (world k.before.told k.before.faults k.old) (world k.before.told k.now.faults k.new) k.out_before k.out_now a → Rose k.out_before k.out_now
     by_end (inl done) = absurd (true≢false (sym (ap is_never is) ∙ (ap is_never done.1 ∙ all_never (map end_of shared.items))))
     by_end (inr stopped) = stopped.1.1
 
@@ -183,7 +182,7 @@ pub share_memory : (list : List ℕ) (stripes : ℕ) (k : Call) (a : Answer) →
 share_memory list stripes k a (inl held) is = held.unwritten
 share_memory list stripes k a (inr shared) is = absurd (by_end shared.turned.taken)
   where
-    by_end : HaveTaken shared.firsts shared.items (world k.before.told shared.faults k.old) (world k.before.told k.now.faults k.new) k.out_before k.out_now a → ⊥
+    by_end : HaveTaken shared.firsts shared.items (world k.before.told k.before.faults k.old) (world k.before.told k.now.faults k.new) k.out_before k.out_now a → ⊥
     by_end (inl done) = true≢false (sym (ap is_never is) ∙ (ap is_never done.1 ∙ all_never (map end_of shared.items)))
     by_end (inr stopped) = let no : Answer.Memory ≡ Answer.WriteFault = sym is ∙ stopped.1.0 in cc
 
@@ -191,6 +190,6 @@ pub share_usage : (list : List ℕ) (stripes : ℕ) (k : Call) (a : Answer) → 
 share_usage list stripes k a (inl held) is = true≢false (sym (ap is_other is) ∙ held_other list k a held.cause)
 share_usage list stripes k a (inr shared) is = by_end shared.turned.taken
   where
-    by_end : HaveTaken shared.firsts shared.items (world k.before.told shared.faults k.old) (world k.before.told k.now.faults k.new) k.out_before k.out_now a → ⊥
+    by_end : HaveTaken shared.firsts shared.items (world k.before.told k.before.faults k.old) (world k.before.told k.now.faults k.new) k.out_before k.out_now a → ⊥
     by_end (inl done) = true≢false (sym (ap is_never is) ∙ (ap is_never done.1 ∙ all_never (map end_of shared.items)))
     by_end (inr stopped) = let no : Answer.Usage ≡ Answer.WriteFault = sym is ∙ stopped.1.0 in cc

@@ -61,7 +61,7 @@ share_owed files list stripes k a told (inr shared) =
     let ready = subst (λ (t : Told). AreItemsOf t shared.entries shared.firsts) told shared.ready in
     next_owed files list shared.entries k.before.faults k.now.faults k.out_before k.out_now a has
     (owed_by (AreLastVerdict files shared.entries) (λ o. IsRefusedProgram files 0 shared.entries o ⊎ AreLastVerdict files shared.entries o) k.before.faults k.now.faults k.out_before k.out_now a (λ p. inr p)
-    (taken_owed files shared.entries shared.firsts shared.items (world k.before.told shared.faults k.old) (world k.before.told k.now.faults k.new) k.before.faults k.out_before k.out_now a ready told told shared.later shared.turned.taken))
+    (taken_owed files shared.entries shared.firsts shared.items (world k.before.told k.before.faults k.old) (world k.before.told k.now.faults k.new) k.before.faults k.out_before k.out_now a ready told told (omega arith) shared.turned.taken))
 
 -- ---- one verdict
 one_last : (files : List ℕ → Option (List ℕ)) (entries : List Entry) (a b : Answer) → AreLastVerdict files entries a → AreLastVerdict files entries b → a ≡ b

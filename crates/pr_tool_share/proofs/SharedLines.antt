@@ -221,4 +221,4 @@ share_lines files list stripes k a told (inl held) =
 share_lines files list stripes k a told (inr shared) =
     let has = subst (λ (t : Told). HasList t list shared.entries) told shared.has in
     let ready = subst (λ (t : Told). AreItemsOf t shared.entries shared.firsts) told shared.ready in
-    taken_lines files list shared.entries shared.firsts shared.items (world k.before.told shared.faults k.old) (world k.before.told k.now.faults k.new) k.before.faults has ready told shared.later (IsUnread files list k) (k.new ≡ k.old) k.out_before k.out_now a shared.turned.taken
+    taken_lines files list shared.entries shared.firsts shared.items (world k.before.told k.before.faults k.old) (world k.before.told k.now.faults k.new) k.before.faults has ready told (omega arith) (IsUnread files list k) (k.new ≡ k.old) k.out_before k.out_now a shared.turned.taken

@@ -1,5 +1,5 @@
 -- What the mode comes to that runs the programs of a list in turns.
-use Rattle.std.specs.Prelude.{◌≡◌, ◌≢◌, ◌⊎◌, ◌≤◌, ℕ, List, map}
+use Rattle.std.specs.Prelude.{◌≡◌, ◌≢◌, ◌⊎◌, ℕ, List, map}
 use Rattle.pr_edge.specs.Count.{Rose}
 use Rattle.pr_machine.specs.declared.machine.Machine.{Machine}
 use Rattle.pr_machine.specs.declared.machine.Bare.{Bare}
@@ -9,6 +9,7 @@ use Rattle.pr_share.specs.Items.{World, world, AreShared, AreStopped}
 use Rattle.pr_share_list.specs.List.{Entry}
 use Rattle.pr_tool_answers.specs.declared.answers.Answer.{Answer}
 use Rattle.pr_tool_modes.specs.Calls.{Call}
+use Rattle.pr_tool_modes.specs.Files.{ShowsFault}
 use Rattle.pr_tool_share.specs.Lists.{HasList, IsListRefusal, IsProgramRefusal, IsNoProgram}
 use Rattle.pr_tool_share.specs.Ends.{answer_of_all}
 use Rattle.pr_tool_share.specs.Items.{Item, AreItemsOf, end_of}
@@ -24,6 +25,7 @@ pub record IsHeldBack (list : List ℕ) (k : Call) (answer : Answer) : Type 0 wh
   pub cause : IsListRefusal k.before.told list k.before.faults k.now.faults answer ⊎ (IsProgramRefused list k answer ⊎ (answer ≡ Answer.Memory))
   pub unwritten : k.new ≡ k.old
   pub unread : (q : List ℕ) → q ≢ list → ((entries : List Entry) → HasList k.before.told list entries → IsNoProgram entries q) → k.now.reach q ≡ k.before.reach q
+  pub shown : ShowsFault k.before.faults k.now.faults answer
 
 -- the samples of all programs have ended, or a write failed
 abbrev pub HaveTaken : List Item → List Item → World → World → ℕ → ℕ → Answer → Type 0
@@ -38,16 +40,14 @@ pub record HaveTurned (stripes : ℕ) (firsts items : List Item) (start now : Wo
   pub stripes_are : bare_stripes machine ≡ stripes
   pub taken : HaveTaken firsts items start now out_before out_now answer
 
--- all programs were compiled, and they have taken turns on a machine of so many stripes
+-- all programs were compiled, no read failed so far, and they have taken turns on a machine of so many stripes
 pub record HaveShared (list : List ℕ) (stripes : ℕ) (k : Call) (answer : Answer) : Type 0 where
   pub entries : List Entry
   pub has : HasList k.before.told list entries
   pub firsts : List Item
   pub ready : AreItemsOf k.before.told entries firsts
-  pub faults : ℕ
-  pub later : k.before.faults ≤ faults
   pub items : List Item
-  pub turned : HaveTurned stripes firsts items (world k.before.told faults k.old) (world k.before.told k.now.faults k.new) k.out_before k.out_now answer
+  pub turned : HaveTurned stripes firsts items (world k.before.told k.before.faults k.old) (world k.before.told k.now.faults k.new) k.out_before k.out_now answer
 
 abbrev pub IsSharedBy : List ℕ → ℕ → Call → Answer → Type 0
 IsSharedBy list stripes k answer = IsHeldBack list k answer ⊎ HaveShared list stripes k answer

@@ -1,6 +1,7 @@
 //! Lists of programs that are read from files.
-ghost use Rattle.std.specs.Prelude.{◌≡◌, ◌≢◌, ◌≤◌, ℕ, List, IfOk, IfErr, map};
+ghost use Rattle.std.specs.Prelude.{◌≡◌, ◌≢◌, ◌≤◌, ℕ, List, IfOk, OnOk, IfErr, map};
 ghost use Rattle.pr_share_list.specs.List.{entry_in};
+ghost use Rattle.pr_tool_modes.specs.Files.{ShowsFault};
 ghost use Rattle.pr_tool_share.specs.Lists.{HasList, IsListRefusal};
 
 use pr_base::Cap;
@@ -20,6 +21,8 @@ pub(crate) fn load_list<S: Shelf>(
     ensures refused { IfErr result
         (IsListRefusal (S.told shelf.old) list.now (S.faults shelf.old) (S.faults shelf.new)) }
     ensures later { S.faults shelf.old ≤ S.faults shelf.new }
+    ensures steady { OnOk result (S.faults shelf.new ≡ S.faults shelf.old) }
+    ensures shown { IfErr result (ShowsFault (S.faults shelf.old) (S.faults shelf.new)) }
     ensures same { S.told shelf.new ≡ S.told shelf.old }
     ensures others { (q : List ℕ) → q ≢ list.now → S.reach shelf.new q ≡ S.reach shelf.old q }
 {

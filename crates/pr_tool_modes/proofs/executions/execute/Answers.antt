@@ -11,7 +11,7 @@ returns-in-Ok-clause-ended g c =
     let mid = view (g.S.Shelf.told c.load.new.shelf) (g.S.Shelf.reach c.load.new.shelf) (g.S.Shelf.faults c.load.new.shelf) in
     let now = view (g.S.Shelf.told c.run_loaded.new.shelf) (g.S.Shelf.reach c.run_loaded.new.shelf) (g.S.Shelf.faults c.run_loaded.new.shelf) in
     let k = call before now (g.K.Sink.told c.args.out.now) (g.K.Sink.told c.run_loaded.new.out) (g.K.Sink.faults c.args.out.now) (g.K.Sink.faults c.run_loaded.new.out) in
-    come_of (job_of c.args.job.now) k mid c.in-Ok.loaded c.args.bench.now c.run_loaded.new.bench c.run_loaded.result c.in-Ok.ensures.gives c.load.ensures.same c.load.ensures.later c.load.ensures.others c.run_loaded.ensures.ended
+    come_of (job_of c.args.job.now) k mid c.in-Ok.loaded c.args.bench.now c.run_loaded.new.bench c.run_loaded.result c.in-Ok.ensures.gives c.load.ensures.same c.in-Ok.ensures.steady c.load.ensures.others c.run_loaded.ensures.ended
 
 pub returns-in-Ok-clause-others : goal.returns-in-Ok-clause-others
 returns-in-Ok-clause-others g c = λ q second neither. c.run_loaded.ensures.others q second neither.1 ∙ c.load.ensures.others q neither.0

@@ -14,4 +14,4 @@ returns-in-Ok-clause-ended g c =
     let now = view (g.S.Shelf.told c.fold_from.new.shelf) (g.S.Shelf.reach c.fold_from.new.shelf) (g.S.Shelf.faults c.fold_from.new.shelf) in
     let k = call before now (g.K.Sink.told c.args.out.now) (g.K.Sink.told c.fold_from.new.out) (g.K.Sink.faults c.args.out.now) (g.K.Sink.faults c.fold_from.new.out) in
     let ended = c.fold_from.ensures.ended (Mark c.args.resumption.now.checkpoint.now origin.before) refl in
-    (origin.before, folded_of (resumed (resumption_of c.args.resumption.now) origin.before) k mid origin.conf origin.before c.fold_from.result c.in-Ok.ensures.read refl c.read_checkpoint.ensures.same c.read_checkpoint.ensures.later c.read_checkpoint.ensures.others ended)
+    (origin.before, folded_of (resumed (resumption_of c.args.resumption.now) origin.before) k mid origin.conf origin.before c.fold_from.result c.in-Ok.ensures.read refl c.read_checkpoint.ensures.same c.in-Ok.ensures.steady c.read_checkpoint.ensures.others ended)

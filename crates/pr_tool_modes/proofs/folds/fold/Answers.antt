@@ -11,5 +11,5 @@ returns-in-Ok-clause-ended g c =
     let mid = view (g.S.Shelf.told c.load.new.shelf) (g.S.Shelf.reach c.load.new.shelf) (g.S.Shelf.faults c.load.new.shelf) in
     let now = view (g.S.Shelf.told c.fold_from.new.shelf) (g.S.Shelf.reach c.fold_from.new.shelf) (g.S.Shelf.faults c.fold_from.new.shelf) in
     let k = call before now (g.K.Sink.told c.args.out.now) (g.K.Sink.told c.fold_from.new.out) (g.K.Sink.faults c.args.out.now) (g.K.Sink.faults c.fold_from.new.out) in
-    folded_of (job_of c.args.job.now) k mid c.in-Ok.conf 0 c.fold_from.result c.in-Ok.ensures.gives (fresh_source c.args.job.now.source) c.load.ensures.same c.load.ensures.later c.load.ensures.others
+    folded_of (job_of c.args.job.now) k mid c.in-Ok.conf 0 c.fold_from.result c.in-Ok.ensures.gives (fresh_source c.args.job.now.source) c.load.ensures.same c.in-Ok.ensures.steady c.load.ensures.others
     (c.fold_from.ensures.ended (source_of c.args.job.now.source) (fresh_source c.args.job.now.source))

@@ -17,14 +17,14 @@ returns-in_err-stall-clause-refused g c = λ source count. (
     let before = view (g.S.Shelf.told c.args.shelf.now) (g.S.Shelf.reach c.args.shelf.now) (g.S.Shelf.faults c.args.shelf.now) in
     let now = view (g.S.Shelf.told c.read_stall.new.shelf) (g.S.Shelf.reach c.read_stall.new.shelf) (g.S.Shelf.faults c.read_stall.new.shelf) in
     let r = c.from_residual in
-    unasked_for r.result _ (shape_of c.args.conf) (job_on source c.args.run.now) before now (err_from_is_err_and r.result r.ensures.1) (record { cause = inl c.in_err-stall.ensures.refused; unread = c.read_stall.ensures.others }))
+    unasked_for r.result _ (shape_of c.args.conf) (job_on source c.args.run.now) before now (err_from_is_err_and r.result r.ensures.1) (record { cause = inl c.in_err-stall.ensures.refused; unread = c.read_stall.ensures.others; shown = c.in_err-stall.ensures.shown }))
 
 pub returns-in_err-ready-clause-refused : goal.returns-in_err-ready-clause-refused
 returns-in_err-ready-clause-refused g c = λ source count. (
     let before = view (g.S.Shelf.told c.args.shelf.now) (g.S.Shelf.reach c.args.shelf.now) (g.S.Shelf.faults c.args.shelf.now) in
     let now = view (g.S.Shelf.told c.read_stall.new.shelf) (g.S.Shelf.reach c.read_stall.new.shelf) (g.S.Shelf.faults c.read_stall.new.shelf) in
     let r = c.from_residual-in_err-ready in
-    unasked_for r.result _ (shape_of c.args.conf) (job_on source c.args.run.now) before now (err_from_is_err_and r.result r.ensures.1) (record { cause = inr c.in_err-ready.ensures.refused; unread = c.read_stall.ensures.others }))
+    unasked_for r.result _ (shape_of c.args.conf) (job_on source c.args.run.now) before now (err_from_is_err_and r.result r.ensures.1) (record { cause = inr c.in_err-ready.ensures.refused; unread = c.read_stall.ensures.others; shown = inr c.in_ok-stall.ensures.steady }))
 
 pub returns-clause-marked : goal.returns-clause-marked
 returns-clause-marked g c = λ source count. (
@@ -37,7 +37,7 @@ returns-clause-marked g c = λ source count. (
     IfOk-weaker c.fold_all.result _ _ (λ v marked. run_for (λ (r : Course). HasMarked g.row.N g.row.P r c.args.before v.items) (shape_of c.args.conf) (conf_of made.ready.machine) (job_on source c.args.run.now)
     (stripes_of made.ready.machine) (most_of made.ready.feed) (name_of made.ready.feed) (stall_turns made.ready.stall) before start now
     made.ensures.conf made.ensures.stripes bound made.ensures.ready.opened.file stall
-    (record { told = c.read_stall.ensures.same; faults = c.read_stall.ensures.later; reach = c.read_stall.ensures.others }) marked) c.fold_all.ensures.marked)
+    (record { told = c.read_stall.ensures.same; faults = c.in_ok-stall.ensures.steady; reach = c.read_stall.ensures.others }) marked) c.fold_all.ensures.marked)
 
 pub returns-clause-refused : goal.returns-clause-refused
 returns-clause-refused g c = λ source count. (
@@ -50,7 +50,7 @@ returns-clause-refused g c = λ source count. (
     IfErr-weaker c.fold_all.result _ _ (λ a unmarked. inr (run_for (λ (r : Course). IsUnmarked r a) (shape_of c.args.conf) (conf_of made.ready.machine) (job_on source c.args.run.now)
     (stripes_of made.ready.machine) (most_of made.ready.feed) (name_of made.ready.feed) (stall_turns made.ready.stall) before start now
     made.ensures.conf made.ensures.stripes bound made.ensures.ready.opened.file stall
-    (record { told = c.read_stall.ensures.same; faults = c.read_stall.ensures.later; reach = c.read_stall.ensures.others }) unmarked)) c.fold_all.ensures.unmarked)
+    (record { told = c.read_stall.ensures.same; faults = c.in_ok-stall.ensures.steady; reach = c.read_stall.ensures.others }) unmarked)) c.fold_all.ensures.unmarked)
 
 pub returns-clause-others : goal.returns-clause-others
 returns-clause-others g c = λ q second stall. c.fold_all.ensures.others q (λ e. second (e ∙ c.in_ok-ready.ensures.ready.opened.file)) ∙ c.read_stall.ensures.others q stall

@@ -14,4 +14,4 @@ returns-in-Ok-clause-ended g c =
     let now = view (g.S.Shelf.told c.run_from.new.shelf) (g.S.Shelf.reach c.run_from.new.shelf) (g.S.Shelf.faults c.run_from.new.shelf) in
     let k = call before now (g.K.Sink.told c.args.out.now) (g.K.Sink.told c.run_from.new.out) (g.K.Sink.faults c.args.out.now) (g.K.Sink.faults c.run_from.new.out) in
     let ended = c.run_from.ensures.ended (Mark c.args.resumption.now.checkpoint.now origin.before) refl in
-    (origin.before, come_of (resumed (resumption_of c.args.resumption.now) origin.before) k mid origin.conf c.args.bench.now c.run_from.new.bench c.run_from.result c.in-Ok.ensures.read c.read_checkpoint.ensures.same c.read_checkpoint.ensures.later c.read_checkpoint.ensures.others ended)
+    (origin.before, come_of (resumed (resumption_of c.args.resumption.now) origin.before) k mid origin.conf c.args.bench.now c.run_from.new.bench c.run_from.result c.in-Ok.ensures.read c.read_checkpoint.ensures.same c.in-Ok.ensures.steady c.read_checkpoint.ensures.others ended)

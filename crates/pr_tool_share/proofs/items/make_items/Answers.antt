@@ -1,13 +1,15 @@
-use Rattle.std.proofs.Common.{◌≡◌, ◌++◌, ◌+◌, ◌∷◌, [], ℕ, suc, List, take, map, slice_get, Some, option_map, sym, ap, ◌∙◌, subst, arith, rules, inl}
+use Rattle.std.proofs.Common.{◌≡◌, ◌++◌, ◌+◌, ◌∷◌, [], ℕ, suc, List, take, map, slice_get, Some, option_map, sym, ap, ◌∙◌, subst, arith, rules, inl, inr}
 use Rattle.std.proofs.lemmas.Option.{slice_get-map}
 use Rattle.pr_edge.specs.Files.{Told}
 use Rattle.pr_share.proofs.ListFacts.{got_from}
 use Rattle.pr_share_list.specs.List.{entry_in}
 use Rattle.pr_tool_answers.specs.declared.answers.Answer.{Answer}
+use Rattle.pr_tool_modes.specs.Files.{ShowsFault}
 use Rattle.pr_tool_modes.specs.Sources.{IsSourceRefusal}
+use Rattle.pr_tool_modes.proofs.FileLemmas.{shown_earlier}
 use Rattle.pr_tool_share.specs.Lists.{part_answer, source_in, IsProgramRefusal}
 use Rattle.pr_tool_share.specs.Items.{Item, IsItemOf, AreItemsOf}
-use Rattle.pr_tool_share.proofs.ItemLemmas.{items_more, refused_at}
+use Rattle.pr_tool_share.proofs.ItemLemmas.{items_more, refused_at, part_shown}
 use Rattle.pr_tool_share.proofs.items.make_items.Goals as goal
 
 pub returns-in-Err-clause-refused : goal.returns-in-Err-clause-refused
@@ -27,6 +29,17 @@ returns-in-Err-clause-refused g c =
     let same : part_answer (0 + number) c.in-Err.answer ≡ c.part_answer.result = ap (λ (n : ℕ). part_answer n c.in-Err.answer) (omega (arith, c.loop-number-test.true, c.requires)) ∙ sym c.part_answer.ensures in
     inl (subst (λ (a : Answer). IsProgramRefusal told before now 0 entries a) same at)
 
+pub returns-in-Err-clause-shown : goal.returns-in-Err-clause-shown
+returns-in-Err-clause-shown g c =
+    let before = g.S.Shelf.faults c.args.shelf.now in
+    let mid = g.S.Shelf.faults c.loop-number.shelf in
+    let now = g.S.Shelf.faults c.make_item.new.shelf in
+    let shown = shown_earlier before mid now c.in-Err.answer c.loop-number.invariant.steady c.in-Err.ensures.shown in
+    subst (λ (a : Answer). ShowsFault before now a) (sym c.part_answer.ensures) (part_shown _ before now c.in-Err.answer shown)
+
+pub returns-then-is_err-clause-shown : goal.returns-then-is_err-clause-shown
+returns-then-is_err-clause-shown g c = inr (c.in-Ok.ensures.steady ∙ c.loop-number.invariant.steady)
+
 pub loop-number-preserved : goal.loop-number-preserved
 loop-number-preserved g c =
     let inv = c.loop-number.invariant in
@@ -42,6 +55,7 @@ loop-number-preserved g c =
     record {
       ready = subst (λ (xs : List Item). AreItemsOf told (take (number + 1) entries) xs) (sym pushed) (subst (λ (n : ℕ). AreItemsOf told (take n entries) (c.loop-number.items.items ++ c.in-Ok.item ∷ [])) one (items_more told entries c.loop-number.items.items number (entry_in entry) c.in-Ok.item inv.ready here ready));
       later = omega (arith, inv.later, c.make_item.ensures.later);
+      steady = c.in-Ok.ensures.steady ∙ inv.steady;
       same = c.make_item.ensures.same ∙ inv.same;
       others = λ q none. c.make_item.ensures.others q (none number (entry_in entry) here) ∙ inv.others q none;
     }

@@ -8,6 +8,7 @@ abbrev pub invariant-loop-number : goal.invariant-loop-number
 invariant-loop-number g l = record {
   ready : AreItemsOf (g.S.Shelf.told l.initial.shelf) (take l.number (map entry_in l.entries)) l.items.items;
   later : g.S.Shelf.faults l.initial.shelf ≤ g.S.Shelf.faults l.shelf;
+  steady : g.S.Shelf.faults l.shelf ≡ g.S.Shelf.faults l.initial.shelf;
   same : g.S.Shelf.told l.shelf ≡ g.S.Shelf.told l.initial.shelf;
   others : (q : List ℕ) → IsNoProgram (map entry_in l.entries) q → g.S.Shelf.reach l.shelf q ≡ g.S.Shelf.reach l.initial.shelf q;
 }

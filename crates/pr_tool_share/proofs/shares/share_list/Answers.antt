@@ -4,6 +4,7 @@ use Rattle.pr_share.specs.Items.{world, AreReady, names_of, IsNoneOf}
 use Rattle.pr_share_list.specs.List.{Entry, entry_in}
 use Rattle.pr_share_list.specs.declared.lines.Entry.{Entry as Named}
 use Rattle.pr_tool_answers.specs.declared.answers.Answer.{Answer}
+use Rattle.pr_tool_modes.proofs.FileLemmas.{shown_earlier}
 use Rattle.pr_tool_share.specs.Lists.{HasList, IsProgramRefusal, IsNoProgram}
 use Rattle.pr_tool_share.specs.Items.{Item, AreItemsOf}
 use Rattle.pr_tool_share.specs.Shares.{HaveTurned}
@@ -11,7 +12,7 @@ use Rattle.pr_tool_share.proofs.ItemLemmas.{program_earlier, length-items, are_r
 use Rattle.pr_tool_share.proofs.shares.share_list.Goals as goal
 
 pub returns-in-Err-clause-shared : goal.returns-in-Err-clause-shared
-returns-in-Err-clause-shared g c = inl (record { cause = inl c.in-Err.ensures.refused; unwritten = refl; unread = λ q other programs. c.load_list.ensures.others q other })
+returns-in-Err-clause-shared g c = inl (record { cause = inl c.in-Err.ensures.refused; unwritten = refl; unread = λ q other programs. c.load_list.ensures.others q other; shown = c.in-Err.ensures.shown })
 
 pub returns-in-Err-make_items-clause-shared : goal.returns-in-Err-make_items-clause-shared
 returns-in-Err-make_items-clause-shared g c =
@@ -24,6 +25,7 @@ returns-in-Err-make_items-clause-shared g c =
     let refused = subst (λ (xs : List Named). IsProgramRefusal (g.S.Shelf.told c.load_list.new.shelf) mid now 0 (map entry_in xs) a ⊎ (a ≡ Answer.Memory)) c.deref.ensures.value c.in-Err-make_items.ensures.refused in
     let unread : (q : List ℕ) → q ≢ c.args.sharing.now.list.now → ((es : List Entry) → HasList told c.args.sharing.now.list.now es → IsNoProgram es q) → g.S.Shelf.reach c.make_items.new.shelf q ≡ g.S.Shelf.reach c.args.shelf.now q =
     λ q other programs. c.make_items.ensures.others q (subst (λ (xs : List Named). IsNoProgram (map entry_in xs) q) (sym c.deref.ensures.value) (programs _ c.in-Ok.ensures.list)) ∙ c.load_list.ensures.others q other in
+    let shown = shown_earlier before mid now a c.in-Ok.ensures.steady c.in-Err-make_items.ensures.shown in
     elim refused [
       | inl is ↦ inl (record {
         cause = inr (inl (record {
@@ -33,8 +35,9 @@ returns-in-Err-make_items-clause-shared g c =
         }));
         unwritten = refl;
         unread = unread;
+        shown = shown;
       })
-      | inr memory ↦ inl (record { cause = inr (inr memory); unwritten = refl; unread = unread })
+      | inr memory ↦ inl (record { cause = inr (inr memory); unwritten = refl; unread = unread; shown = shown })
     ]
 
 pub take_turns-requires-clause-few : goal.take_turns-requires-clause-few
@@ -68,6 +71,7 @@ returns-clause-shared g c = inl (record {
   cause = inr (inr refl);
   unwritten = refl;
   unread = λ q other programs. c.make_items.ensures.others q (subst (λ (xs : List Named). IsNoProgram (map entry_in xs) q) (sym c.deref.ensures.value) (programs _ c.in-Ok.ensures.list)) ∙ c.load_list.ensures.others q other;
+  shown = inr (c.in-Ok-make_items.ensures.steady ∙ c.in-Ok.ensures.steady);
 })
 
 pub returns-clause-others : goal.returns-clause-others
@@ -93,14 +97,14 @@ returns-in-Ok-make_place-clause-shared g c =
     let stripes = c.args.sharing.now.stripes in
     let on = subst (λ (n : ℕ). HaveTurned n c.deref_mut.result.now items (world mid start old) (world (g.S.Shelf.told c.take_turns.new.shelf) now new) before after c.take_turns.result) c.in-Ok-make_place.ensures c.take_turns.ensures.turned in
     let later = subst (λ (t : Told). HaveTurned stripes c.deref_mut.result.now items (world mid start old) (world t now new) before after c.take_turns.result) (c.take_turns.ensures.told ∙ same) on in
-    let turned = subst (λ (t : Told). HaveTurned stripes c.deref_mut.result.now items (world t start old) (world told now new) before after c.take_turns.result) same later in
+    let same_told = subst (λ (t : Told). HaveTurned stripes c.deref_mut.result.now items (world t start old) (world told now new) before after c.take_turns.result) same later in
+    let first = g.S.Shelf.faults c.args.shelf.now in
+    let turned = subst (λ (n : ℕ). HaveTurned stripes c.deref_mut.result.now items (world told n old) (world told now new) before after c.take_turns.result) (c.in-Ok-make_items.ensures.steady ∙ c.in-Ok.ensures.steady) same_told in
     inr (record {
       entries = entries;
       has = c.in-Ok.ensures.list;
       firsts = firsts;
       ready = subst (λ (t : Told). AreItemsOf t entries firsts) c.load_list.ensures.same ready;
-      faults = start;
-      later = omega (arith, c.load_list.ensures.later, c.make_items.ensures.later);
       items = items;
-      turned = subst (λ (xs : List Item). HaveTurned stripes xs items (world told start old) (world told now new) before after c.take_turns.result) c.deref_mut.ensures.value turned;
+      turned = subst (λ (xs : List Item). HaveTurned stripes xs items (world told first old) (world told now new) before after c.take_turns.result) c.deref_mut.ensures.value turned;
     })
