@@ -1,4 +1,4 @@
-use Rattle.std.proofs.Common.{subst, refl}
+use Rattle.std.proofs.Common.{subst, refl, inl}
 use Rattle.pr_base.specs.declared.caps.Cap.{Cap}
 use Rattle.pr_edge.specs.Files.{Told}
 use Rattle.pr_run.specs.Setting.{view}
@@ -7,6 +7,10 @@ use Rattle.pr_tool_modes.specs.Files.{IsUnread}
 use Rattle.pr_tool_modes.specs.Evaluations.{HasLines}
 use Rattle.pr_tool_modes.proofs.EvalVerdicts.{file_end, put_end, evaluated}
 use Rattle.pr_tool_modes.proofs.evaluations.eval.Goals as goal
+
+-- the program is refused
+pub returns-in-Err-clause-ended : goal.returns-in-Err-clause-ended
+returns-in-Err-clause-ended g c = inl (record { cause = c.in-Err.ensures.refused; unwritten = refl; unread = c.load_program.ensures.others; shown = c.in-Err.ensures.shown })
 
 pub returns-clause-ended : goal.returns-clause-ended
 returns-clause-ended g c =

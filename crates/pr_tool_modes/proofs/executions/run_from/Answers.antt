@@ -1,4 +1,4 @@
-use Rattle.std.proofs.Common.{sym, subst, inr}
+use Rattle.std.proofs.Common.{refl, sym, subst, inl, inr}
 use Rattle.pr_run.specs.Setting.{view}
 use Rattle.pr_tool_answers.specs.declared.answers.Answer.{Answer}
 use Rattle.pr_tool_modes.specs.declared.benches.Bench.{Bench}
@@ -6,6 +6,16 @@ use Rattle.pr_tool_modes.specs.Calls.{call}
 use Rattle.pr_tool_modes.specs.Executions.{bench_in, IsRunOn}
 use Rattle.pr_tool_modes.specs.Jobs.{job_on}
 use Rattle.pr_tool_modes.proofs.executions.run_from.Goals as goal
+
+-- no run was begun
+pub returns-in-Err-clause-ended : goal.returns-in-Err-clause-ended
+returns-in-Err-clause-ended g c = λ source count. inl (record {
+  cause = c.in-Err.ensures.refused;
+  unwritten = c.in-Err.ensures.unwritten;
+  kept = refl;
+  unread = c.in-Err.ensures.unread;
+  shown = c.in-Err.ensures.shown;
+})
 
 pub returns-in-Ok-clause-ended : goal.returns-in-Ok-clause-ended
 returns-in-Ok-clause-ended g c = λ source count. (
