@@ -21,7 +21,7 @@ use Rattle.pr_lens_find.specs.declared.offences.By.{By}
 use Rattle.pr_lens_find.specs.declared.offences.By.TheVariants as by
 use Rattle.pr_lens_find.specs.Fronts.{Spot, IsSeen, IsCutFront}
 use Rattle.pr_lens_find.specs.Turns.{IsTurn}
-use Rattle.pr_lens_find.specs.Offences.{IsAmong, IsWrongWidth, HasNoWrong, IsAgain, Breaks, Keeps, BreaksNot, TurnsUpTo, TurnsNot, IsValue, IsFirstFrame, HasNoFrame, IsOfFrame, Again, WrongWidth, Initial, Constant, HasNoneOfFrame, NoName, NoWrong, NoInitial, IsOfItem, Value, Framed, HasNoneAt, Within, HasNoneOfItem, Unframed, AtFrame, IsItemOf, HasNoItem, IsOfTree, HasNoneOfTree, IsFoundIn, IsNowhere, Untold, IsTold, cut_by, is_again}
+use Rattle.pr_lens_find.specs.Offences.{IsFirstWrong, HasNoWrong, IsAgain, Breaks, Keeps, BreaksNot, TurnsUpTo, TurnsNot, IsValue, IsFirstFrame, HasNoFrame, IsOfConstants, IsOfFrame, Again, WrongWidth, Initial, Constant, HasNoneOfFrame, NoName, NoWrong, NoInitial, IsOfItem, Framed, Anywhere, HasNoneAt, Within, HasNoneOfItem, Unframed, AtFrame, IsItemOf, HasNoItem, IsOfTree, HasNoneOfTree, IsFoundIn, IsNowhere, Untold, IsTold, cut_by, is_again}
 
 no_items : (items : List Item) (n : ℕ) → n ≡ length items → n ≡ 0 → items ≡ []
 no_items [] n whole none = refl
@@ -33,17 +33,12 @@ pub item_popped : (text : List ℕ) (tokens : List Token) (spans : List Span) (n
 item_popped text tokens spans number program rest None n m read whole none is = inr (record { program = program; read = read; none = no_items program.items.items n whole none.0 })
 item_popped text tokens spans number program rest (Some item) n m read whole some is = record { program = program; read = read; before = rest; last = is }
 
--- a token that is numbered stands among them
-pub numbered_among : (tokens : List ℕ) (place : ℕ) (o : Option ℕ) → o ≡ slice_get tokens place → IfSome o (IsAmong tokens)
-numbered_among tokens place None is = tt
-numbered_among tokens place (Some token) is = record { place = place; there = sym is }
-
 -- the frame's own name
 pub first_again : (text : List ℕ) (tokens : List Token) (spans : List Span) (names : List ℕ) (o : Option ℕ) → o ≡ slice_get names 0
     → ((k : ℕ) → k < length names → is_again text tokens spans (slice_index names k) ≡ false) → MatchOption o (names ≡ []) (IsAgain text tokens spans names)
 first_again text tokens spans [] None is none = refl
 first_again text tokens spans (name ∷ names) None is none = absurd (cc)
-first_again text tokens spans names (Some token) is none = record { among = record { place = 0; there = sym is }; is = inr (record { first = sym is; none = none }) }
+first_again text tokens spans names (Some token) is none = record { place = 0; there = sym is; first = λ k less. absurd (omega (arith, less)); is = inr (record { first = sym is; none = none }) }
 
 -- the point of this number, from 1, is there
 point_there : (points : List ℕ) (count : ℕ) → 0 < count → count ≤ length points → None ≡ slice_get points (count - 1) → ⊥
@@ -98,40 +93,41 @@ module _ (spot : Spot) (rule : ℕ) where
   value_found frames values count None is up = absurd (point_there values count up.turns.some up.within is)
   value_found frames values count (Some token) is up = record { count = count; there = sym is; turns = up.turns }
 
-  pub value_of_item : (kept : ℕ) (values : List ℕ) (frames : List Entry) (o : Option ℕ) → MatchOption o (TurnsNot spot rule (by.Values kept) (length values)) (IsValue spot rule kept values)
-      → MatchOption o (TurnsNot spot rule (by.Values kept) (length values)) (IsOfItem spot rule values frames)
-  value_of_item kept values frames None is = is
-  value_of_item kept values frames (Some token) is = Value kept is
+  pub value_anywhere : (values : List ℕ) (frames : List Entry) → HasNoFrame spot rule (length frames) → (o : Option ℕ)
+      → MatchOption o (TurnsNot spot rule (by.Values 18446744073709551615) (length values)) (IsValue spot rule 18446744073709551615 values)
+      → MatchOption o (TurnsNot spot rule (by.Values 18446744073709551615) (length values)) (IsOfItem spot rule values frames)
+  value_anywhere values frames none None is = is
+  value_anywhere values frames none (Some token) is = Anywhere none is
 
-  pub constant_found : (number : ℕ) (entry : Entry) (count : ℕ) (o : Option ℕ) → o ≡ slice_get entry.fixeds (count - 1) → TurnsUpTo spot rule (by.Fixeds number) (length entry.fixeds) count
+  pub constant_found : (number : ℕ) (entry : Entry) (count : ℕ) (o : Option ℕ) → IsOfConstants rule → o ≡ slice_get entry.fixeds (count - 1) → TurnsUpTo spot rule (by.Fixeds number) (length entry.fixeds) count
       → MatchOption o (HasNoneOfFrame spot rule number entry) (IsOfFrame spot rule number entry)
-  constant_found number entry count None is up = absurd (point_there entry.fixeds count up.turns.some up.within is)
-  constant_found number entry count (Some token) is up = Constant count (sym is) up.turns
+  constant_found number entry count None of is up = absurd (point_there entry.fixeds count up.turns.some up.within is)
+  constant_found number entry count (Some token) of is up = Constant count of (sym is) up.turns
 
   pub name_found : (number : ℕ) (entry : Entry) (o : Option ℕ) → rule ≡ 1 → MatchOption o (entry.names ≡ []) (IsAgain spot.text spot.tokens spot.spans entry.names)
       → MatchOption o (HasNoneOfFrame spot rule number entry) (IsOfFrame spot rule number entry)
   name_found number entry None is told = NoName is told
   name_found number entry (Some token) is told = Again is told
 
-  pub width_found : (number : ℕ) (entry : Entry) (o : Option ℕ) → rule ≡ 8 → IfSome o (IsAmong entry.widths) → IfSome o (IsWrongWidth spot.tokens) → IfNone o (HasNoWrong spot.tokens entry.widths)
+  pub width_found : (number : ℕ) (entry : Entry) (o : Option ℕ) → rule ≡ 8 → IfSome o (IsFirstWrong spot.tokens entry.widths) → IfNone o (HasNoWrong spot.tokens entry.widths)
       → MatchOption o (HasNoneOfFrame spot rule number entry) (IsOfFrame spot rule number entry)
-  width_found number entry None is among wrong none = NoWrong is none
-  width_found number entry (Some token) is among wrong none = WrongWidth is among wrong
+  width_found number entry None is first none = NoWrong is none
+  width_found number entry (Some token) is first none = WrongWidth is first
 
   pub initial_found : (number : ℕ) (entry : Entry) (o : Option ℕ) → rule ≡ 9 → o ≡ slice_get entry.fixeds (length entry.fixeds - 1)
       → MatchOption o (HasNoneOfFrame spot rule number entry) (IsOfFrame spot rule number entry)
   initial_found number entry None is there = NoInitial is (last_there entry.fixeds None there)
-  initial_found number entry (Some token) is there = Initial is (record { place = length entry.fixeds - 1; there = sym there })
+  initial_found number entry (Some token) is there = Initial is (sym there)
 
   -- a token of a frame that the item has
   frame_entry : (frames : List Frame) (number : ℕ) (frame : Frame) → slice_get frames (number - 1) ≡ Some frame → slice_get (entries_of frames) (number - 1) ≡ Some (entry_of frame)
   frame_entry frames number frame there = slice_get-map entry_of frames (number - 1) ∙ ap (λ (o : Option Frame). option_map entry_of o) there
 
   pub framed : (values : List ℕ) (frames : List Frame) (number : ℕ) (frame : Frame) → slice_get frames (number - 1) ≡ Some frame → IsFirstFrame spot rule number
-      → (o : Option ℕ) → MatchOption o (HasNoneOfFrame spot rule number (entry_of frame)) (IsOfFrame spot rule number (entry_of frame))
+      → (1 < number → TurnsNot spot rule (by.Values (number - 1)) (length values)) → (o : Option ℕ) → MatchOption o (HasNoneOfFrame spot rule number (entry_of frame)) (IsOfFrame spot rule number (entry_of frame))
       → MatchOption o (HasNoneAt spot rule (entries_of frames) number) (IsOfItem spot rule values (entries_of frames))
-  framed values frames number frame there first None is = Within (entry_of frame) (frame_entry frames number frame there) is
-  framed values frames number frame there first (Some token) is = Framed number (entry_of frame) first (frame_entry frames number frame there) is
+  framed values frames number frame there first none None is = Within (entry_of frame) (frame_entry frames number frame there) is
+  framed values frames number frame there first none (Some token) is = Framed number (entry_of frame) first none (frame_entry frames number frame there) is
 
   pub none_framed : (values : List ℕ) (frames : List Entry) (number : ℕ) → IsFirstFrame spot rule number → (1 < number → TurnsNot spot rule (by.Values (number - 1)) (length values))
       → (o : Option ℕ) → MatchOption o (HasNoneAt spot rule frames number) (IsOfItem spot rule values frames) → MatchOption o (HasNoneOfItem spot rule values frames) (IsOfItem spot rule values frames)

@@ -18,16 +18,18 @@ use Rattle.pr_lens_source.specs.Names.{IsEarlierName}
 use Rattle.pr_lens_source.specs.Spans.{StandsIn}
 use Rattle.pr_lens_source.specs.Tokens.{kind_of, first_of, front_text}
 
--- it stands among these tokens
-pub record IsAmong (tokens : List ℕ) (token : ℕ) : Type 0 where
-  pub place : ℕ
-  pub there : slice_get tokens place ≡ Some token
-
 -- a width that is none: a number that is 0 or above 128
 pub record IsWrongWidth (tokens : List Token) (token : ℕ) : Type 0 where
   pub bits : ℕ
   pub number : kind_of tokens token ≡ Number bits
   pub wrong : (bits < 1) ⊎ (128 < bits)
+
+-- the first of these widths that is none
+pub record IsFirstWrong (tokens : List Token) (widths : List ℕ) (token : ℕ) : Type 0 where
+  pub place : ℕ
+  pub there : slice_get widths place ≡ Some token
+  pub wrong : IsWrongWidth tokens token
+  pub first : (k : ℕ) → k < place → IsWrongWidth tokens (slice_index widths k) → ⊥
 
 -- the same name stands before
 pub record StandsBefore (text : List ℕ) (tokens : List Token) (token : ℕ) : Type 0 where
@@ -48,9 +50,11 @@ pub record IsIntroduced (text : List ℕ) (tokens : List Token) (spans : List Sp
   pub again : is_again text tokens spans token ≡ true
   pub before : StandsBefore text tokens token
 
--- a name that is told to be introduced again: one that is introduced before, or else the frame's own
+-- a name that is told to be introduced again: the first that is introduced before, or else the frame's own
 pub record IsAgain (text : List ℕ) (tokens : List Token) (spans : List Span) (names : List ℕ) (token : ℕ) : Type 0 where
-  pub among : IsAmong names token
+  pub place : ℕ
+  pub there : slice_get names place ≡ Some token
+  pub first : (k : ℕ) → k < place → is_again text tokens spans (slice_index names k) ≡ false
   pub is : IsIntroduced text tokens spans token ⊎ IsFirstName text tokens spans names token
 
 -- none of these is a width that is none
@@ -105,32 +109,41 @@ pub record IsFirstFrame (spot : Spot) (rule number : ℕ) : Type 0 where
   pub breaks : Breaks spot rule (cut_by by.Frames number)
   pub keeps : 1 < number → Keeps spot rule (cut_by by.Frames (number - 1))
 
--- of the frame of this number: a name that stands twice, a width that is none, an initial value, or the point of a constant
--- expression behind which the rule is broken, and before which it is not
-pub data IsOfFrame (spot : Spot) (rule number : ℕ) (entry : Entry) (token : ℕ) : Type 0 where
-  Again : rule ≡ 1 → IsAgain spot.text spot.tokens spot.spans entry.names token → IsOfFrame spot rule number entry token
-  WrongWidth : rule ≡ 8 → IsAmong entry.widths token → IsWrongWidth spot.tokens token → IsOfFrame spot rule number entry token
-  Initial : rule ≡ 9 → IsAmong entry.fixeds token → IsOfFrame spot rule number entry token
-  Constant : (count : ℕ) → slice_get entry.fixeds (count - 1) ≡ Some token → Turns spot rule (by.Fixeds number) count → IsOfFrame spot rule number entry token
-
--- of an item: a point of its expressions, or a token of the first frame with which the rule is broken
-pub data IsOfItem (spot : Spot) (rule : ℕ) (values : List ℕ) (frames : List Entry) (token : ℕ) : Type 0 where
-  Value : (kept : ℕ) → IsValue spot rule kept values token → IsOfItem spot rule values frames token
-  Framed : (number : ℕ) (entry : Entry) → IsFirstFrame spot rule number → slice_get frames (number - 1) ≡ Some entry → IsOfFrame spot rule number entry token → IsOfItem spot rule values frames token
-
--- ---- where nothing is told
 -- neither with the first frame nor with this many is the rule broken, whatever the expressions are
 pub record HasNoFrame (spot : Spot) (rule most : ℕ) : Type 0 where
   pub one : BreaksNot spot rule (cut_by by.Frames 1)
   pub all : (most ≤ 1) ⊎ BreaksNot spot rule (cut_by by.Frames most)
 
+-- a rule that constant expressions can break, and neither names, widths nor an initial value alone
+pub record IsOfConstants (rule : ℕ) : Type 0 where
+  pub names : rule ≢ 1
+  pub widths : rule ≢ 8
+  pub initial : rule ≢ 9
+
+-- of the frame of this number, by what the rule is about: a name that stands twice; the first width that is none; the last point of
+-- its constant expressions, which is that of a whole initial value; or the one behind which the rule is broken, and before which it is not
+pub data IsOfFrame (spot : Spot) (rule number : ℕ) (entry : Entry) (token : ℕ) : Type 0 where
+  Again : rule ≡ 1 → IsAgain spot.text spot.tokens spot.spans entry.names token → IsOfFrame spot rule number entry token
+  WrongWidth : rule ≡ 8 → IsFirstWrong spot.tokens entry.widths token → IsOfFrame spot rule number entry token
+  Initial : rule ≡ 9 → slice_get entry.fixeds (length entry.fixeds - 1) ≡ Some token → IsOfFrame spot rule number entry token
+  Constant : (count : ℕ) → IsOfConstants rule → slice_get entry.fixeds (count - 1) ≡ Some token → Turns spot rule (by.Fixeds number) count → IsOfFrame spot rule number entry token
+
+-- of an item: a point of the expressions in the frames before the first with which the rule is broken, or else a token of that
+-- frame; where there is no such frame, a point of all its expressions
+pub data IsOfItem (spot : Spot) (rule : ℕ) (values : List ℕ) (frames : List Entry) (token : ℕ) : Type 0 where
+  Before : (number : ℕ) → IsFirstFrame spot rule number → 1 < number → IsValue spot rule (number - 1) values token → IsOfItem spot rule values frames token
+  Framed : (number : ℕ) (entry : Entry) → IsFirstFrame spot rule number → (1 < number → TurnsNot spot rule (by.Values (number - 1)) (length values)) → slice_get frames (number - 1) ≡ Some entry
+      → IsOfFrame spot rule number entry token → IsOfItem spot rule values frames token
+  Anywhere : HasNoFrame spot rule (length frames) → IsValue spot rule 18446744073709551615 values token → IsOfItem spot rule values frames token
+
+-- ---- where nothing is told
 -- nothing of the frame of this number: it has no name, no width that is none, no initial value, or no such point of a constant
 -- expression, by what the rule is about
 pub data HasNoneOfFrame (spot : Spot) (rule number : ℕ) (entry : Entry) : Type 0 where
   NoName : rule ≡ 1 → entry.names ≡ [] → HasNoneOfFrame spot rule number entry
   NoWrong : rule ≡ 8 → HasNoWrong spot.tokens entry.widths → HasNoneOfFrame spot rule number entry
   NoInitial : rule ≡ 9 → entry.fixeds ≡ [] → HasNoneOfFrame spot rule number entry
-  NoConstant : TurnsNot spot rule (by.Fixeds number) (length entry.fixeds) → HasNoneOfFrame spot rule number entry
+  NoConstant : IsOfConstants rule → TurnsNot spot rule (by.Fixeds number) (length entry.fixeds) → HasNoneOfFrame spot rule number entry
 
 -- there is no frame of this number, or nothing of it is told
 pub data HasNoneAt (spot : Spot) (rule : ℕ) (frames : List Entry) (number : ℕ) : Type 0 where

@@ -1,9 +1,9 @@
 //! Broken rules of scope.
 
-ghost use Rattle.std.specs.Prelude.{◌≡◌, ◌≤◌, ◌↔◌, [], length, IfNone, IfOk, IfSome, IsFalse, IsTrue, MatchOption};
+ghost use Rattle.std.specs.Prelude.{◌≡◌, ◌<◌, ◌≤◌, ◌-◌, ◌↔◌, [], length, IfNone, IfOk, IfSome, IsFalse, IsTrue, MatchOption};
 ghost use Rattle.pr_lens_find.specs.Fronts.{spot_of};
 ghost use Rattle.pr_lens_source.specs.Spans.{StandsIn};
-ghost use Rattle.pr_lens_find.specs.Offences.{IsAmong, IsWrongWidth, HasNoWrong, StandsBefore, IsAgain, Breaks, BreaksNot, TurnsUpTo, TurnsNot, IsValue, IsFirstFrame, HasNoFrame, IsOfFrame, HasNoneOfFrame, IsOfItem, HasNoneAt, HasNoneOfItem, IsOfTree, HasNoneOfTree, IsFoundIn, IsNowhere, IsTold, cut_by, is_again};
+ghost use Rattle.pr_lens_find.specs.Offences.{IsWrongWidth, IsFirstWrong, HasNoWrong, StandsBefore, IsAgain, Breaks, BreaksNot, TurnsUpTo, TurnsNot, IsValue, IsFirstFrame, HasNoFrame, IsOfConstants, IsOfFrame, HasNoneOfFrame, IsOfItem, HasNoneAt, HasNoneOfItem, IsOfTree, HasNoneOfTree, IsFoundIn, IsNowhere, IsTold, cut_by, is_again};
 ghost use Rattle.pr_lens_items.specs.Steps.{entry_of, entries_of};
 
 use crate::counts::{numbered, short};
@@ -147,10 +147,9 @@ fn is_wrong_width(source: &Source, token: u32) -> bool
     }
 }
 
-/// The width that is none.
+/// The first width that is none.
 fn wrong_width(source: &Source, widths: &[u32]) -> Option<usize>
-    ensures among { IfSome result (IsAmong widths.now) }
-    ensures wrong { IfSome result (IsWrongWidth source.now.tokens.now) }
+    ensures first { IfSome result (IsFirstWrong source.now.tokens.now widths.now) }
     ensures none { IfNone result (HasNoWrong source.now.tokens.now widths.now) }
 {
     for token in widths {
@@ -176,7 +175,7 @@ fn is_again(source: &Source, token: u32) -> bool
     }
 }
 
-/// The name that was introduced before, or else the first.
+/// The first name that was introduced before, or else the first of all.
 fn name_again(source: &Source, names: &[u32]) -> Option<usize>
     ensures { MatchOption result (names.now ≡ [])
         (IsAgain source.now.text.now source.now.tokens.now source.now.spans.now names.now) }
@@ -196,7 +195,8 @@ fn in_fixeds(
     frame: &Frame,
     number: usize,
 ) -> Result<Option<usize>, AllocError>
-    requires { length broken.now.part.source.text.now ≤ 1048576 }
+    requires short { length broken.now.part.source.text.now ≤ 1048576 }
+    requires rule { IsOfConstants broken.now.rule }
     ensures { let spot = spot_of broken.now.part in let entry = entry_of frame.now in IfOk result (λ found.
         MatchOption found (HasNoneOfFrame spot broken.now.rule number entry)
         (IsOfFrame spot broken.now.rule number entry)) }
@@ -255,7 +255,8 @@ fn in_values(
     }
 }
 
-/// The token in the frame of this number that breaks the rule, where the item has so many.
+/// The token in the frame of this number that breaks the rule, where the item has so many, and no expression in the
+/// frames before it breaks it earlier.
 fn in_numbered(
     alloc: Global,
     broken: &Broken,
@@ -264,6 +265,8 @@ fn in_numbered(
 ) -> Result<Option<usize>, AllocError>
     requires short { length broken.now.part.source.text.now ≤ 1048576 }
     requires first { IsFirstFrame (spot_of broken.now.part) broken.now.rule number }
+    requires earliest { 1 < number → TurnsNot (spot_of broken.now.part) broken.now.rule (By.Values (number - 1))
+        (length points.now.values.items) }
     ensures { let spot = spot_of broken.now.part in let frames = entries_of points.now.frames.items in
         IfOk result (λ found. MatchOption found (HasNoneAt spot broken.now.rule frames number)
         (IsOfItem spot broken.now.rule points.now.values.items frames)) }
@@ -306,13 +309,14 @@ fn among_frames(
     }
 }
 
-/// The token of an expression's point at which the rule is broken, in all frames.
+/// The token of an expression's point at which the rule is broken, in all frames, where no frame breaks it.
 fn in_all_frames(
     alloc: Global,
     broken: &Broken,
     points: &Points,
 ) -> Result<Option<usize>, AllocError>
-    requires { length broken.now.part.source.text.now ≤ 1048576 }
+    requires short { length broken.now.part.source.text.now ≤ 1048576 }
+    requires none { HasNoFrame (spot_of broken.now.part) broken.now.rule (length (entries_of points.now.frames.items)) }
     ensures { let spot = spot_of broken.now.part in let values = points.now.values.items in
         IfOk result (λ found. MatchOption found
         (TurnsNot spot broken.now.rule (By.Values 18446744073709551615) (length values))

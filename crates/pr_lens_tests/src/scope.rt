@@ -47,6 +47,13 @@ p:2:9: scope: rule 1 item 1
 ...a parameter, introduced at line 2 column 6.
 Give one of the two another name.
 ...
+$ pipelens why p
+input x:8;
+fn f(a, a, a) { return a; }
+output y = x;
+= 3
+p:2:9: scope: rule 1 item 1
+...
 ";
 
 #[test]
@@ -236,6 +243,13 @@ p:2:12: scope: rule 3 item 1
 ...no function of that name...
 $ pipelens why p
 input x:8;
+for i in 0..2 { let a[i] = f(x); let b[k] = x; }
+output y = x;
+= 3
+p:2:28: scope: rule 3 item 1
+...no function of that name...
+$ pipelens why p
+input x:8;
 fn f(a) { return f(a) + 1; }
 output y = f(x);
 = 3
@@ -326,6 +340,13 @@ p:1:9: scope: rule 8 item 0
 ...A width is at least 1 bit...
 $ pipelens why p
 input x:8;
+fn f(a:0, b:200) { return a; }
+output y = x;
+= 3
+p:2:8: scope: rule 8 item 1
+...A width is at least 1 bit...
+$ pipelens why p
+input x:8;
 output y = x + x{0..7};
 = 3
 p:2:17: scope: rule 8 item 1
@@ -364,6 +385,13 @@ $ pipelens why p
 input x:8;
 rec s:4 = 16 * (1 + 1) by s@1;
 output y = s;
+= 3
+p:2:14: scope: rule 9 item 1
+...does not fit the declared width...
+$ pipelens why p
+input x:8;
+rec s[1]:4 = 16 by s[1]@1;
+output y = s[1];
 = 3
 p:2:14: scope: rule 9 item 1
 ...does not fit the declared width...

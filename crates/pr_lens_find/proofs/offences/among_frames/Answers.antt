@@ -1,7 +1,7 @@
 use Rattle.std.proofs.Common.{arith}
 use Rattle.std.proofs.lemmas.Result.{IfOk-weaker}
 use Rattle.pr_lens_find.specs.Fronts.{spot_of}
-use Rattle.pr_lens_find.specs.Offences.{Value}
+use Rattle.pr_lens_find.specs.Offences.{Before}
 use Rattle.pr_lens_items.specs.Steps.{entries_of}
 use Rattle.pr_lens_find.proofs.OffenceLemmas.{none_framed}
 use Rattle.pr_lens_find.proofs.offences.among_frames.Goals as goal
@@ -19,4 +19,4 @@ returns-in-None c =
     IfOk-weaker c.in_numbered-in-None.result _ _ (λ o is. none_framed (spot_of broken.part) broken.rule points.values.items (entries_of points.frames.items) c.args.number c.requires.first (λ more. rw c.in-None.is at c.in_ok-in_values.ensures) o is) c.in_numbered-in-None.ensures
 
 pub returns-in-Some : goal.returns-in-Some
-returns-in-Some c = Value _ (rw c.in-Some.is at c.in_ok-in_values.ensures)
+returns-in-Some c = Before c.args.number c.requires.first (omega (arith, c.if-number-le1.false)) (rw c.in-Some.is at c.in_ok-in_values.ensures)

@@ -10,4 +10,4 @@ returns-in-Some c =
     let points = c.args.points.now in
     let look = c.in-Some.ensures.lookup in
     let there = looked_up c.deref.result.now points.frames.items _ c.in-Some.frame.now c.deref.ensures.value look.0 look.1 in
-    IfOk-weaker c.in_frame.result _ _ (λ o is. framed (spot_of broken.part) broken.rule points.values.items points.frames.items c.args.number c.in-Some.frame.now (rw c.saturating_sub.ensures at there) c.requires.first o is) c.in_frame.ensures
+    IfOk-weaker c.in_frame.result _ _ (λ o is. framed (spot_of broken.part) broken.rule points.values.items points.frames.items c.args.number c.in-Some.frame.now (rw c.saturating_sub.ensures at there) c.requires.first c.requires.earliest o is) c.in_frame.ensures

@@ -5,7 +5,9 @@ use Rattle.pr_lens_find.proofs.offences.name_again.Goals as goal
 
 pub returns-then-is_again : goal.returns-then-is_again
 returns-then-is_again c = record {
-  among = record { place = c.loop-token.token-index; there = slice_get-get_or c.args.names.now c.loop-token.token-index 0 c.loop-token-test.true };
+  place = c.loop-token.token-index;
+  there = slice_get-get_or c.args.names.now c.loop-token.token-index 0 c.loop-token-test.true;
+  first = λ k less. c.loop-token.invariant k less;
   is = inl (record { again = sym c.is_again.ensures.value ∙ c.if-is_again.true; before = c.is_again.ensures.before c.if-is_again.true });
 }
 
