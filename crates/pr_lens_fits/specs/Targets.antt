@@ -55,10 +55,11 @@ abbrev pub IsTarget : List ℕ → List Token → ℕ → List ℕ → Type 0
 IsTarget text tokens first target = HasTarget text tokens first target ⊎ HasNoTarget tokens first target
 
 -- ---- so many items, with an output behind them
--- its name is longer than each token of the whole, and its expression is the target of the last of them
+-- its name has one letter more than the longest token of the whole, and its expression is the target of the last of them
 pub record HasOutput (text : List ℕ) (tokens : List Token) (spans : List Span) (items : ℕ) (longer : List ℕ) : Type 0 where
   pub letters : ℕ
   pub new : All (IsShort letters) tokens
+  pub least : (n : ℕ) → All (IsShort n) tokens → letters ≤ n
   pub target : List ℕ
   pub is_target : IsTarget text tokens (first_of tokens spans (items - 1)) target
   pub some : 0 < length target

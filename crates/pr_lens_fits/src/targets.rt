@@ -1,6 +1,6 @@
 //! Texts that end earlier, with what their last item assigns as an output.
 
-ghost use Rattle.std.specs.Prelude.{◌≡◌, IfOk, All};
+ghost use Rattle.std.specs.Prelude.{◌≡◌, ◌≤◌, ℕ, IfOk, All};
 ghost use Rattle.pr_lens_source.specs.Tokens.{first_of};
 ghost use Rattle.pr_lens_fits.specs.Targets.{IsShort, IsTarget, IsTargetEnd, IsWithOutput, ends_target, has_target};
 
@@ -10,7 +10,8 @@ use std::alloc::{AllocError, Global};
 
 /// The bytes of the longest token of a text.
 fn longest_token(source: &Source) -> usize
-    ensures { All (IsShort result) source.now.tokens.now }
+    ensures all { All (IsShort result) source.now.tokens.now }
+    ensures least { (n : ℕ) → All (IsShort n) source.now.tokens.now → result ≤ n }
 {
     let mut longest = 0;
     for token in source.tokens {
@@ -65,8 +66,8 @@ fn target_of<'a>(source: &Source<'a>, item: usize) -> &'a [u8]
     }
 }
 
-/// The text of so many items, with what the last of them assigns as an output more, under a name that is longer than
-/// each token.
+/// The text of so many items, with what the last of them assigns as an output more, under a name that has one letter more
+/// than the longest token.
 pub fn with_output(alloc: Global, source: &Source, items: usize) -> Result<Vec<u8>, AllocError>
     ensures { let source = source.now in IfOk result (λ whole.
         IsWithOutput source.text.now source.tokens.now source.spans.now items whole.items) }
