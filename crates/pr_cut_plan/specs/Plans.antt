@@ -1,5 +1,5 @@
 -- What a plan says of equations with their widths.
-use Rattle.std.specs.Prelude.{◌≡◌, ◌<◌, ℕ, true, Some, List, length, vec_len, slice_index}
+use Rattle.std.specs.Prelude.{◌≡◌, ◌<◌, ℕ, true, false, Some, List, length, vec_len, slice_index}
 use Rattle.std.specs.List.{slice_get}
 use Rattle.pr_flat.specs.declared.equations.Operand.{Operand}
 use Rattle.pr_flat.specs.declared.equations.Op.{Op}
@@ -28,6 +28,10 @@ IsHoldCount equations i count = (e : EquationShape) → slice_get equations i �
 -- so many hold units has each recurrence
 abbrev pub AreHoldCounts : List EquationShape → List ℕ → Type 0
 AreHoldCounts equations counts = EachEquation equations (λ i e. is_rec e.op ≡ true → slice_index counts i ≡ hold_count equations i)
+
+-- no hold units has an equation that is no recurrence
+abbrev pub HaveNoHolds : List EquationShape → List ℕ → Type 0
+HaveNoHolds equations counts = EachEquation equations (λ i e. is_rec e.op ≡ false → slice_index counts i ≡ 0)
 
 -- so many units has equation i beside those of the inputs
 abbrev pub IsOwnCount : List EquationShape → List ℕ → ℕ → ℕ → Type 0

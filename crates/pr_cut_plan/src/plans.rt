@@ -9,7 +9,7 @@ ghost use Rattle.pr_cut_units.specs.Reached.{reached};
 ghost use Rattle.pr_cut_units.specs.Equations.{all_units, hold_unit, cut_whole};
 ghost use Rattle.pr_cut_units.specs.Flats.{flat_plan, flat_net};
 ghost use Rattle.pr_cut_units.specs.Nets.{limit_passed};
-ghost use Rattle.pr_cut_plan.specs.Plans.{AreHoldCounts, IsHoldCount, IsPlanOf};
+ghost use Rattle.pr_cut_plan.specs.Plans.{AreHoldCounts, HaveNoHolds, IsHoldCount, IsPlanOf};
 
 use crate::equations::{body_count, input_bytes, input_count, own_count};
 use crate::faults::CutFault;
@@ -26,7 +26,7 @@ pub struct Plan {
     pub reached: Vec<bool>,
     /// The number of a recurrence's first hold unit.
     pub hold_units: Vec<u32>,
-    /// How many hold units a recurrence has.
+    /// How many hold units a recurrence has; 0 for another equation.
     pub hold_counts: Vec<u32>,
 }
 
@@ -100,6 +100,7 @@ pub fn plan_of(
 ) -> Result<Plan, CutFault>
     requires { AreWidths (equations_of flat.now) widths.now }
     ensures plan { IfOk result (λ plan. IsPlanOf plan (equations_of flat.now) widths.now flat.now.outputs.items) }
+    ensures none { IfOk result (λ plan. HaveNoHolds (equations_of flat.now) plan.hold_counts.items) }
     ensures within { OnOk result (limit_passed columns (flat_net flat.now widths.now) ≡ None) }
     ensures units { OnOk result (length (cut_whole (flat_plan flat.now widths.now)).units ≤ 32768) }
     ensures limit { (cap : Cap) → result ≡ Err (CutFault.Limit cap) →

@@ -9,7 +9,7 @@ ghost use Rattle.pr_flat.specs.Shape.{EquationShape};
 ghost use Rattle.pr_flat.specs.Facts.{is_rec, reads_equation};
 ghost use Rattle.pr_cut_units.specs.Reached.{reached, past_read, greatest, hold_count};
 ghost use Rattle.pr_cut_plan.specs.Marks.{MarksMore, NoneReached, TellReached};
-ghost use Rattle.pr_cut_plan.specs.Plans.{AreHoldCounts, IsRecurrence};
+ghost use Rattle.pr_cut_plan.specs.Plans.{AreHoldCounts, HaveNoHolds, IsRecurrence};
 
 use pr_flat::{Flat, Op, Operand};
 use std::alloc::{AllocError, Global};
@@ -136,8 +136,10 @@ fn hold_count(alloc: Global, flat: &Flat, rec: u32, first: u32) -> Result<u32, A
 /// The number of hold units of an equation, which is 0 where it is no recurrence.
 fn hold_count_at(alloc: Global, flat: &Flat, i: usize) -> Result<u32, AllocError>
     requires { i < vec_len flat.now.equations }
-    ensures { (e : EquationShape) → slice_get (equations_of flat.now) i ≡ Some e → is_rec e.op ≡ true →
+    ensures some { (e : EquationShape) → slice_get (equations_of flat.now) i ≡ Some e → is_rec e.op ≡ true →
         IfOk result (λ count. count ≡ hold_count (equations_of flat.now) i) }
+    ensures none { (e : EquationShape) → slice_get (equations_of flat.now) i ≡ Some e → is_rec e.op ≡ false →
+        IfOk result (λ count. count ≡ 0) }
 {
     match flat.equations[i].op {
         Op::Rec { first, .. } => hold_count(alloc, flat, i as u32, first),
@@ -149,6 +151,7 @@ fn hold_count_at(alloc: Global, flat: &Flat, i: usize) -> Result<u32, AllocError
 pub fn hold_counts(alloc: Global, flat: &Flat) -> Result<Vec<u32>, AllocError>
     ensures count { IfOk result (λ counts. vec_len counts ≡ vec_len flat.now.equations) }
     ensures counts { IfOk result (λ counts. AreHoldCounts (equations_of flat.now) counts.items) }
+    ensures none { IfOk result (λ counts. HaveNoHolds (equations_of flat.now) counts.items) }
 {
     let mut counts = Vec::new(alloc);
     for i in 0..flat.equations.len() {

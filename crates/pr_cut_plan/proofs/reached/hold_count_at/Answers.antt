@@ -12,5 +12,5 @@ hold_count-requires c = record {
   op = c.in-Rec.is;
 }
 
-pub returns-in_default : goal.returns-in_default
-returns-in_default c = no_rec (shapes_of c.args.flat.now.equations.items) c.args.i (equation_shape c.index.result.now) (shape_at c.args.flat.now.equations.items c.args.i c.index.result.now (omega (arith, c.args.flat.now.equations.ok.0)) c.index.ensures) c.in_default.not-Rec
+pub returns-in_default-clause-some : goal.returns-in_default-clause-some
+returns-in_default-clause-some c = no_rec (shapes_of c.args.flat.now.equations.items) c.args.i (equation_shape c.index.result.now) (shape_at c.args.flat.now.equations.items c.args.i c.index.result.now (omega (arith, c.args.flat.now.equations.ok.0)) c.index.ensures) c.in_default.not-Rec
