@@ -83,6 +83,7 @@ fn chain_step(
         with_segments style units.old.items segment close (cell ∷ rest)) }
     ensures short { IfOk result (λ now. vec_len now.cells + now.room ≤ 5) }
     ensures err { OnErr result (units.new.items ≡ units.old.items) }
+    ensures kept { length units.old.items ≤ length units.new.items }
     ensures grows { OnOk result (length units.new.items ≤ length units.old.items + 1) }
 {
     let Open { mut cells, room } = segment;
@@ -114,6 +115,7 @@ fn append_chain(
     close: &[Cell],
 ) -> Result<(), AllocError>
     requires fits { length units.old.items + length cells.now + 1 < 2 ^ 32 }
+    ensures kept { length units.old.items ≤ length units.new.items }
     ensures grows { OnOk result (length units.new.items ≤ length units.old.items + length cells.now + 1) }
     ensures units { OnOk result (units.new.items ≡ with_chain style first units.old.items close.now cells.now) }
     ensures part { OnErr result
@@ -241,6 +243,7 @@ pub fn chain(
     cells: &[Cell],
 ) -> Result<Vec<Slice>, AllocError>
     requires fits { length units.old.items + length cells.now + 1 < 2 ^ 32 }
+    ensures kept { length units.old.items ≤ length units.new.items }
     ensures grows { OnOk result (length units.new.items ≤ length units.old.items + length cells.now + 1) }
     ensures units { OnOk result (units.new.items ≡ units_after units.old.items (chain style first cells.now)) }
     ensures part { OnErr result (IsPrefix units.new.items (units_after units.old.items (chain style first cells.now))) }

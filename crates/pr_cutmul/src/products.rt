@@ -92,6 +92,7 @@ fn product_row(
 ) -> Result<Vec<Slice>, AllocError>
     requires below { j < e }
     requires fits { length units.old.items + 40 < 2 ^ 32 }
+    ensures kept { length units.old.items ≤ length units.new.items }
     ensures grows { OnOk result (length units.new.items ≤ length units.old.items + 40) }
     ensures units { OnOk result (units.new.items ≡
         units_after units.old.items (product_row_of factors.now e j before.now)) }
@@ -113,6 +114,7 @@ pub fn product(
     e: u8,
 ) -> Result<Vec<Slice>, AllocError>
     requires fits { length units.old.items + 40 * 256 < 2 ^ 32 }
+    ensures kept { length units.old.items ≤ length units.new.items }
     ensures grows { OnOk result (length units.new.items ≤ length units.old.items + 40 * 256) }
     ensures units { OnOk result (units.new.items ≡ units_after units.old.items (product_of factors.now e)) }
     ensures part { OnErr result (IsPrefix units.new.items (units_after units.old.items (product_of factors.now e))) }

@@ -53,8 +53,8 @@ fn rows_of(bits: u8, wa: u8, wb: u8) -> usize
 ///
 /// # Errors
 ///
-/// `Limit` where the net would have too many units, which leaves it as it was; `Memory` where memory is wanting, which leaves the first
-/// of the new units.
+/// `Limit` where the net would have too many units, which leaves it as it was; `Memory` where memory is wanting, which leaves the
+/// units that were there, and behind them the first of the new ones.
 #[tactic(auto, using(pr_cut_cells::proofs::PrefixLemmas::prefix_of))]
 pub fn mul_rows(
     alloc: Global,
@@ -79,6 +79,7 @@ pub fn mul_rows(
         result ≡ Err (RowFault.Limit Cap.Units) }
     ensures limit { (cap : Cap) → result ≡ Err (RowFault.Limit cap) → (cap ≡ Cap.Units) ×
         AreTooMany net.old.units.items (product bits a.now wa b.now wb) × (net.new.units.items ≡ net.old.units.items) }
+    ensures kept { length net.old.units.items ≤ length net.new.units.items }
     ensures part { OnErr result (IsPrefix net.new.units.items
         (units_after net.old.units.items (product bits a.now wa b.now wb))) }
     ensures same { HasSame net.old net.new }
@@ -95,8 +96,8 @@ pub fn mul_rows(
 ///
 /// # Errors
 ///
-/// `Limit` where the net would have too many units, which leaves it as it was; `Memory` where memory is wanting, which leaves the first
-/// of the new units.
+/// `Limit` where the net would have too many units, which leaves it as it was; `Memory` where memory is wanting, which leaves the
+/// units that were there, and behind them the first of the new ones.
 #[tactic(auto, using(pr_cut_cells::proofs::PrefixLemmas::prefix_of))]
 pub fn shift_rows(
     alloc: Global,
@@ -121,6 +122,7 @@ pub fn shift_rows(
     ensures limit { (cap : Cap) → result ≡ Err (RowFault.Limit cap) → (cap ≡ Cap.Units) ×
         AreTooMany net.old.units.items (shifted_by left wa by.now wby a.now) × (net.new.units.items ≡
         net.old.units.items) }
+    ensures kept { length net.old.units.items ≤ length net.new.units.items }
     ensures part { OnErr result (IsPrefix net.new.units.items
         (units_after net.old.units.items (shifted_by left wa by.now wby a.now))) }
     ensures same { HasSame net.old net.new }

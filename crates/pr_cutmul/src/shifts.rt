@@ -78,6 +78,7 @@ fn shift_row(
     before: &[Slice],
 ) -> Result<Vec<Slice>, AllocError>
     requires fits { length units.old.items < 2 ^ 32 }
+    ensures kept { length units.old.items ≤ length units.new.items }
     ensures grows { OnOk result (length units.new.items ≤ length units.old.items + 1) }
     ensures units { OnOk result (units.new.items ≡ units_after units.old.items (shift_row_of shift.now j before.now)) }
     ensures part { OnErr result
@@ -96,6 +97,7 @@ pub fn shifted_by(
     x: &[Slice],
 ) -> Result<Vec<Slice>, AllocError>
     requires fits { length units.old.items + shift.now.bits < 2 ^ 32 }
+    ensures kept { length units.old.items ≤ length units.new.items }
     ensures grows { OnOk result (length units.new.items ≤ length units.old.items + shift.now.bits) }
     ensures units { OnOk result (units.new.items ≡ units_after units.old.items (shift_of shift.now x.now)) }
     ensures part { OnErr result (IsPrefix units.new.items (units_after units.old.items (shift_of shift.now x.now))) }

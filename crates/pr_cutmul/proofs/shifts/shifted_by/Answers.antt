@@ -16,6 +16,7 @@ loop-j-preserved c =
     let new : c.shift_row.new.units.items ≡ l.units.items ++ (step l.j l.before.items (length l.units.items)).units = e.units ∙ ap (λ (x : List Slice). l.units.items ++ (step l.j x (length l.units.items)).units) c.deref.ensures.value in
     let now : c.in_ok-before-2.before.items ≡ (step l.j l.before.items (length l.units.items)).slices = e.slices ∙ ap (λ (x : List Slice). (step l.j x (length l.units.items)).slices) c.deref.ensures.value in
     record {
+      kept = omega (arith, e.kept, l.invariant.kept);
       grows = omega (arith, e.grows, l.invariant.grows);
       units = turn_units step l.j (c.args.shift.now.bits - l.j) n l.before.items c.in_ok-before-2.before.items l.units.items c.shift_row.new.units.items _ (omega (arith, c.loop-j-test.true)) new now l.invariant.units;
       slices = turn_slices step l.j (c.args.shift.now.bits - l.j) n l.before.items c.in_ok-before-2.before.items _ l.units.items c.shift_row.new.units.items (omega (arith, c.loop-j-test.true)) new now l.invariant.slices;
