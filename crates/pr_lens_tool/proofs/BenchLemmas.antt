@@ -1,5 +1,5 @@
 -- Benches that are made for an order, or not.
-use Rattle.std.proofs.Common.{◌≡◌, ◌≤◌, ℕ, List, length, Some, subst}
+use Rattle.std.proofs.Common.{◌≡◌, ◌≤◌, ℕ, Bool, List, length, subst}
 use Rattle.pr_base.specs.Fabrics.{columns, registers}
 use Rattle.pr_base.specs.Limits.{most_program_bytes}
 use Rattle.pr_edge.specs.Files.{Told}
@@ -20,13 +20,13 @@ use Rattle.pr_lens_tool.specs.declared.outcomes.Outcome.{Outcome}
 use Rattle.pr_lens_tool.specs.declared.outcomes.Outcome.TheVariants.{LongBench, Streamed}
 use Rattle.pr_lens_tool.specs.Benches.{HasBenchOf, IsNoBenchOf, IsPlan, IsPlanned, IsUntried}
 use Rattle.pr_lens_tool.specs.Modules.{IsCompilation}
-use Rattle.pr_lens_tool.specs.Orders.{Asked}
+use Rattle.pr_lens_tool.specs.Asked.{AskedTarget}
 
 pub trial_fits : (text : List ℕ) (t : Trial) → IsPassed text t.front → IsFit t
 trial_fits text t passed = record { flat = passed.flat; widths = passed.widths.are }
 
-pub planned_is : (N P : ℕ) (order : Asked) (text : List ℕ) (program : Program) (conf : Shape) (plan : Plan) → IsCompilation N P order.narrowed text program conf → IsPlan order.name order.seed program conf plan → IsPlanned N P order text program plan
-planned_is N P order text program conf plan compiled is = record { conf = conf; compiled = compiled; is = is }
+pub planned_is : (N P : ℕ) (narrowed : Bool) (name : List ℕ) (seed : ℕ) (text : List ℕ) (program : Program) (conf : Shape) (plan : Plan) → IsCompilation N P narrowed text program conf → IsPlan name seed program conf plan → IsPlanned N P narrowed name seed text program plan
+planned_is N P narrowed name seed text program conf plan compiled is = record { conf = conf; compiled = compiled; is = is }
 
 -- a later fault of the second file is one of the call
 unbenched_earlier : (told : Told) (name : List ℕ) (program : Program) (plan : Plan) (a b now : ℕ) (s : NoBench) → a ≤ b → IsUnbenched told name program plan b now s → IsUnbenched told name program plan a now s
@@ -37,9 +37,9 @@ unbenched_earlier told name program plan a b now (Ended Answer.ReadFault) le is 
 unbenched_earlier told name program plan a b now (Ended Answer.Memory) le is = is
 unbenched_earlier told name program plan a b now (Ended answer) le is = absurd is
 
-module _ (told told' : Told) (order : Asked) (samples : Text) (text : List ℕ) (t : Trial) (file : IsText told order.file text) (short : length text ≤ most_program_bytes)
-    (planned : IsPlanned (columns order.fabric) (registers order.fabric) order text t.front.scoped.program t.plan) (second : order.second ≡ Some samples) (same : told' ≡ told) where
-  has_bench : (Holds : List ℕ → Program → Plan → Type 0) → Holds samples t.front.scoped.program t.plan → HasBenchOf told order Holds
+module _ (told told' : Told) (target : AskedTarget) (samples name : Text) (seed : ℕ) (text : List ℕ) (t : Trial) (file : IsText told target.file text) (short : length text ≤ most_program_bytes)
+    (planned : IsPlanned (columns target.fabric) (registers target.fabric) target.narrowed name seed text t.front.scoped.program t.plan) (same : told' ≡ told) where
+  has_bench : (Holds : Program → Plan → Type 0) → Holds t.front.scoped.program t.plan → HasBenchOf told target name seed Holds
   has_bench Holds holds = record {
     text = text;
     file = file;
@@ -47,19 +47,17 @@ module _ (told told' : Told) (order : Asked) (samples : Text) (text : List ℕ) 
     program = t.front.scoped.program;
     plan = t.plan;
     planned = planned;
-    samples = samples;
-    second = second;
     holds = holds;
   }
 
-  pub bench_made : (Holds : Told → List ℕ → Program → Plan → Type 0) → Holds told' samples t.front.scoped.program t.plan → HasBenchOf told order (Holds told)
-  bench_made Holds holds = has_bench (Holds told) (subst (λ (x : Told). Holds x samples t.front.scoped.program t.plan) same holds)
+  pub bench_made : (Holds : Told → List ℕ → Program → Plan → Type 0) → Holds told' samples t.front.scoped.program t.plan → HasBenchOf told target name seed (Holds told samples)
+  bench_made Holds holds = has_bench (Holds told samples) (subst (λ (x : Told). Holds x samples t.front.scoped.program t.plan) same holds)
 
-  pub bench_unmade : (a b now : ℕ) (outcome : Outcome) → a ≤ b → IsUntried (IsUnbenched told' samples t.front.scoped.program t.plan b now) outcome → IsNoBenchOf told order a now outcome
+  pub bench_unmade : (a b now : ℕ) (outcome : Outcome) → a ≤ b → IsUntried (IsUnbenched told' samples t.front.scoped.program t.plan b now) outcome → IsNoBenchOf told target samples name seed a now outcome
   bench_unmade a b now (Streamed answer) le is =
-      has_bench (λ name program plan. IsUnbenched told name program plan a now (Ended answer))
+      has_bench (λ program plan. IsUnbenched told samples program plan a now (Ended answer))
       (unbenched_earlier told samples t.front.scoped.program t.plan a b now (Ended answer) le (subst (λ (x : Told). IsUnbenched x samples t.front.scoped.program t.plan b now (Ended answer)) same is))
   bench_unmade a b now LongBench le is =
-      has_bench (λ name program plan. IsUnbenched told name program plan a now Long)
+      has_bench (λ program plan. IsUnbenched told samples program plan a now Long)
       (unbenched_earlier told samples t.front.scoped.program t.plan a b now Long le (subst (λ (x : Told). IsUnbenched x samples t.front.scoped.program t.plan b now Long) same is))
   bench_unmade a b now outcome le is = absurd is

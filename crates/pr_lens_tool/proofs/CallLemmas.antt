@@ -5,7 +5,7 @@ use Rattle.pr_tool_answers.specs.declared.answers.Answer.{Answer}
 use Rattle.pr_lens_signals.specs.Calls.{Call}
 use Rattle.pr_lens_tool.specs.declared.outcomes.Outcome.{Outcome}
 use Rattle.pr_lens_tool.specs.declared.outcomes.Outcome.TheVariants.{Plain, Usage}
-use Rattle.pr_lens_tool.specs.Orders.{Asked}
+use Rattle.pr_lens_tool.specs.Asked.{Asked}
 use Rattle.pr_lens_tool.specs.declared.outcomes.Reply.{Reply}
 use Rattle.pr_lens_tool.specs.Replies.{HasLine, line_for}
 use Rattle.pr_lens_tool.specs.Calls.{IsCalled, IsFollowed, EndsWith, Helps}

@@ -1,5 +1,5 @@
 -- What the parser of the command line answers, as what the words ask for.
-use Rattle.std.proofs.Common.{◌≡◌, ◌∙◌, true, List, [], ◌∷◌, codes, map, None, refl, sym, ap, subst, inl, inr, String, Global, string_bytes}
+use Rattle.std.proofs.Common.{◌≡◌, ◌∙◌, true, List, [], ◌∷◌, map, None, refl, sym, ap, subst, inl, inr, String, Global, string_bytes}
 use Rattle.clap.specs.Walk.{rows_of}
 use Rattle.clap.specs.Simple.{App, HasMatchesOf, is_simple, matches_of}
 use Rattle.clap.specs.Kinds.{HasKind, Kinds}
@@ -48,6 +48,4 @@ asked-taken a words m is free matches =
     let f : Found = found_of m in
     ap (λ (ks : Kinds). asked_without ks (asked_rows (matches_of app texts))) none
     ∙ ap asked_rows (sym same)
-    ∙ sym (λ i. asked_from
-    (first_value-rows f (codes "task") i) (first_value-rows f (codes "file") i) (first_value-rows f (codes "second") i) (first_value-rows f (codes "fabric") i) (first_value-rows f (codes "narrow") i)
-    (first_value-rows f (codes "samples") i) (first_value-rows f (codes "json") i) (first_value-rows f (codes "csv") i) (first_value-rows f (codes "no-warnings") i) (first_value-rows f (codes "name") i) (first_value-rows f (codes "signed") i) (first_value-rows f (codes "seed") i) (first_value-rows f (codes "from") i) (first_value-rows f (codes "to") i))
+    ∙ sym (λ i. asked_from (λ name. first_value-rows f name i))

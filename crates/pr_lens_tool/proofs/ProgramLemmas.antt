@@ -8,31 +8,30 @@ use Rattle.pr_lens_cost.specs.declared.amounts.Cost.{Cost}
 use Rattle.pr_lens_cost.specs.declared.tables.Savings.{Savings}
 use Rattle.pr_lens_cost.specs.Costs.{IsCost}
 use Rattle.pr_lens_cost.specs.Texts.{IsCostText}
-use Rattle.pr_lens_tool.specs.Orders.{Asked}
+use Rattle.pr_lens_tool.specs.Asked.{AskedTarget}
 use Rattle.pr_lens_show.specs.declared.findings.Finding.{Finding}
 use Rattle.pr_lens_show.specs.Findings.{IsPut}
 use Rattle.pr_tool.specs.Notes.{note_of}
 use Rattle.pr_lens_tool.specs.Programs.{AreSavings, IsCosted, IsExplanation, IsFinding, IsWhy, bounds_for}
 
-pub explanation_told : (order : Asked) (text : List ℕ) (e : Explanation) (answer : Answer) (f : Finding) (old written : List ℕ) → old ≡ [] → IsFinding e (note_of (bounds_for order.fabric) answer) f
-    → IsPut order.json order.file text f old written → IsExplanation order text e answer written
-explanation_told order text e answer f old written none is put = record {
+pub explanation_told : (target : AskedTarget) (json : Bool) (text : List ℕ) (e : Explanation) (answer : Answer) (f : Finding) (old written : List ℕ) → old ≡ [] → IsFinding e (note_of (bounds_for target.fabric) answer) f
+    → IsPut json target.file text f old written → IsExplanation target json text e answer written
+explanation_told target json text e answer f old written none is put = record {
   finding = f;
   is = is;
-  put = subst (λ (b : List ℕ). IsPut order.json order.file text f b written) none put;
+  put = subst (λ (b : List ℕ). IsPut json target.file text f b written) none put;
 }
 
-module _ (N P : ℕ) (order : Asked) (text written : List ℕ) where
-  pub why_told : (e : Explanation) (answer : Answer) → IsExplained N P order.narrowed text e → answer ≡ compile_answer e.fault
-      → IsExplanation order text e answer written → IsWhy N P order text answer written
-  why_told e answer is answers told = record { explanation = e; is = is; answers = answers; told = told }
+pub why_told : (N P : ℕ) (target : AskedTarget) (text written : List ℕ) (json : Bool) (e : Explanation) (answer : Answer) → IsExplained N P target.narrowed text e → answer ≡ compile_answer e.fault
+    → IsExplanation target json text e answer written → IsWhy N P target json text answer written
+why_told N P target text written json e answer is answers told = record { explanation = e; is = is; answers = answers; told = told }
 
-  pub cost_told : (cost : Cost) (savings : Option Savings) (other : Bool) (samples : ℕ) → IsCost N P order.narrowed text cost → other ≡ not order.narrowed
-      → AreSavings N P other text savings → samples ≡ order.samples → IsCostText cost savings N samples written → IsCosted N P order text written
-  cost_told cost savings other samples is way saved count told = record {
-    cost = cost;
-    is = is;
-    savings = savings;
-    saved = subst (λ (b : Bool). AreSavings N P b text savings) way saved;
-    told = subst (λ (n : ℕ). IsCostText cost savings N n written) count told;
-  }
+pub cost_told : (N P : ℕ) (narrowed : Bool) (samples : ℕ) (text written : List ℕ) (cost : Cost) (savings : Option Savings) (other : Bool) (count : ℕ) → IsCost N P narrowed text cost → other ≡ not narrowed
+    → AreSavings N P other text savings → count ≡ samples → IsCostText cost savings N count written → IsCosted N P narrowed samples text written
+cost_told N P narrowed samples text written cost savings other count is way saved same told = record {
+  cost = cost;
+  is = is;
+  savings = savings;
+  saved = subst (λ (b : Bool). AreSavings N P b text savings) way saved;
+  told = subst (λ (n : ℕ). IsCostText cost savings N n written) same told;
+}

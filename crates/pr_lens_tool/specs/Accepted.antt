@@ -1,7 +1,6 @@
 -- What is written of accepted programs.
 use Rattle.std.specs.Prelude.{◌≡◌, ℕ, Bool, true, false, List, [], codes, if◌then◌else◌}
 use Rattle.pr_lens_warn.specs.Findings.{WarnsOf}
-use Rattle.pr_lens_tool.specs.Orders.{Asked}
 
 -- nothing as JSON
 abbrev pub accepted_text : Bool → List ℕ
@@ -12,5 +11,5 @@ abbrev pub WarnsWhere : Bool → Bool → List ℕ → List ℕ → List ℕ →
 WarnsWhere true json name text old new = WarnsOf json name text old new
 WarnsWhere false json name text old new = new ≡ old
 
-abbrev pub TellsAccepted : Asked → List ℕ → List ℕ → Type 0
-TellsAccepted order text written = WarnsWhere order.warnings order.json order.file text (accepted_text order.json) written
+abbrev pub TellsAccepted : (json warnings : Bool) → (name text written : List ℕ) → Type 0
+TellsAccepted json warnings name text written = WarnsWhere warnings json name text (accepted_text json) written

@@ -1,12 +1,11 @@
 -- The bench for the module of a program on the samples of a second file.
-use Rattle.std.specs.Prelude.{◌≡◌, ◌≤◌, ℕ, List, length, Some, None}
+use Rattle.std.specs.Prelude.{◌≡◌, ◌≤◌, ℕ, Bool, List, length}
 use Rattle.pr_base.specs.Fabrics.{columns, registers}
 use Rattle.pr_base.specs.Limits.{most_program_bytes}
 use Rattle.pr_edge.specs.Files.{Told}
 use Rattle.pr_lang.specs.declared.trees.Program.{Program}
 use Rattle.pr_conf.specs.Shape.{Shape}
 use Rattle.pr_conf.specs.Through.{output_widths}
-use Rattle.pr_tool_answers.specs.declared.answers.Answer.{Answer}
 use Rattle.pr_tool_words.specs.Lawful.{Text}
 use Rattle.pr_tool_modes.specs.Files.{IsText}
 use Rattle.pr_lens_rtl_text.specs.declared.names.Side.{Side}
@@ -17,9 +16,9 @@ use Rattle.pr_lens_bench.specs.declared.trials.NoBench.{NoBench}
 use Rattle.pr_lens_bench.specs.declared.trials.NoBench.TheVariants.{Long, Ended}
 use Rattle.pr_lens_bench.specs.Benches.{IsBench, IsUnbenched}
 use Rattle.pr_lens_tool.specs.declared.outcomes.Outcome.{Outcome}
-use Rattle.pr_lens_tool.specs.declared.outcomes.Outcome.TheVariants.{Plain, Streamed, Usage, LongBench}
+use Rattle.pr_lens_tool.specs.declared.outcomes.Outcome.TheVariants.{Plain, Streamed, LongBench}
 use Rattle.pr_lens_tool.specs.Modules.{IsCompilation}
-use Rattle.pr_lens_tool.specs.Orders.{Asked}
+use Rattle.pr_lens_tool.specs.Asked.{AskedTarget}
 use Rattle.pr_lens_tool.specs.Programs.{IsUntold}
 
 -- the module that `rtl` writes of a program and its configuration: its name and its ports
@@ -30,34 +29,31 @@ pub record IsPlan (name : List ℕ) (seed : ℕ) (program : Program) (conf : Sha
   pub seed_is : plan.seed ≡ seed
 
 -- no point refuses a text, and this is the plan for its module
-pub record IsPlanned (N P : ℕ) (order : Asked) (text : List ℕ) (program : Program) (plan : Plan) : Type 0 where
+pub record IsPlanned (N P : ℕ) (narrowed : Bool) (name : List ℕ) (seed : ℕ) (text : List ℕ) (program : Program) (plan : Plan) : Type 0 where
   pub conf : Shape
-  pub compiled : IsCompilation N P order.narrowed text program conf
-  pub is : IsPlan order.name order.seed program conf plan
+  pub compiled : IsCompilation N P narrowed text program conf
+  pub is : IsPlan name seed program conf plan
 
--- the program of a file is planned so, and this is so of it and of the samples of the second file
-pub record HasBenchOf (told : Told) (order : Asked) (Holds : List ℕ → Program → Plan → Type 0) : Type 0 where
+-- the program of a file is planned so, and this is so of it
+pub record HasBenchOf (told : Told) (target : AskedTarget) (name : Text) (seed : ℕ) (Holds : Program → Plan → Type 0) : Type 0 where
   pub text : List ℕ
-  pub file : IsText told order.file text
+  pub file : IsText told target.file text
   pub short : length text ≤ most_program_bytes
   pub program : Program
   pub plan : Plan
-  pub planned : IsPlanned (columns order.fabric) (registers order.fabric) order text program plan
-  pub samples : Text
-  pub second : order.second ≡ Some samples
-  pub holds : Holds samples program plan
+  pub planned : IsPlanned (columns target.fabric) (registers target.fabric) target.narrowed name seed text program plan
+  pub holds : Holds program plan
 
 -- a bench is written
-abbrev pub IsBenchOf : Told → Asked → List ℕ → Type 0
-IsBenchOf told order written = HasBenchOf told order (λ samples program plan. IsBench told samples program plan written)
+abbrev pub IsBenchOf : Told → AskedTarget → (samples name : Text) → ℕ → List ℕ → Type 0
+IsBenchOf told target samples name seed written = HasBenchOf told target name seed (λ program plan. IsBench told samples program plan written)
 
 -- why none is: the program is refused, the samples end otherwise, or the bench has too many bytes
-abbrev pub IsNoBenchOf : Told → Asked → ℕ → ℕ → Outcome → Type 0
-IsNoBenchOf told order before now (Plain answer) = IsUntold told order before now answer
-IsNoBenchOf told order before now (Streamed answer) = HasBenchOf told order (λ samples program plan. IsUnbenched told samples program plan before now (Ended answer))
-IsNoBenchOf told order before now LongBench = HasBenchOf told order (λ samples program plan. IsUnbenched told samples program plan before now Long)
-IsNoBenchOf told order before now Usage = order.second ≡ None
-IsNoBenchOf told order before now outcome = ⊥
+abbrev pub IsNoBenchOf : Told → AskedTarget → (samples name : Text) → ℕ → ℕ → ℕ → Outcome → Type 0
+IsNoBenchOf told target samples name seed before now (Plain answer) = IsUntold told target before now answer
+IsNoBenchOf told target samples name seed before now (Streamed answer) = HasBenchOf told target name seed (λ program plan. IsUnbenched told samples program plan before now (Ended answer))
+IsNoBenchOf told target samples name seed before now LongBench = HasBenchOf told target name seed (λ program plan. IsUnbenched told samples program plan before now Long)
+IsNoBenchOf told target samples name seed before now outcome = ⊥
 
 -- the samples or the length are why
 abbrev pub IsUntried : (NoBench → Type 0) → Outcome → Type 0

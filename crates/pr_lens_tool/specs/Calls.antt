@@ -3,62 +3,51 @@ use Rattle.std.specs.Prelude.{◌≡◌, ◌⊎◌, ℕ, List, Option, Some, Non
 use Rattle.pr_edge.specs.Files.{Told}
 use Rattle.pr_tool_answers.specs.declared.answers.Answer.{Answer}
 use Rattle.pr_lens_signals.specs.Calls.{Call}
-use Rattle.pr_lens_tool.specs.declared.orders.Task.{Task}
-use Rattle.pr_lens_tool.specs.declared.orders.Task.TheVariants.{Program, Log, Signals, Bench}
 use Rattle.pr_lens_tool.specs.declared.outcomes.Outcome.{Outcome}
 use Rattle.pr_lens_tool.specs.declared.outcomes.Outcome.TheVariants.{Plain, Usage}
-use Rattle.pr_lens_tool.specs.Orders.{Asked}
+use Rattle.pr_lens_tool.specs.Asked.{Asked, AskedProduct, AskedTarget, AskedTask, Bench, OfLog, OfProgram, Signals, Whole}
 use Rattle.pr_lens_tool.specs.Outcomes.{IsWritten, help_text}
 use Rattle.pr_lens_tool.specs.Programs.{IsToldOf, IsUntold}
 use Rattle.pr_lens_tool.specs.Logs.{IsDrawing, IsUndrawn}
 use Rattle.pr_lens_tool.specs.Streams.{TellsStreams}
 use Rattle.pr_lens_tool.specs.Benches.{IsBenchOf, IsNoBenchOf}
 
--- ---- what is made for an order
-abbrev pub IsMadeFor : Task → Told → Asked → Outcome → List ℕ → Type 0
-IsMadeFor (Program question) told order outcome written = IsToldOf question told order outcome written
-IsMadeFor Signals told order outcome written = ⊥
-IsMadeFor Bench told order outcome written = (outcome ≡ Plain Answer.Ok) × IsBenchOf told order written
-IsMadeFor (Log drawing) told order outcome written = (outcome ≡ Plain Answer.Ok) × IsDrawing drawing order.window told order.file written
-
-abbrev pub IsMade : Told → Asked → Outcome → List ℕ → Type 0
-IsMade told order outcome written = IsMadeFor order.task told order outcome written
+-- ---- a text that is made whole
+abbrev pub IsMade : AskedProduct → Told → AskedTarget → Outcome → List ℕ → Type 0
+IsMade (OfProgram question) told target outcome written = IsToldOf question told target outcome written
+IsMade (OfLog drawing window) told target outcome written = (outcome ≡ Plain Answer.Ok) × IsDrawing drawing window told target.file written
+IsMade (Bench samples name seed) told target outcome written = (outcome ≡ Plain Answer.Ok) × IsBenchOf told target samples name seed written
 
 -- an answer of `piperench`
 abbrev pub IsPlain : (Answer → Type 0) → Outcome → Type 0
 IsPlain P (Plain answer) = P answer
 IsPlain P outcome = ⊥
 
--- why nothing is
-abbrev pub IsUnmadeFor : Task → Told → Asked → ℕ → ℕ → Outcome → Type 0
-IsUnmadeFor (Program question) told order before now outcome = IsPlain (IsUntold told order before now) outcome
-IsUnmadeFor Signals told order before now outcome = ⊥
-IsUnmadeFor Bench told order before now outcome = IsNoBenchOf told order before now outcome
-IsUnmadeFor (Log drawing) told order before now outcome = IsUndrawn order.window told order.file before now outcome
-
-abbrev pub IsUnmade : Told → Asked → ℕ → ℕ → Outcome → Type 0
-IsUnmade told order before now outcome = IsUnmadeFor order.task told order before now outcome
+-- why none is
+abbrev pub IsUnmade : AskedProduct → Told → AskedTarget → ℕ → ℕ → Outcome → Type 0
+IsUnmade (OfProgram question) told target before now outcome = IsPlain (IsUntold told target before now) outcome
+IsUnmade (OfLog drawing window) told target before now outcome = IsUndrawn window told target.file before now outcome
+IsUnmade (Bench samples name seed) told target before now outcome = IsNoBenchOf told target samples name seed before now outcome
 
 -- ---- what a call comes to
 -- what is made is written, whole but for a write that fails
-pub record Writes (order : Asked) (c : Call) (result : Outcome) : Type 0 where
+pub record Writes (product : AskedProduct) (target : AskedTarget) (c : Call) (result : Outcome) : Type 0 where
   pub text : List ℕ
   pub outcome : Outcome
-  pub made : IsMade c.told order outcome text
+  pub made : IsMade product c.told target outcome text
   pub written : IsWritten c.old c.new c.writes_before c.writes_now text outcome result
 
 -- nothing is written
-pub record IsSilent (order : Asked) (c : Call) (result : Outcome) : Type 0 where
-  pub unmade : IsUnmade c.told order c.reads_before c.reads_now result
+pub record IsSilent (product : AskedProduct) (target : AskedTarget) (c : Call) (result : Outcome) : Type 0 where
+  pub unmade : IsUnmade product c.told target c.reads_before c.reads_now result
   pub same : c.new ≡ c.old
 
--- streams are asked for, and this comes of it
-pub record Streams (order : Asked) (c : Call) (result : Outcome) : Type 0 where
-  pub task : order.task ≡ Signals
-  pub told : TellsStreams order c result
+abbrev pub Follows : AskedTask → AskedTarget → Call → Outcome → Type 0
+Follows (Whole product) target c result = Writes product target c result ⊎ IsSilent product target c result
+Follows (Signals samples manner) target c result = TellsStreams target.file samples manner c result
 
 abbrev pub IsFollowed : Asked → Call → Outcome → Type 0
-IsFollowed order c result = Streams order c result ⊎ (Writes order c result ⊎ IsSilent order c result)
+IsFollowed asked c result = Follows asked.task asked.target c result
 
 -- this, with nothing written
 pub record EndsWith (outcome : Outcome) (c : Call) (result : Outcome) : Type 0 where

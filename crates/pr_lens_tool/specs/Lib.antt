@@ -1,3 +1,4 @@
+pub mod Asked
 pub mod Tasks
 pub mod Orders
 pub mod Accepted

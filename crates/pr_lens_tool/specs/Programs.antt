@@ -26,12 +26,10 @@ use Rattle.pr_lens_cost.specs.Texts.{IsCostText}
 use Rattle.pr_lens_graph.specs.declared.layouts.Layout.{Layout}
 use Rattle.pr_lens_graph.specs.Graphs.{graph_of}
 use Rattle.pr_lens_graph.specs.Layouts.{IsLayout}
-use Rattle.pr_lens_tool.specs.declared.orders.Question.{Question}
-use Rattle.pr_lens_tool.specs.declared.orders.Question.TheVariants.{Why, Cost, Graph, Rtl}
 use Rattle.pr_lens_tool.specs.declared.outcomes.Outcome.{Outcome}
 use Rattle.pr_lens_tool.specs.declared.outcomes.Outcome.TheVariants.{Plain, Explained}
 use Rattle.pr_lens_tool.specs.Accepted.{TellsAccepted}
-use Rattle.pr_lens_tool.specs.Orders.{Asked}
+use Rattle.pr_lens_tool.specs.Asked.{AskedQuestion, AskedTarget, Cost, Graph, Rtl, Why}
 use Rattle.pr_lens_tool.specs.Modules.{IsModuleOrLong}
 
 -- the limits for programs on a fabric
@@ -49,26 +47,26 @@ pub record IsFinding (e : Explanation) (heading : List ℕ) (f : Finding) : Type
   pub message : f.message.now ≡ e.message.items
 
 -- the text of an explanation, for people or as JSON
-pub record IsExplanation (order : Asked) (text : List ℕ) (e : Explanation) (answer : Answer) (written : List ℕ) : Type 0 where
+pub record IsExplanation (target : AskedTarget) (json : Bool) (text : List ℕ) (e : Explanation) (answer : Answer) (written : List ℕ) : Type 0 where
   pub finding : Finding
-  pub is : IsFinding e (note_of (bounds_for order.fabric) answer) finding
-  pub put : IsPut order.json order.file text finding [] written
+  pub is : IsFinding e (note_of (bounds_for target.fabric) answer) finding
+  pub put : IsPut json target.file text finding [] written
 
 -- a text is refused with this answer, and what is written explains it
-pub record IsWhy (N P : ℕ) (order : Asked) (text : List ℕ) (answer : Answer) (written : List ℕ) : Type 0 where
+pub record IsWhy (N P : ℕ) (target : AskedTarget) (json : Bool) (text : List ℕ) (answer : Answer) (written : List ℕ) : Type 0 where
   pub explanation : Explanation
-  pub is : IsExplained N P order.narrowed text explanation
+  pub is : IsExplained N P target.narrowed text explanation
   pub answers : answer ≡ compile_answer explanation.fault
-  pub told : IsExplanation order text explanation answer written
+  pub told : IsExplanation target json text explanation answer written
 
 -- a text has a configuration, and that is written, with its warnings
-pub record IsAccepted (N P : ℕ) (order : Asked) (text written : List ℕ) : Type 0 where
-  pub has : HasConfiguration N P order.narrowed text
-  pub told : TellsAccepted order text written
+pub record IsAccepted (N P : ℕ) (target : AskedTarget) (json warnings : Bool) (text written : List ℕ) : Type 0 where
+  pub has : HasConfiguration N P target.narrowed text
+  pub told : TellsAccepted json warnings target.file text written
 
-abbrev pub IsSaid : ℕ → ℕ → Asked → List ℕ → Outcome → List ℕ → Type 0
-IsSaid N P order text (Explained answer) written = IsWhy N P order text answer written
-IsSaid N P order text outcome written = (outcome ≡ Plain Answer.Ok) × IsAccepted N P order text written
+abbrev pub IsSaid : ℕ → ℕ → AskedTarget → (json warnings : Bool) → List ℕ → Outcome → List ℕ → Type 0
+IsSaid N P target json warnings text (Explained answer) written = IsWhy N P target json text answer written
+IsSaid N P target json warnings text outcome written = (outcome ≡ Plain Answer.Ok) × IsAccepted N P target json warnings text written
 
 -- ---- cost
 -- units and stages of a text that is compiled this way
@@ -90,12 +88,12 @@ AreSavings N P narrowed text (Some savings) = IsSaving N P narrowed text savings
 AreSavings N P narrowed text None = HasRefusal N P narrowed text
 
 -- what a text costs is written, and what the other way saves
-pub record IsCosted (N P : ℕ) (order : Asked) (text written : List ℕ) : Type 0 where
+pub record IsCosted (N P : ℕ) (narrowed : Bool) (samples : ℕ) (text written : List ℕ) : Type 0 where
   pub cost : ProgramCost
-  pub is : IsCost N P order.narrowed text cost
+  pub is : IsCost N P narrowed text cost
   pub savings : Option Savings
-  pub saved : AreSavings N P (not order.narrowed) text savings
-  pub told : IsCostText cost savings N order.samples written
+  pub saved : AreSavings N P (not narrowed) text savings
+  pub told : IsCostText cost savings N samples written
 
 -- ---- graph
 -- a text has units with stages, and their graph is written
@@ -106,19 +104,19 @@ pub record IsGraphed (N P : ℕ) (narrowed : Bool) (text written : List ℕ) : T
 
 -- ---- all four
 -- what is told of a text that is asked so, and what is written
-abbrev pub IsTold : Question → ℕ → ℕ → Asked → List ℕ → Outcome → List ℕ → Type 0
-IsTold Why N P order text outcome written = IsSaid N P order text outcome written
-IsTold Cost N P order text outcome written = (outcome ≡ Plain Answer.Ok) × IsCosted N P order text written
-IsTold Graph N P order text outcome written = (outcome ≡ Plain Answer.Ok) × IsGraphed N P order.narrowed text written
-IsTold Rtl N P order text outcome written = IsModuleOrLong N P order.narrowed text order.name outcome written
+abbrev pub IsTold : AskedQuestion → ℕ → ℕ → AskedTarget → List ℕ → Outcome → List ℕ → Type 0
+IsTold (Why json warnings) N P target text outcome written = IsSaid N P target json warnings text outcome written
+IsTold (Cost samples) N P target text outcome written = (outcome ≡ Plain Answer.Ok) × IsCosted N P target.narrowed samples text written
+IsTold Graph N P target text outcome written = (outcome ≡ Plain Answer.Ok) × IsGraphed N P target.narrowed text written
+IsTold (Rtl name) N P target text outcome written = IsModuleOrLong N P target.narrowed text name outcome written
 
 -- the same of the program of a file
-pub record IsToldOf (question : Question) (told : Told) (order : Asked) (outcome : Outcome) (written : List ℕ) : Type 0 where
+pub record IsToldOf (question : AskedQuestion) (told : Told) (target : AskedTarget) (outcome : Outcome) (written : List ℕ) : Type 0 where
   pub text : List ℕ
-  pub file : IsText told order.file text
+  pub file : IsText told target.file text
   pub short : length text ≤ most_program_bytes
-  pub is : IsTold question (columns order.fabric) (registers order.fabric) order text outcome written
+  pub is : IsTold question (columns target.fabric) (registers target.fabric) target text outcome written
 
 -- why nothing is told of it, as `piperench` refuses it
-abbrev pub IsUntold : Told → Asked → ℕ → ℕ → Answer → Type 0
-IsUntold told order before now answer = IsNotCompiled (columns order.fabric) (registers order.fabric) order.narrowed told order.file before now answer
+abbrev pub IsUntold : Told → AskedTarget → ℕ → ℕ → Answer → Type 0
+IsUntold told target before now answer = IsNotCompiled (columns target.fabric) (registers target.fabric) target.narrowed told target.file before now answer

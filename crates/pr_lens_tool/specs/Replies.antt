@@ -7,7 +7,7 @@ use Rattle.pr_tool.specs.Notes.{note_of}
 use Rattle.pr_lens_tool.specs.declared.outcomes.Outcome.{Outcome}
 use Rattle.pr_lens_tool.specs.declared.outcomes.Outcome.TheVariants.{NoStream, Plain, Streamed}
 use Rattle.pr_lens_tool.specs.declared.outcomes.Reply.{Reply}
-use Rattle.pr_lens_tool.specs.Orders.{Asked}
+use Rattle.pr_lens_tool.specs.Asked.{Asked, AskedTarget, AskedTask, Bench, Signals, Whole}
 use Rattle.pr_lens_tracks.specs.Names.{names_in}
 use Rattle.pr_lens_tool.specs.Programs.{bounds_for}
 
@@ -20,38 +20,49 @@ abbrev pub narrow_words : Bool → List ℕ
 narrow_words narrowed = if narrowed then codes " --narrow" else []
 
 -- the call that tells more of it, with the options of this one
-unfoldable pub why_line : Asked → List ℕ
-why_line asked = codes "`pipelens why " ++ asked.file ++ fabric_words asked.fabric ++ narrow_words asked.narrowed ++ codes "` tells more\n"
+unfoldable pub why_line : AskedTarget → List ℕ
+why_line target = codes "`pipelens why " ++ target.file ++ fabric_words target.fabric ++ narrow_words target.narrowed ++ codes "` tells more\n"
 
-abbrev pub refused_line : Asked → Answer → List ℕ
-refused_line asked answer = note_of (bounds_for asked.fabric) answer ++ why_line asked
+abbrev pub refused_line : AskedTarget → Answer → List ℕ
+refused_line target answer = note_of (bounds_for target.fabric) answer ++ why_line target
 
 -- ---- a file that cannot be read
 abbrev pub fault_line : List ℕ → List ℕ
 fault_line name = codes "read fault: " ++ name ++ codes "\n"
 
+-- the samples of a task, where it has some
+abbrev pub samples_of : AskedTask → Option (List ℕ)
+samples_of (Signals samples manner) = Some samples
+samples_of (Whole (Bench samples name seed)) = Some samples
+samples_of task = None
+
 -- ---- a name that no stream has
 abbrev pub stream_line : List ℕ → List ℕ
 stream_line name = codes "no stream: " ++ name ++ codes "\n"
 
-abbrev pub foreign_line : Asked → ℕ → Option (List ℕ)
-foreign_line asked place = option_map stream_line (option_and_then (λ list. slice_get (names_in list) place) asked.signed)
+-- the names that are shown as two's complement
+abbrev pub signed_of : AskedTask → Option (List ℕ)
+signed_of (Signals samples manner) = manner.signed
+signed_of (Whole product) = None
+
+abbrev pub foreign_line : AskedTask → ℕ → Option (List ℕ)
+foreign_line task place = option_map stream_line (option_and_then (λ list. slice_get (names_in list) place) (signed_of task))
 
 -- ---- either; other answers have their own line
-abbrev pub answer_line : Asked → Answer → Option (List ℕ)
-answer_line asked Answer.ReadFault = Some (fault_line asked.file)
-answer_line asked (Answer.Syntax token) = Some (refused_line asked (Answer.Syntax token))
-answer_line asked (Answer.Scope rule item) = Some (refused_line asked (Answer.Scope rule item))
-answer_line asked (Answer.NoWidth equation) = Some (refused_line asked (Answer.NoWidth equation))
-answer_line asked (Answer.NoFit unit) = Some (refused_line asked (Answer.NoFit unit))
-answer_line asked (Answer.Limit Cap.ProgramBytes) = None
-answer_line asked (Answer.Limit which) = Some (refused_line asked (Answer.Limit which))
-answer_line asked answer = None
+abbrev pub answer_line : AskedTarget → Answer → Option (List ℕ)
+answer_line target Answer.ReadFault = Some (fault_line target.file)
+answer_line target (Answer.Syntax token) = Some (refused_line target (Answer.Syntax token))
+answer_line target (Answer.Scope rule item) = Some (refused_line target (Answer.Scope rule item))
+answer_line target (Answer.NoWidth equation) = Some (refused_line target (Answer.NoWidth equation))
+answer_line target (Answer.NoFit unit) = Some (refused_line target (Answer.NoFit unit))
+answer_line target (Answer.Limit Cap.ProgramBytes) = None
+answer_line target (Answer.Limit which) = Some (refused_line target (Answer.Limit which))
+answer_line target answer = None
 
 abbrev pub line_for : Asked → Outcome → Option (List ℕ)
-line_for asked (Plain answer) = answer_line asked answer
-line_for asked (Streamed Answer.ReadFault) = option_map fault_line asked.second
-line_for asked (NoStream place) = foreign_line asked place
+line_for asked (Plain answer) = answer_line asked.target answer
+line_for asked (Streamed Answer.ReadFault) = option_map fault_line (samples_of asked.task)
+line_for asked (NoStream place) = foreign_line asked.task place
 line_for asked outcome = None
 
 -- a line that a reply has in place of the outcome's own is the one for what was asked

@@ -2,9 +2,7 @@
 
 ghost use Rattle.std.specs.Prelude.{◌≡◌, ◌≤◌, length, IfOk};
 ghost use Rattle.pr_lens_tool.specs.Accepted.{TellsAccepted, accepted_text};
-ghost use Rattle.pr_lens_tool.specs.Orders.{asked_in};
 
-use crate::orders::Order;
 use pr_lens_warn::put_warnings;
 use std::alloc::{AllocError, Global};
 
@@ -16,13 +14,19 @@ fn accepted_text(json: bool) -> &'static [u8]
 }
 
 /// That a program is accepted, and what is pointed out in it, unless that is left out.
-pub fn accepted(alloc: Global, order: &Order, text: &[u8]) -> Result<Vec<u8>, AllocError>
+pub fn accepted(
+    alloc: Global,
+    json: bool,
+    warnings: bool,
+    name: &str,
+    text: &[u8],
+) -> Result<Vec<u8>, AllocError>
     requires { length text.now ≤ 1048576 }
-    ensures { IfOk result (λ told. TellsAccepted (asked_in order.now) text.now told.items) }
+    ensures { IfOk result (λ told. TellsAccepted json warnings name.now text.now told.items) }
 {
-    let mut told = Vec::from_slice(alloc, accepted_text(order.json))?;
-    if order.warnings {
-        put_warnings(alloc, &mut told, order.json, order.file, text)?;
+    let mut told = Vec::from_slice(alloc, accepted_text(json))?;
+    if warnings {
+        put_warnings(alloc, &mut told, json, name, text)?;
     }
     Ok(told)
 }

@@ -5,34 +5,33 @@ ghost use Rattle.clap.specs.Values.{kind_of};
 ghost use Rattle.clap.specs.Words.{app_of, rule_of, found_of};
 ghost use Rattle.clap.specs.declared.error.Error.{Error};
 ghost use Rattle.clap.specs.declared.error.kind.ErrorKind.TheVariants.{OutOfMemory};
-ghost use Rattle.pr_tool_words.specs.Lawful.{is_true, number_in};
+ghost use Rattle.pr_tool_words.specs.Lawful.{fabric_named, is_true, number_in};
 ghost use Rattle.pr_tool_words.specs.Shape.{place, option, option_or, flag};
-ghost use Rattle.pr_lens_tool.specs.Tasks.{module_named};
-ghost use Rattle.pr_lens_tool.specs.Orders.{app, asked_in, asked_of, asked_by, fit, is_fit};
+ghost use Rattle.pr_lens_tool.specs.Asked.{asked_in, product_in, task_in};
+ghost use Rattle.pr_lens_tool.specs.Tasks.{are_name_bytes, form_of, is_module_name, is_name_byte, module_named, one_file, said_in, task_of, two_files};
+ghost use Rattle.pr_lens_tool.specs.Orders.{app, asked_of, asked_by, said_of};
 
-use crate::orders::{Order, Task, fabric_named, is_module_name, task_named};
+use crate::orders::{Drawing, Order, Product, Question, Target, Task};
 use clap::error::ErrorKind;
 use clap::{Arg, ArgAction, ArgMatches, Command};
 use itoa::Buffer;
+use pr_base::Fabric;
 use pr_lens_log::Window;
+use pr_lens_signals::Style;
+use pr_lens_tracks::Form;
 use pr_tool_words::number_in;
 use std::alloc::{AllocError, Global};
-use thiserror::Error;
 
 /// Why the words of a command line are no order.
-#[derive(Debug, Drop, Error)]
+#[derive(Drop)]
 pub enum OrderFault {
     /// They ask for the help.
-    #[error("the help is asked for")]
     Help,
     /// They are no lawful command line.
-    #[error("the words are no lawful command line")]
     Usage,
     /// Memory was wanting.
-    #[error("out of memory")]
     Memory(AllocError),
     /// The parser of command lines had no memory. This is its own error, which is of that kind.
-    #[error("out of memory")]
     Unparsed(clap::error::Error),
 }
 
@@ -45,6 +44,21 @@ impl From<AllocError> for OrderFault {
     fn from(error: AllocError) -> OrderFault {
         OrderFault::Memory(error)
     }
+}
+
+/// The values of all options.
+#[derive(Clone, Copy)]
+pub struct Options<'a> {
+    fabric: Fabric,
+    narrowed: bool,
+    samples: u32,
+    json: bool,
+    warnings: bool,
+    /// The name of a module.
+    name: &'a str,
+    style: Style<'a>,
+    seed: u32,
+    window: Window,
 }
 
 /// The fabric where none is given.
@@ -122,25 +136,40 @@ fn is_true(value: Option<&str>) -> bool
     }
 }
 
-/// Whether a task is asked for with the files that it needs.
-fn is_fit(task: Task, second: Option<&str>) -> bool
-    ensures { result ≡ is_fit task (option_map (λ s. s.now) second.entry) }
+/// The fabric of this name.
+fn fabric_named(name: &str) -> Option<Fabric>
+    ensures { result ≡ fabric_named name.now }
 {
-    match task {
-        Task::Signals | Task::Bench => second.is_some(),
-        Task::Program(_) => second.is_none(),
-        Task::Log(_) => second.is_none(),
+    match name {
+        "base" => Some(Fabric::Base),
+        "wide" => Some(Fabric::Wide),
+        _ => None,
     }
 }
 
-/// An order, where it is asked for with the files that it needs.
-fn fit<'a>(order: Order<'a>) -> Option<Order<'a>>
-    ensures { option_map asked_in result ≡ fit (asked_in order.entry) }
+/// Whether a byte may stand in the name of a module.
+fn is_name_byte(byte: u8) -> bool
+    ensures { result ≡ is_name_byte byte }
 {
-    if is_fit(order.task, order.second) {
-        return Some(order);
+    matches!(byte, b'A'..=b'Z' | b'a'..=b'z' | b'0'..=b'9' | b'_')
+}
+
+/// Whether all of these bytes may stand in the name of a module.
+fn are_name_bytes(bytes: &[u8]) -> bool
+    ensures { result ≡ are_name_bytes bytes.now }
+{
+    bytes.iter().all(|&byte| is_name_byte(byte))
+}
+
+/// Whether a module may have this name: a letter or an underscore, then such or digits.
+fn is_module_name(name: &str) -> bool
+    ensures { result ≡ is_module_name name.now }
+{
+    let bytes = name.as_bytes();
+    match bytes.first() {
+        None => false,
+        Some(first) => !first.is_ascii_digit() && are_name_bytes(bytes),
     }
-    None
 }
 
 /// The name of a module, where it may have it.
@@ -170,33 +199,110 @@ fn long_in(text: &str) -> Option<u64>
     }
 }
 
-/// The order among the matches, where its words are lawful.
-fn found<'a>(matches: &ArgMatches<'a>) -> Option<Order<'a>>
-    ensures { option_map asked_in result ≡ asked_of (found_of matches.now) }
+/// The kind of the text of streams.
+fn form_of(csv: bool) -> Form
+    ensures { result ≡ form_of csv }
 {
-    let task = task_named(matches.get_str("task")?)?;
-    let file = matches.get_str("file")?;
+    if csv { Form::Csv } else { Form::Wave }
+}
+
+/// The values of the options, where all are lawful, also of those that the task has no use for.
+fn options_of<'a>(matches: &ArgMatches<'a>) -> Option<Options<'a>>
+    ensures { option_map said_in result ≡ said_of (found_of matches.now) }
+{
     let fabric = fabric_named(matches.get_str("fabric")?)?;
     let samples = number_in(matches.get_str("samples")?, 0, u32::MAX)?;
     let name = module_named(matches.get_str("name")?)?;
     let seed = number_in(matches.get_str("seed")?, 0, u32::MAX)?;
     let from = long_in(matches.get_str("from")?)?;
     let to = long_in(matches.get_str("to")?)?;
-    fit(Order {
-        task,
-        file,
-        second: matches.get_str("second"),
+    Some(Options {
         fabric,
         narrowed: is_true(matches.get_str("narrow")),
         samples,
         json: is_true(matches.get_str("json")),
-        csv: is_true(matches.get_str("csv")),
-        signed: matches.get_str("signed"),
         warnings: !is_true(matches.get_str("no-warnings")),
         name,
+        style: Style {
+            form: form_of(is_true(matches.get_str("csv"))),
+            signed: matches.get_str("signed"),
+        },
         seed,
         window: Window { from, to },
     })
+}
+
+/// What is made of one file by the task of this name.
+fn one_file<'a>(task: &str, options: &Options<'a>) -> Option<Product<'a>>
+    ensures { option_map product_in result ≡ one_file task.now (said_in options.now) }
+{
+    match task {
+        "why" => Some(Product::OfProgram(Question::Why {
+            json: options.json,
+            warnings: options.warnings,
+        })),
+        "cost" => Some(Product::OfProgram(Question::Cost {
+            samples: options.samples,
+        })),
+        "graph" => Some(Product::OfProgram(Question::Graph)),
+        "rtl" => Some(Product::OfProgram(Question::Rtl { name: options.name })),
+        "wave" => Some(Product::OfLog {
+            drawing: Drawing::Wave,
+            window: options.window,
+        }),
+        "chart" => Some(Product::OfLog {
+            drawing: Drawing::Chart,
+            window: options.window,
+        }),
+        _ => None,
+    }
+}
+
+/// The task of this name on a program and samples.
+fn two_files<'a>(task: &str, samples: &'a str, options: &Options<'a>) -> Option<Task<'a>>
+    ensures { option_map task_in result ≡ two_files task.now samples.entry.now (said_in options.now) }
+{
+    match task {
+        "signals" => Some(Task::Signals {
+            samples,
+            style: options.style,
+        }),
+        "testbench" => Some(Task::Whole(Product::Bench {
+            samples,
+            name: options.name,
+            seed: options.seed,
+        })),
+        _ => None,
+    }
+}
+
+/// The task of this name, where a second file is given or none.
+fn task_of<'a>(task: &str, second: Option<&'a str>, options: &Options<'a>) -> Option<Task<'a>>
+    ensures { option_map task_in result ≡
+        task_of task.now (option_map (λ s. s.now) second.entry) (said_in options.now) }
+{
+    match second {
+        None => Some(Task::Whole(one_file(task, options)?)),
+        Some(samples) => two_files(task, samples, options),
+    }
+}
+
+/// The order among the matches, where its words are lawful.
+fn found<'a>(matches: &ArgMatches<'a>) -> Option<Order<'a>>
+    ensures { option_map asked_in result ≡ asked_of (found_of matches.now) }
+{
+    let options = options_of(matches)?;
+    let task = task_of(
+        matches.get_str("task")?,
+        matches.get_str("second"),
+        &options,
+    )?;
+    let target = Target {
+        file: matches.get_str("file")?,
+        fabric: options.fabric,
+        narrowed: options.narrowed,
+    };
+    Some(Order { target, task })
 }
 
 /// What the words ask for, the program's name first among them.

@@ -8,11 +8,11 @@ ghost use Rattle.pr_tool_modes.specs.Programs.{IsUncompiled};
 ghost use Rattle.pr_lens_bench.specs.Reading.{IsFit};
 ghost use Rattle.pr_lens_bench.specs.Benches.{IsBench, IsUnbenched};
 ghost use Rattle.pr_lens_tool.specs.declared.outcomes.Outcome.TheVariants.{Plain};
-ghost use Rattle.pr_lens_tool.specs.Orders.{asked_in};
+ghost use Rattle.pr_lens_tool.specs.Asked.{target_in};
 ghost use Rattle.pr_lens_tool.specs.Benches.{IsBenchOf, IsNoBenchOf, IsPlan, IsPlanned, IsUntried};
 
 use crate::compiling::{Compilation, compilation_of};
-use crate::orders::Order;
+use crate::orders::Target;
 use crate::outcomes::{Outcome, Output};
 use crate::programs::answer_of;
 use pr_base::{Cap, Fabric};
@@ -28,24 +28,27 @@ use std::alloc::{AllocError, Global};
 /// The plan for the module of a program and its configuration.
 fn plan_of<const N: usize, const P: usize>(
     alloc: Global,
-    order: &Order,
+    name: &str,
+    seed: u32,
     program: &Program,
     conf: &Configuration<N, P>,
 ) -> Result<Plan, AllocError>
-    ensures { IfOk result (IsPlan order.now.name.now order.now.seed program.now (shape_of conf.now)) }
+    ensures { IfOk result (IsPlan name.now seed program.now (shape_of conf.now)) }
 {
     Ok(Plan {
-        name: module_name(alloc, order.name)?,
+        name: module_name(alloc, name)?,
         inputs: input_ports::<N, P>(alloc, program, conf)?,
         outputs: output_ports::<N, P>(alloc, program, conf)?,
-        seed: order.seed,
+        seed,
     })
 }
 
 /// The program of a text with the plan for its module; else the answer to it.
 fn planned<const N: usize, const P: usize>(
     alloc: Global,
-    order: &Order,
+    narrowed: bool,
+    name: &str,
+    seed: u32,
     text: &[u8],
 ) -> Result<Trial, Answer>
     requires short { length text.now ≤ 1048576 }
@@ -53,32 +56,39 @@ fn planned<const N: usize, const P: usize>(
     requires most_columns { N ≤ 64 }
     requires registers { 2 ≤ P }
     requires most_registers { P ≤ 16 }
-    ensures planned { IfOk result (λ t. IsPlanned N P (asked_in order.now) text.now t.front.scoped.program t.plan) }
+    ensures planned { IfOk result (λ t.
+        IsPlanned N P narrowed name.now seed text.now t.front.scoped.program t.plan) }
     ensures fit { IfOk result IsFit }
-    ensures refused { IfErr result (λ a. IsUncompiled N P order.now.narrowed text.now a ⊎ (a ≡ Answer.Memory)) }
+    ensures refused { IfErr result (λ a. IsUncompiled N P narrowed text.now a ⊎ (a ≡ Answer.Memory)) }
 {
-    let made = match compilation_of::<N, P>(alloc, text, order.narrowed) {
+    let made = match compilation_of::<N, P>(alloc, text, narrowed) {
         Ok(made) => made,
         Err(fault) => return Err(answer_of(&fault)),
     };
     let Compilation { front, conf } = made;
-    let plan = plan_of::<N, P>(alloc, order, &front.scoped.program, &conf)?;
+    let plan = plan_of::<N, P>(alloc, name, seed, &front.scoped.program, &conf)?;
     Ok(Trial { front, plan })
 }
 
-/// The program of a text with the plan for its module, on the fabric that is asked for.
-fn planned_on(alloc: Global, order: &Order, text: &[u8]) -> Result<Trial, Answer>
+/// The program of a text with the plan for its module, on the fabric that it is compiled for.
+fn planned_on(
+    alloc: Global,
+    target: &Target,
+    name: &str,
+    seed: u32,
+    text: &[u8],
+) -> Result<Trial, Answer>
     requires { length text.now ≤ 1048576 }
-    ensures planned { IfOk result (λ t. IsPlanned (columns order.now.fabric) (registers order.now.fabric)
-        (asked_in order.now) text.now t.front.scoped.program t.plan) }
+    ensures planned { IfOk result (λ t. IsPlanned (columns target.now.fabric) (registers target.now.fabric)
+        target.now.narrowed name.now seed text.now t.front.scoped.program t.plan) }
     ensures fit { IfOk result IsFit }
     ensures refused { IfErr result (λ a.
-        IsUncompiled (columns order.now.fabric) (registers order.now.fabric) order.now.narrowed text.now a
+        IsUncompiled (columns target.now.fabric) (registers target.now.fabric) target.now.narrowed text.now a
         ⊎ (a ≡ Answer.Memory)) }
 {
-    match order.fabric {
-        Fabric::Base => planned::<16, 8>(alloc, order, text),
-        Fabric::Wide => planned::<32, 16>(alloc, order, text),
+    match target.fabric {
+        Fabric::Base => planned::<16, 8>(alloc, target.narrowed, name, seed, text),
+        Fabric::Wide => planned::<32, 16>(alloc, target.narrowed, name, seed, text),
     }
 }
 
@@ -109,25 +119,30 @@ fn tried<S: Shelf>(
     }
 }
 
-/// The bench for the module of the program of a file on the samples of another; else what the call comes to.
-pub fn bench_of<S: Shelf>(alloc: Global, order: &Order, shelf: &mut S) -> Result<Output, Outcome>
+/// The bench for the module of this name, of the program of a file, on the samples of another; else what the call comes
+/// to.
+pub fn bench_of<S: Shelf>(
+    alloc: Global,
+    target: &Target,
+    samples: &str,
+    name: &str,
+    seed: u32,
+    shelf: &mut S,
+) -> Result<Output, Outcome>
     ensures well { IfOk result (λ o. o.outcome ≡ Plain Answer.Ok) }
-    ensures made { IfOk result (λ o. IsBenchOf (S.told shelf.old) (asked_in order.now) o.text.items) }
-    ensures refused { IfErr result
-        (IsNoBenchOf (S.told shelf.old) (asked_in order.now) (S.faults shelf.old) (S.faults shelf.new)) }
+    ensures made { IfOk result (λ o.
+        IsBenchOf (S.told shelf.old) (target_in target.now) samples.now name.now seed o.text.items) }
+    ensures refused { IfErr result (IsNoBenchOf (S.told shelf.old) (target_in target.now) samples.now name.now seed
+        (S.faults shelf.old) (S.faults shelf.new)) }
     ensures later { S.faults shelf.old ≤ S.faults shelf.new }
     ensures same { S.told shelf.new ≡ S.told shelf.old }
 {
-    let samples = match order.second {
-        Some(samples) => samples,
-        None => return Err(Outcome::Usage),
-    };
     let most = Cap::MOST_PROGRAM_BYTES;
-    let text = match read_file(alloc, shelf, order.file, most, Cap::ProgramBytes) {
+    let text = match read_file(alloc, shelf, target.file, most, Cap::ProgramBytes) {
         Ok(text) => text,
         Err(answer) => return Err(Outcome::Plain(answer)),
     };
-    let trial = match planned_on(alloc, order, &text) {
+    let trial = match planned_on(alloc, target, name, seed, &text) {
         Ok(trial) => trial,
         Err(answer) => return Err(Outcome::Plain(answer)),
     };

@@ -1,11 +1,11 @@
 //! The call.
 
-ghost use Rattle.std.specs.Prelude.{◌≡◌, ◌≢◌, ◌≤◌, ◌↔◌, IfOk, IfErr, IsTrue};
+ghost use Rattle.std.specs.Prelude.{◌≡◌, ◌≤◌, IfOk, IfErr};
 ghost use Rattle.pr_tool_answers.specs.declared.answers.Answer.{Answer};
 ghost use Rattle.pr_lens_signals.specs.Calls.{call};
-ghost use Rattle.pr_lens_tool.specs.declared.orders.Task.TheVariants.{Signals};
 ghost use Rattle.pr_lens_tool.specs.declared.outcomes.Outcome.TheVariants.{Plain};
-ghost use Rattle.pr_lens_tool.specs.Orders.{asked_in, asked_by};
+ghost use Rattle.pr_lens_tool.specs.Asked.{asked_in, product_in, question_in, target_in};
+ghost use Rattle.pr_lens_tool.specs.Orders.{asked_by};
 ghost use Rattle.pr_lens_tool.specs.Outcomes.{IsWritten};
 ghost use Rattle.pr_lens_tool.specs.Programs.{IsToldOf, IsUntold};
 ghost use Rattle.pr_lens_tool.specs.Replies.{HasLine};
@@ -14,7 +14,7 @@ ghost use Rattle.pr_lens_tool.specs.Calls.{IsMade, IsUnmade, IsFollowed, IsCalle
 use crate::asking::{OrderFault, read_order};
 use crate::benches::bench_of;
 use crate::logs::of_log;
-use crate::orders::{Order, Question, Task};
+use crate::orders::{Order, Product, Question, Target, Task};
 use crate::outcomes::{Outcome, Output, Reply};
 use crate::programs::of_program;
 use crate::replies::{bare, reply_of};
@@ -59,42 +59,50 @@ usage: pipelens TASK FILE [SAMPLES] [--fabric F] [--narrow] [--samples N] [--jso
 /// What is asked of the program of a file; else the answer to it.
 fn of_file<S: Shelf>(
     alloc: Global,
-    order: &Order,
+    target: &Target,
     question: Question,
     shelf: &mut S,
 ) -> Result<Output, Answer>
-    ensures told { IfOk result (λ o.
-        IsToldOf question (S.told shelf.old) (asked_in order.now) o.outcome o.text.items) }
+    ensures told { IfOk result (λ o. IsToldOf
+        (question_in question.entry) (S.told shelf.old) (target_in target.now) o.outcome o.text.items) }
     ensures refused { IfErr result
-        (IsUntold (S.told shelf.old) (asked_in order.now) (S.faults shelf.old) (S.faults shelf.new)) }
+        (IsUntold (S.told shelf.old) (target_in target.now) (S.faults shelf.old) (S.faults shelf.new)) }
     ensures later { S.faults shelf.old ≤ S.faults shelf.new }
     ensures same { S.told shelf.new ≡ S.told shelf.old }
 {
     let most = Cap::MOST_PROGRAM_BYTES;
-    let text = read_file(alloc, shelf, order.file, most, Cap::ProgramBytes)?;
-    match order.fabric {
-        Fabric::Base => of_program::<16, 8>(alloc, order, question, &text),
-        Fabric::Wide => of_program::<32, 16>(alloc, order, question, &text),
+    let text = read_file(alloc, shelf, target.file, most, Cap::ProgramBytes)?;
+    match target.fabric {
+        Fabric::Base => of_program::<16, 8>(alloc, target, question, &text),
+        Fabric::Wide => of_program::<32, 16>(alloc, target, question, &text),
     }
 }
 
-/// What is asked for, made whole; else what the call comes to.
-fn made<S: Shelf>(alloc: Global, order: &Order, shelf: &mut S) -> Result<Output, Outcome>
-    requires { order.now.task ≢ Signals }
-    ensures made { IfOk result (λ o. IsMade (S.told shelf.old) (asked_in order.now) o.outcome o.text.items) }
-    ensures unmade { IfErr result
-        (IsUnmade (S.told shelf.old) (asked_in order.now) (S.faults shelf.old) (S.faults shelf.new)) }
+/// A text, made whole; else what the call comes to.
+fn made<S: Shelf>(
+    alloc: Global,
+    target: &Target,
+    product: Product,
+    shelf: &mut S,
+) -> Result<Output, Outcome>
+    ensures made { IfOk result (λ o.
+        IsMade (product_in product.entry) (S.told shelf.old) (target_in target.now) o.outcome o.text.items) }
+    ensures unmade { IfErr result (IsUnmade (product_in product.entry)
+        (S.told shelf.old) (target_in target.now) (S.faults shelf.old) (S.faults shelf.new)) }
     ensures later { S.faults shelf.old ≤ S.faults shelf.new }
     ensures same { S.told shelf.new ≡ S.told shelf.old }
 {
-    match order.task {
-        Task::Program(question) => match of_file(alloc, order, question, shelf) {
+    match product {
+        Product::OfProgram(question) => match of_file(alloc, target, question, shelf) {
             Ok(output) => Ok(output),
             Err(answer) => Err(Outcome::Plain(answer)),
         },
-        Task::Log(drawing) => of_log(alloc, drawing, order.window, shelf, order.file),
-        Task::Bench => bench_of(alloc, order, shelf),
-        Task::Signals => unreachable!(),
+        Product::OfLog { drawing, window } => of_log(alloc, drawing, window, shelf, target.file),
+        Product::Bench {
+            samples,
+            name,
+            seed,
+        } => bench_of(alloc, target, samples, name, seed, shelf),
     }
 }
 
@@ -110,13 +118,6 @@ fn written<K: Sink>(out: &mut K, text: &[u8], outcome: Outcome) -> Outcome
     }
 }
 
-/// Whether what is asked for is written while samples are read.
-fn is_streamed(task: Task) -> bool
-    ensures { IsTrue result ↔ (task ≡ Signals) }
-{
-    matches!(task, Task::Signals)
-}
-
 /// Does what is asked for, and says what it comes to.
 fn follow<S: Shelf, K: Sink>(alloc: Global, order: &Order, shelf: &mut S, out: &mut K) -> Outcome
     ensures followed { IsFollowed (asked_in order.now) (call
@@ -126,12 +127,14 @@ fn follow<S: Shelf, K: Sink>(alloc: Global, order: &Order, shelf: &mut S, out: &
     ensures shelf_later { S.faults shelf.old ≤ S.faults shelf.new }
     ensures out_later { K.faults out.old ≤ K.faults out.new }
 {
-    if is_streamed(order.task) {
-        return of_samples(alloc, order, shelf, out);
-    }
-    match made(alloc, order, shelf) {
-        Ok(output) => written(out, &output.text, output.outcome),
-        Err(outcome) => outcome,
+    match order.task {
+        Task::Signals { samples, style } => {
+            of_samples(alloc, order.target.file, samples, &style, shelf, out)
+        }
+        Task::Whole(product) => match made(alloc, &order.target, product, shelf) {
+            Ok(output) => written(out, &output.text, output.outcome),
+            Err(outcome) => outcome,
+        },
     }
 }
 

@@ -14,7 +14,5 @@ mod replies;
 mod rtl;
 mod signals;
 
-pub use asking::{OrderFault, read_order};
 pub use calling::pipelens;
-pub use orders::{Drawing, Order, Question, Task};
 pub use outcomes::{Outcome, Reply};

@@ -4,12 +4,11 @@ ghost use Rattle.std.specs.Prelude.{◌≡◌, ◌≤◌, ◌⊎◌, length, IfO
 ghost use Rattle.pr_tool_answers.specs.declared.answers.Answer.{Answer};
 ghost use Rattle.pr_tool_modes.specs.Programs.{compile_answer, IsUncompiled};
 ghost use Rattle.pr_lens_why.specs.Verdicts.{IsPointing};
-ghost use Rattle.pr_lens_tool.specs.declared.orders.Question.TheVariants.{Why, Cost as AskCost, Graph};
-ghost use Rattle.pr_lens_tool.specs.Orders.{asked_in};
+ghost use Rattle.pr_lens_tool.specs.Asked.{Cost as AskCost, Graph, Why, question_in, target_in};
 ghost use Rattle.pr_lens_tool.specs.Programs.{AreSavings, IsExplanation, IsTold, bounds_for};
 
 use crate::accepted::accepted;
-use crate::orders::{Order, Question};
+use crate::orders::{Question, Target};
 use crate::outcomes::{Outcome, Output};
 use crate::rtl::rtl_of;
 use pr_base::Fabric;
@@ -48,16 +47,17 @@ pub fn bounds_of(fabric: Fabric) -> Bounds
 /// Why a program is refused, as a text.
 fn explained(
     alloc: Global,
-    order: &Order,
+    target: &Target,
+    json: bool,
     text: &[u8],
     explanation: &Explanation,
     answer: &Answer,
 ) -> Result<Vec<u8>, AllocError>
     requires { IsPointing text.now explanation.now }
     ensures { IfOk result (λ told.
-        IsExplanation (asked_in order.now) text.now explanation.now answer.now told.items) }
+        IsExplanation (target_in target.now) json text.now explanation.now answer.now told.items) }
 {
-    let bounds = bounds_of(order.fabric);
+    let bounds = bounds_of(target.fabric);
     let note = note_line(&bounds, answer);
     let mut code = Vec::new(alloc);
     put_code(&mut code, &explanation.fault)?;
@@ -70,14 +70,16 @@ fn explained(
         message: &explanation.message,
     };
     let mut told = Vec::new(alloc);
-    put_as(alloc, &mut told, order.json, order.file, text, &finding)?;
+    put_as(alloc, &mut told, json, target.file, text, &finding)?;
     Ok(told)
 }
 
 /// Why a program is refused, or that it is accepted.
 fn why<const N: usize, const P: usize>(
     alloc: Global,
-    order: &Order,
+    target: &Target,
+    json: bool,
+    warnings: bool,
     text: &[u8],
 ) -> Result<Output, Answer>
     requires short { length text.now ≤ 1048576 }
@@ -85,18 +87,19 @@ fn why<const N: usize, const P: usize>(
     requires most_columns { N ≤ 64 }
     requires registers { 2 ≤ P }
     requires most_registers { P ≤ 16 }
-    ensures told { IfOk result (λ o. IsTold Why N P (asked_in order.now) text.now o.outcome o.text.items) }
+    ensures told { IfOk result (λ o.
+        IsTold (Why json warnings) N P (target_in target.now) text.now o.outcome o.text.items) }
     ensures refused { IfErr result (λ a. a ≡ Answer.Memory) }
 {
-    match explain::<N, P>(alloc, text, order.narrowed)? {
+    match explain::<N, P>(alloc, text, target.narrowed)? {
         Verdict::Accepted => Ok(Output {
-            text: accepted(alloc, order, text)?,
+            text: accepted(alloc, json, warnings, target.file, text)?,
             outcome: Outcome::Plain(Answer::Ok),
         }),
         Verdict::Refused(explanation) => {
             let answer = answer_of(&explanation.fault);
             Ok(Output {
-                text: explained(alloc, order, text, &explanation, &answer)?,
+                text: explained(alloc, target, json, text, &explanation, &answer)?,
                 outcome: Outcome::Explained(answer),
             })
         }
@@ -133,7 +136,8 @@ fn savings_of<const N: usize, const P: usize>(
 /// What a program costs.
 fn cost<const N: usize, const P: usize>(
     alloc: Global,
-    order: &Order,
+    target: &Target,
+    samples: u32,
     text: &[u8],
 ) -> Result<Output, Answer>
     requires short { length text.now ≤ 1048576 }
@@ -141,14 +145,15 @@ fn cost<const N: usize, const P: usize>(
     requires most_columns { N ≤ 64 }
     requires registers { 2 ≤ P }
     requires most_registers { P ≤ 16 }
-    ensures told { IfOk result (λ o. IsTold AskCost N P (asked_in order.now) text.now o.outcome o.text.items) }
-    ensures refused { IfErr result (λ a. IsUncompiled N P order.now.narrowed text.now a ⊎ (a ≡ Answer.Memory)) }
+    ensures told { IfOk result (λ o.
+        IsTold (AskCost samples) N P (target_in target.now) text.now o.outcome o.text.items) }
+    ensures refused { IfErr result (λ a. IsUncompiled N P target.now.narrowed text.now a ⊎ (a ≡ Answer.Memory)) }
 {
-    match cost_of::<N, P>(alloc, text, order.narrowed) {
+    match cost_of::<N, P>(alloc, text, target.narrowed) {
         Ok(cost) => {
-            let savings = savings_of::<N, P>(alloc, text, !order.narrowed)?;
+            let savings = savings_of::<N, P>(alloc, text, !target.narrowed)?;
             Ok(Output {
-                text: put_cost(alloc, &cost, savings, N, u64::from(order.samples))?,
+                text: put_cost(alloc, &cost, savings, N, u64::from(samples))?,
                 outcome: Outcome::Plain(Answer::Ok),
             })
         }
@@ -159,7 +164,7 @@ fn cost<const N: usize, const P: usize>(
 /// The units of a program by stage with their wires.
 fn units<const N: usize, const P: usize>(
     alloc: Global,
-    order: &Order,
+    target: &Target,
     text: &[u8],
 ) -> Result<Output, Answer>
     requires short { length text.now ≤ 1048576 }
@@ -167,10 +172,10 @@ fn units<const N: usize, const P: usize>(
     requires most_columns { N ≤ 64 }
     requires registers { 2 ≤ P }
     requires most_registers { P ≤ 16 }
-    ensures told { IfOk result (λ o. IsTold Graph N P (asked_in order.now) text.now o.outcome o.text.items) }
-    ensures refused { IfErr result (λ a. IsUncompiled N P order.now.narrowed text.now a ⊎ (a ≡ Answer.Memory)) }
+    ensures told { IfOk result (λ o. IsTold Graph N P (target_in target.now) text.now o.outcome o.text.items) }
+    ensures refused { IfErr result (λ a. IsUncompiled N P target.now.narrowed text.now a ⊎ (a ≡ Answer.Memory)) }
 {
-    match layout_of::<N, P>(alloc, text, order.narrowed) {
+    match layout_of::<N, P>(alloc, text, target.narrowed) {
         Ok(layout) => Ok(Output {
             text: graph(alloc, &layout)?,
             outcome: Outcome::Plain(Answer::Ok),
@@ -182,7 +187,7 @@ fn units<const N: usize, const P: usize>(
 /// What is asked of a program.
 pub fn of_program<const N: usize, const P: usize>(
     alloc: Global,
-    order: &Order,
+    target: &Target,
     question: Question,
     text: &[u8],
 ) -> Result<Output, Answer>
@@ -191,13 +196,14 @@ pub fn of_program<const N: usize, const P: usize>(
     requires most_columns { N ≤ 64 }
     requires registers { 2 ≤ P }
     requires most_registers { P ≤ 16 }
-    ensures told { IfOk result (λ o. IsTold question N P (asked_in order.now) text.now o.outcome o.text.items) }
-    ensures refused { IfErr result (λ a. IsUncompiled N P order.now.narrowed text.now a ⊎ (a ≡ Answer.Memory)) }
+    ensures told { IfOk result (λ o.
+        IsTold (question_in question.entry) N P (target_in target.now) text.now o.outcome o.text.items) }
+    ensures refused { IfErr result (λ a. IsUncompiled N P target.now.narrowed text.now a ⊎ (a ≡ Answer.Memory)) }
 {
     match question {
-        Question::Why => why::<N, P>(alloc, order, text),
-        Question::Cost => cost::<N, P>(alloc, order, text),
-        Question::Graph => units::<N, P>(alloc, order, text),
-        Question::Rtl => rtl_of::<N, P>(alloc, order, text),
+        Question::Why { json, warnings } => why::<N, P>(alloc, target, json, warnings, text),
+        Question::Cost { samples } => cost::<N, P>(alloc, target, samples, text),
+        Question::Graph => units::<N, P>(alloc, target, text),
+        Question::Rtl { name } => rtl_of::<N, P>(alloc, target.narrowed, name, text),
     }
 }

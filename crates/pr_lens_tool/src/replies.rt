@@ -1,10 +1,10 @@
 //! What is replied, with the name of the file where that tells more.
 
 ghost use Rattle.std.specs.Prelude.{◌≡◌, ◌++◌, Some, None, option_map, IfOk, IfSome, OnOk};
-ghost use Rattle.pr_lens_tool.specs.Orders.{asked_in};
-ghost use Rattle.pr_lens_tool.specs.Replies.{answer_line, fabric_words, fault_line, foreign_line, line_for, narrow_words, refused_line, stream_line, why_line};
+ghost use Rattle.pr_lens_tool.specs.Asked.{asked_in, target_in, task_in};
+ghost use Rattle.pr_lens_tool.specs.Replies.{answer_line, fabric_words, fault_line, foreign_line, line_for, narrow_words, refused_line, samples_of, signed_of, stream_line, why_line};
 
-use crate::orders::Order;
+use crate::orders::{Order, Product, Target, Task};
 use crate::outcomes::{Outcome, Reply};
 use crate::programs::bounds_of;
 use pr_base::{Cap, Fabric};
@@ -31,24 +31,24 @@ fn narrow_words(narrowed: bool) -> &'static str
 }
 
 /// Adds which call tells more of a program that is refused.
-fn put_why(line: &mut Vec<u8>, order: &Order) -> Result<(), AllocError>
-    ensures { OnOk result (line.new.items ≡ line.old.items ++ why_line (asked_in order.now)) }
+fn put_why(line: &mut Vec<u8>, target: &Target) -> Result<(), AllocError>
+    ensures { OnOk result (line.new.items ≡ line.old.items ++ why_line (target_in target.now)) }
 {
     put(line, "`pipelens why ")?;
-    put(line, order.file)?;
-    put(line, fabric_words(order.fabric))?;
-    put(line, narrow_words(order.narrowed))?;
+    put(line, target.file)?;
+    put(line, fabric_words(target.fabric))?;
+    put(line, narrow_words(target.narrowed))?;
     put(line, "` tells more\n")
 }
 
 /// The line for a program that is refused, and which call tells more.
-fn refused_line(alloc: Global, order: &Order, answer: &Answer) -> Result<Vec<u8>, AllocError>
-    ensures { IfOk result (λ line. line.items ≡ refused_line (asked_in order.now) answer.now) }
+fn refused_line(alloc: Global, target: &Target, answer: &Answer) -> Result<Vec<u8>, AllocError>
+    ensures { IfOk result (λ line. line.items ≡ refused_line (target_in target.now) answer.now) }
 {
-    let bounds = bounds_of(order.fabric);
+    let bounds = bounds_of(target.fabric);
     let note = note_line(&bounds, answer);
     let mut line = Vec::from_slice(alloc, note.as_bytes())?;
-    put_why(&mut line, order)?;
+    put_why(&mut line, target)?;
     Ok(line)
 }
 
@@ -74,11 +74,21 @@ fn stream_line(alloc: Global, name: &str) -> Result<Vec<u8>, AllocError>
     Ok(line)
 }
 
-/// The line for a name that no stream has, where memory does not want.
-fn foreign_line(alloc: Global, order: &Order, place: usize) -> Option<Vec<u8>>
-    ensures { IfSome result (λ line. foreign_line (asked_in order.now) place ≡ Some line.items) }
+/// The names that a task shows as two's complement.
+fn signed_of<'a>(task: Task<'a>) -> Option<&'a str>
+    ensures { option_map (λ s. s.now) result ≡ signed_of (task_in task.entry) }
 {
-    let name = name_at(order.signed?, place)?;
+    match task {
+        Task::Whole(_) => None,
+        Task::Signals { samples: _, style } => style.signed,
+    }
+}
+
+/// The line for a name that no stream has, where memory does not want.
+fn foreign_line(alloc: Global, task: Task, place: usize) -> Option<Vec<u8>>
+    ensures { IfSome result (λ line. foreign_line (task_in task.entry) place ≡ Some line.items) }
+{
+    let name = name_at(signed_of(task)?, place)?;
     match stream_line(alloc, name) {
         Ok(line) => Some(line),
         Err(_) => None,
@@ -86,30 +96,55 @@ fn foreign_line(alloc: Global, order: &Order, place: usize) -> Option<Vec<u8>>
 }
 
 /// The line of an answer to an order, where it tells more than the answer's own.
-fn answer_line(alloc: Global, order: &Order, answer: Answer) -> Result<Option<Vec<u8>>, AllocError>
-    ensures { IfOk result (λ line. option_map (λ v. v.items) line ≡ answer_line (asked_in order.now) answer) }
+fn answer_line(
+    alloc: Global,
+    target: &Target,
+    answer: Answer,
+) -> Result<Option<Vec<u8>>, AllocError>
+    ensures { IfOk result (λ line. option_map (λ v. v.items) line ≡ answer_line (target_in target.now) answer) }
 {
     match answer {
-        Answer::ReadFault => Ok(Some(fault_line(alloc, order.file)?)),
+        Answer::ReadFault => Ok(Some(fault_line(alloc, target.file)?)),
         Answer::Syntax { token: _ } | Answer::Scope { rule: _, item: _ } => {
-            Ok(Some(refused_line(alloc, order, &answer)?))
+            Ok(Some(refused_line(alloc, target, &answer)?))
         }
         Answer::NoWidth { equation: _ } | Answer::NoFit { unit: _ } => {
-            Ok(Some(refused_line(alloc, order, &answer)?))
+            Ok(Some(refused_line(alloc, target, &answer)?))
         }
         Answer::Limit {
             which: Cap::ProgramBytes,
         } => Ok(None),
-        Answer::Limit { which: _ } => Ok(Some(refused_line(alloc, order, &answer)?)),
+        Answer::Limit { which: _ } => Ok(Some(refused_line(alloc, target, &answer)?)),
         _ => Ok(None),
     }
 }
 
-/// The line for a second file that cannot be read, where there is one and memory does not want.
-fn second_line(alloc: Global, order: &Order) -> Option<Vec<u8>>
-    ensures { IfSome result (λ line. option_map fault_line (asked_in order.now).second ≡ Some line.items) }
+/// The samples of a task, where it has some.
+fn samples_of<'a>(task: Task<'a>) -> Option<&'a str>
+    ensures { option_map (λ s. s.now) result ≡ samples_of (task_in task.entry) }
 {
-    match fault_line(alloc, order.second?) {
+    match task {
+        Task::Signals { samples, style: _ } => Some(samples),
+        Task::Whole(product) => match product {
+            Product::Bench {
+                samples,
+                name: _,
+                seed: _,
+            } => Some(samples),
+            Product::OfProgram(_) => None,
+            Product::OfLog {
+                drawing: _,
+                window: _,
+            } => None,
+        },
+    }
+}
+
+/// The line for samples that cannot be read, where there are some and memory does not want.
+fn samples_line(alloc: Global, task: Task) -> Option<Vec<u8>>
+    ensures { IfSome result (λ line. option_map fault_line (samples_of (task_in task.entry)) ≡ Some line.items) }
+{
+    match fault_line(alloc, samples_of(task)?) {
         Ok(line) => Some(line),
         Err(_) => None,
     }
@@ -120,12 +155,12 @@ fn line_for(alloc: Global, order: &Order, outcome: Outcome) -> Option<Vec<u8>>
     ensures { IfSome result (λ line. line_for (asked_in order.now) outcome ≡ Some line.items) }
 {
     match outcome {
-        Outcome::Plain(answer) => match answer_line(alloc, order, answer) {
+        Outcome::Plain(answer) => match answer_line(alloc, &order.target, answer) {
             Ok(line) => line,
             Err(_) => None,
         },
-        Outcome::Streamed(Answer::ReadFault) => second_line(alloc, order),
-        Outcome::NoStream { place } => foreign_line(alloc, order, place),
+        Outcome::Streamed(Answer::ReadFault) => samples_line(alloc, order.task),
+        Outcome::NoStream { place } => foreign_line(alloc, order.task, place),
         _ => None,
     }
 }
@@ -137,7 +172,7 @@ pub fn reply_of(alloc: Global, order: &Order, outcome: Outcome) -> Reply
 {
     Reply {
         outcome,
-        bounds: bounds_of(order.fabric),
+        bounds: bounds_of(order.target.fabric),
         line: line_for(alloc, order, outcome),
     }
 }

@@ -6,7 +6,6 @@ ghost use Rattle.pr_tool_modes.specs.Programs.{IsUncompiled};
 ghost use Rattle.pr_lens_tool.specs.Modules.{IsModuleOrLong};
 
 use crate::compiling::compilation_of;
-use crate::orders::Order;
 use crate::outcomes::{Outcome, Output};
 use crate::programs::answer_of;
 use pr_lens_rtl_text::{NoText, rtl};
@@ -17,7 +16,8 @@ use std::alloc::Global;
 #[tactic(auto, using(crate::proofs::ModuleLemmas::module_is, crate::proofs::ModuleLemmas::long_is))]
 pub fn rtl_of<const N: usize, const P: usize>(
     alloc: Global,
-    order: &Order,
+    narrowed: bool,
+    name: &str,
     text: &[u8],
 ) -> Result<Output, Answer>
     requires short { length text.now ≤ 1048576 }
@@ -26,14 +26,14 @@ pub fn rtl_of<const N: usize, const P: usize>(
     requires registers { 2 ≤ P }
     requires most_registers { P ≤ 16 }
     ensures told { IfOk result (λ o.
-        IsModuleOrLong N P order.now.narrowed text.now order.now.name.now o.outcome o.text.items) }
-    ensures refused { IfErr result (λ a. IsUncompiled N P order.now.narrowed text.now a ⊎ (a ≡ Answer.Memory)) }
+        IsModuleOrLong N P narrowed text.now name.now o.outcome o.text.items) }
+    ensures refused { IfErr result (λ a. IsUncompiled N P narrowed text.now a ⊎ (a ≡ Answer.Memory)) }
 {
-    let made = match compilation_of::<N, P>(alloc, text, order.narrowed) {
+    let made = match compilation_of::<N, P>(alloc, text, narrowed) {
         Ok(made) => made,
         Err(fault) => return Err(answer_of(&fault)),
     };
-    match rtl::<N, P>(alloc, order.name, &made.front.scoped.program, &made.conf) {
+    match rtl::<N, P>(alloc, name, &made.front.scoped.program, &made.conf) {
         Ok(text) => Ok(Output {
             text,
             outcome: Outcome::Plain(Answer::Ok),

@@ -3,10 +3,9 @@
 ghost use Rattle.std.specs.Prelude.{◌≡◌, ◌≤◌, IfErr, IfOk};
 ghost use Rattle.pr_tool_modes.specs.Programs.{IsLoaded, IsNotLoaded};
 ghost use Rattle.pr_lens_signals.specs.Calls.{call};
-ghost use Rattle.pr_lens_tool.specs.Orders.{asked_in};
-ghost use Rattle.pr_lens_tool.specs.Streams.{TellsStreams, form_of};
+ghost use Rattle.pr_lens_signals.specs.Manners.{manner_of};
+ghost use Rattle.pr_lens_tool.specs.Streams.{TellsStreams};
 
-use crate::orders::Order;
 use crate::outcomes::Outcome;
 use crate::programs::answer_of;
 use pr_base::Cap;
@@ -14,7 +13,6 @@ use pr_compile::CompileFault;
 use pr_compile_front::{Front, read_program};
 use pr_edge::{Shelf, Sink};
 use pr_lens_signals::{NoStream, Style, signals};
-use pr_lens_tracks::Form;
 use pr_tool::Answer;
 use pr_tool_modes::read_file;
 use std::alloc::Global;
@@ -35,40 +33,27 @@ fn load<S: Shelf>(alloc: Global, shelf: &mut S, name: &str) -> Result<Front, Ans
     }
 }
 
-/// The kind of the text of streams.
-fn form_of(csv: bool) -> Form
-    ensures { result ≡ form_of csv }
-{
-    if csv { Form::Csv } else { Form::Wave }
-}
-
 /// Writes what every named stream of the program of a file is at every sample of another, and says what it comes to.
 pub fn of_samples<S: Shelf, K: Sink>(
     alloc: Global,
-    order: &Order,
+    name: &str,
+    samples: &str,
+    style: &Style,
     shelf: &mut S,
     out: &mut K,
 ) -> Outcome
-    ensures told { TellsStreams (asked_in order.now) (call
+    ensures told { TellsStreams name.now samples.now (manner_of style.now) (call
         (S.told shelf.old) (S.faults shelf.old) (S.faults shelf.new)
         (K.told out.old) (K.told out.new) (K.faults out.old) (K.faults out.new)) result }
     ensures same { S.told shelf.new ≡ S.told shelf.old }
     ensures later { S.faults shelf.old ≤ S.faults shelf.new }
     ensures out_later { K.faults out.old ≤ K.faults out.new }
 {
-    let samples = match order.second {
-        Some(samples) => samples,
-        None => return Outcome::Usage,
-    };
-    let front = match load(alloc, shelf, order.file) {
+    let front = match load(alloc, shelf, name) {
         Ok(front) => front,
         Err(answer) => return Outcome::Plain(answer),
     };
-    let style = Style {
-        form: form_of(order.csv),
-        signed: order.signed,
-    };
-    match signals(alloc, front, &style, samples, shelf, out) {
+    match signals(alloc, front, style, samples, shelf, out) {
         Ok(answer) => Outcome::Streamed(answer),
         Err(NoStream { place }) => Outcome::NoStream { place },
     }

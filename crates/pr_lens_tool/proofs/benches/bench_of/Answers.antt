@@ -1,8 +1,6 @@
-use Rattle.std.proofs.Common.{Bor, ℕ, List, ap}
-use Rattle.std.specs.Prelude.{option_map}
 use Rattle.std.proofs.lemmas.Result.{IfErr-weaker, IfOk-weaker}
 use Rattle.pr_lens_bench.specs.Benches.{IsBench}
-use Rattle.pr_lens_tool.specs.Orders.{asked_in}
+use Rattle.pr_lens_tool.specs.Asked.{target_in}
 use Rattle.pr_lens_tool.proofs.BenchLemmas.{bench_made, bench_unmade}
 use Rattle.pr_lens_tool.proofs.benches.bench_of.Goals as goal
 
@@ -10,12 +8,12 @@ pub returns-clause-made : goal.returns-clause-made
 returns-clause-made g c =
     let told = g.S.Shelf.told c.args.shelf.now in
     IfOk-weaker c.tried.result _ _ (λ o h.
-    bench_made told _ (asked_in c.args.order.now) c.in-Some.samples.now c.in-Ok.text.items c.in-Ok-planned_on.trial c.in-Ok.ensures.text c.in-Ok.ensures.short (rw c.deref.ensures.value at c.in-Ok-planned_on.ensures.planned)
-    (ap (option_map (λ (s : Bor (List ℕ)). s.now)) c.in-Some.is) c.read_file.ensures.same (λ t samples program plan. IsBench t samples program plan o.text.items) h) c.tried.ensures.made
+    bench_made told _ (target_in c.args.target.now) c.args.samples.now c.args.name.now c.args.seed c.in-Ok.text.items c.in-Ok-planned_on.trial c.in-Ok.ensures.text c.in-Ok.ensures.short (rw c.deref.ensures.value at c.in-Ok-planned_on.ensures.planned)
+    c.read_file.ensures.same (λ t samples program plan. IsBench t samples program plan o.text.items) h) c.tried.ensures.made
 
 pub returns-clause-refused : goal.returns-clause-refused
 returns-clause-refused g c =
     let told = g.S.Shelf.told c.args.shelf.now in
     IfErr-weaker c.tried.result _ _ (λ o h.
-    bench_unmade told _ (asked_in c.args.order.now) c.in-Some.samples.now c.in-Ok.text.items c.in-Ok-planned_on.trial c.in-Ok.ensures.text c.in-Ok.ensures.short (rw c.deref.ensures.value at c.in-Ok-planned_on.ensures.planned)
-    (ap (option_map (λ (s : Bor (List ℕ)). s.now)) c.in-Some.is) c.read_file.ensures.same _ _ _ o c.read_file.ensures.later h) c.tried.ensures.refused
+    bench_unmade told _ (target_in c.args.target.now) c.args.samples.now c.args.name.now c.args.seed c.in-Ok.text.items c.in-Ok-planned_on.trial c.in-Ok.ensures.text c.in-Ok.ensures.short (rw c.deref.ensures.value at c.in-Ok-planned_on.ensures.planned)
+    c.read_file.ensures.same _ _ _ o c.read_file.ensures.later h) c.tried.ensures.refused

@@ -1,4 +1,4 @@
-use Rattle.std.proofs.Common.{arith, rules}
+use Rattle.std.proofs.Common.{arith}
 use Rattle.std.proofs.lemmas.Result.{err_from_is_err_and}
 use Rattle.pr_compile.proofs.Steps.{front_answer, net_answer, at_exit}
 use Rattle.pr_lens_tool.proofs.ModuleLemmas.{compilation_is}

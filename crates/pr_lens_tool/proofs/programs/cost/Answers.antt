@@ -1,5 +1,4 @@
 use Rattle.std.proofs.Common.{refl}
-use Rattle.pr_lens_tool.specs.Orders.{asked_in}
 use Rattle.pr_lens_tool.proofs.ProgramLemmas.{cost_told}
 use Rattle.pr_lens_tool.proofs.programs.cost.Goals as goal
 
@@ -7,4 +6,4 @@ pub returns-in_ok-put_cost-in-Ok-clause-told : goal.returns-in_ok-put_cost-in-Ok
 returns-in_ok-put_cost-in-Ok-clause-told g c =
     let written = c.in_ok-put_cost-in-Ok in
     let savings = c.in_ok-savings-in-Ok in
-    (refl, cost_told g.row.N g.row.P (asked_in c.args.order.now) c.args.text.now written.field-0.items c.in-Ok.cost savings.savings _ c.from.result c.in-Ok.ensures.cost refl savings.ensures.saved c.from.ensures written.ensures)
+    (refl, cost_told g.row.N g.row.P c.args.target.now.narrowed c.args.samples c.args.text.now written.field-0.items c.in-Ok.cost savings.savings _ c.from.result c.in-Ok.ensures.cost refl savings.ensures.saved c.from.ensures written.ensures)

@@ -7,6 +7,6 @@ use Rattle.pr_lens_tool.proofs.replies.put_why.Goals as goal
 pub returns : goal.returns
 unfolding why_line
 returns c =
-    let order = c.args.order.now in
-    on_ok_weaker c.put-5.result (λ h. five_put c.args.line.now.items (codes "`pipelens why ") order.file.now (fabric_words order.fabric) (narrow_words order.narrowed) (codes "` tells more\n")
+    let target = c.args.target.now in
+    on_ok_weaker c.put-5.result (λ h. five_put c.args.line.now.items (codes "`pipelens why ") target.file.now (fabric_words target.fabric) (narrow_words target.narrowed) (codes "` tells more\n")
     c.in_ok-put.ensures c.in_ok-put-2.ensures (rw c.fabric_words.ensures at c.in_ok-put-3.ensures) (rw c.narrow_words.ensures at c.in_ok-put-4.ensures) h) c.put-5.ensures
