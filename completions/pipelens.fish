@@ -11,7 +11,7 @@ complete -c pipelens -n __fish_use_subcommand -a testbench -d 'Write a test benc
 complete -c pipelens -l fabric -x -a 'base wide' -d 'Fabric to compile for'
 complete -c pipelens -l narrow -d 'Leave out what no output shows'
 complete -c pipelens -l samples -x -d 'Length of the run that cost tells of'
-complete -c pipelens -l json -d 'Write the findings of why as JSON'
+complete -c pipelens -l json -d 'Write what why and cost tell as JSON'
 complete -c pipelens -l csv -d 'Write streams as lines of numbers'
 complete -c pipelens -l signed -x -d 'Streams to show as two\'s complement'
 complete -c pipelens -l no-warnings -d 'Leave out the warnings of why'

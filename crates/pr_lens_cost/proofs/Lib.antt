@@ -1,3 +1,4 @@
 mod CostLemmas
+mod Examples
 mod RateLemmas
 mod TextLemmas

@@ -1,5 +1,5 @@
 -- Pieces of a text, and the fullest stage so far.
-use Rattle.std.proofs.Common.{◌≡◌, ◌++◌, ◌+◌, ◌<◌, ◌≤◌, ℕ, List, length, get_or, inl, inr, ap, append_assoc, arith}
+use Rattle.std.proofs.Common.{◌≡◌, ◌++◌, ◌+◌, ◌<◌, ◌≤◌, ℕ, List, [], length, get_or, inl, inr, ap, append_assoc, arith}
 use Rattle.std.proofs.lemmas.Bool.{cases_lt}
 use Rattle.std.proofs.lemmas.List.{get_or-map}
 use Rattle.pr_lens_cost.specs.declared.counts.StageCost.{StageCost}
@@ -12,6 +12,10 @@ three_put t a b c h1 h2 h3 = rw (h3, h2, h1) (simp append_assoc)
 pub seven_put : (t a b c d e f g : List ℕ) {t1 t2 t3 t4 : List ℕ} → t1 ≡ t ++ a ++ b → t2 ≡ t1 ++ c ++ d → t3 ≡ t2 ++ e ++ f → t4 ≡ t3 ++ g
     → t4 ≡ t ++ (a ++ b ++ c ++ d ++ e ++ f ++ g)
 seven_put t a b c d e f g h1 h2 h3 h4 = rw (h4, h3, h2, h1) (simp append_assoc)
+
+pub object_put : (a b c d e f : List ℕ) {t0 t1 t2 t3 t4 : List ℕ} → t0 ≡ [] → t1 ≡ t0 ++ a → t2 ≡ t1 ++ b ++ c ++ d → t3 ≡ t2 ++ e → t4 ≡ t3 ++ f
+    → t4 ≡ a ++ b ++ c ++ d ++ e ++ f
+object_put a b c d e f h0 h1 h2 h3 h4 = rw (h4, h3, h2, h1, h0) (simp append_assoc)
 
 -- ---- the fullest stage
 -- among the first so many stages this one is the first that has most in use; where none has anything, it is the first of all

@@ -1,3 +1,4 @@
 pub mod Rates
 pub mod Costs
 pub mod Texts
+pub mod Objects

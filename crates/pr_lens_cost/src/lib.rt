@@ -5,6 +5,7 @@ mod amounts;
 mod costs;
 mod counts;
 mod cycles;
+mod objects;
 mod streams;
 mod tables;
 
@@ -12,4 +13,5 @@ pub use amounts::Cost;
 pub use costs::cost_of;
 pub use counts::StageCost;
 pub use cycles::{Rate, Row, rate_law, rows_of};
-pub use tables::{Savings, put_cost};
+pub use objects::{Setting, cost_as};
+pub use tables::Savings;

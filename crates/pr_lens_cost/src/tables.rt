@@ -74,7 +74,7 @@ fn put_amounts(text: &mut Vec<u8>, cost: &Cost, savings: Option<Savings>) -> Res
 }
 
 /// The stage that has most in use, the first of several.
-fn fullest(stages: &[StageCost]) -> (usize, usize)
+pub fn fullest(stages: &[StageCost]) -> (usize, usize)
     ensures { IsFullest stages.now result.0 result.1 }
 {
     let mut number = 0;

@@ -74,3 +74,59 @@ output y = a ^ b ^ s[2];
 fn streams_by_units(rt: HostRuntime) -> Result<(), AllocError> {
     check_calls(&rt, rt.alloc(), "", STREAMS)
 }
+
+/// Costs as JSON: two inputs of a byte stand in the first stage, and what joins them in the second.
+const OBJECTS: &str = "\
+$ pipelens cost p --json --samples 10
+input a:8;
+input b:8;
+output y = a ^ b;
+= 0
+{\"fabric\":\"base\",\"narrowed\":false,\"columns\":16,\"equations\":3,\"units\":3,\
+\"other_way\":{\"narrowed\":true,\"units\":3,\"stages\":2},\"fullest\":{\"stage\":0,\"columns\":2},\
+\"streams\":[{\"stream\":\"y\",\"units\":1}],\
+\"stages\":[{\"columns\":2,\"registers\":2,\"states\":0},{\"columns\":1,\"registers\":1,\"states\":0}],\
+\"samples\":10,\"runs\":[{\"stripes\":2,\"rate\":{\"samples\":1,\"cycles\":1},\"cycles\":12},\
+{\"stripes\":3,\"rate\":{\"samples\":1,\"cycles\":1},\"cycles\":12},\
+{\"stripes\":4,\"rate\":{\"samples\":1,\"cycles\":1},\"cycles\":12},\
+{\"stripes\":7,\"rate\":{\"samples\":1,\"cycles\":1},\"cycles\":12},\
+{\"stripes\":8,\"rate\":{\"samples\":1,\"cycles\":1},\"cycles\":12},\
+{\"stripes\":16,\"rate\":{\"samples\":1,\"cycles\":1},\"cycles\":12},\
+{\"stripes\":32,\"rate\":{\"samples\":1,\"cycles\":1},\"cycles\":12},\
+{\"stripes\":64,\"rate\":{\"samples\":1,\"cycles\":1},\"cycles\":12},\
+{\"stripes\":128,\"rate\":{\"samples\":1,\"cycles\":1},\"cycles\":12},\
+{\"stripes\":256,\"rate\":{\"samples\":1,\"cycles\":1},\"cycles\":12}]}
+$ pipelens cost p --json --fabric wide --narrow
+= 0
+{\"fabric\":\"wide\",\"narrowed\":true,\"columns\":32,...\"other_way\":{\"narrowed\":false,\"units\":4,\"stages\":4}...
+$ pipelens cost p --json
+= 0
+{\"fabric\":\"base\",...\"streams\":[{\"stream\":\"a\",\"units\":2},{\"stream\":\"y\",\"units\":1}],\"stages\":[...
+$ pipelens cost p --json
+= 0
+{...,\"runs\":[{\"stripes\":2,\"rate\":{\"samples\":1,\"cycles\":4},\"cycles\":4001},{\"stripes\":3,...
+$ pipelens cost p --json
+input x:8;
+let s[0] = x;
+for i in 1..2 { let s[i] = s[i-1] ^ x; }
+output y = s[1];
+= 0
+{...,\"streams\":[{\"stream\":\"s[1]\",\"units\":1}],\"stages\":[...
+$ pipelens cost p --json --narrow
+input x:64;
+rec s:64 = 1 by (s@1 ^ x) & s@1;
+output y = s{31..0};
+= 0
+{\"fabric\":\"base\",\"narrowed\":true,...,\"other_way\":null,\"fullest\":...
+$ pipelens cost p --json
+input x:8
+output y = x;
+= 3
+! syntax: token 4
+`pipelens why p` tells more
+";
+
+#[test]
+fn costs_as_json(rt: HostRuntime) -> Result<(), AllocError> {
+    check_calls(&rt, rt.alloc(), PROGRAM, OBJECTS)
+}

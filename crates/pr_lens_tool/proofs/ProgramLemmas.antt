@@ -7,7 +7,7 @@ use Rattle.pr_lens_why.specs.Verdicts.{IsExplained}
 use Rattle.pr_lens_cost.specs.declared.amounts.Cost.{Cost}
 use Rattle.pr_lens_cost.specs.declared.tables.Savings.{Savings}
 use Rattle.pr_lens_cost.specs.Costs.{IsCost}
-use Rattle.pr_lens_cost.specs.Texts.{IsCostText}
+use Rattle.pr_lens_cost.specs.Objects.{IsToldAs}
 use Rattle.pr_lens_tool.specs.Asked.{AskedTarget}
 use Rattle.pr_lens_show.specs.declared.findings.Finding.{Finding}
 use Rattle.pr_lens_show.specs.Findings.{IsPut}
@@ -26,12 +26,12 @@ pub why_told : (N P : ℕ) (target : AskedTarget) (text written : List ℕ) (jso
     → IsExplanation target json text e answer written → IsWhy N P target json text answer written
 why_told N P target text written json e answer is answers told = record { explanation = e; is = is; answers = answers; told = told }
 
-pub cost_told : (N P : ℕ) (narrowed : Bool) (samples : ℕ) (text written : List ℕ) (cost : Cost) (savings : Option Savings) (other : Bool) (count : ℕ) → IsCost N P narrowed text cost → other ≡ not narrowed
-    → AreSavings N P other text savings → count ≡ samples → IsCostText cost savings N count written → IsCosted N P narrowed samples text written
-cost_told N P narrowed samples text written cost savings other count is way saved same told = record {
+pub cost_told : (N P : ℕ) (target : AskedTarget) (json : Bool) (samples : ℕ) (text written : List ℕ) (cost : Cost) (savings : Option Savings) (other : Bool) (count : ℕ) → IsCost N P target.narrowed text cost → other ≡ not target.narrowed
+    → AreSavings N P other text savings → count ≡ samples → IsToldAs json cost savings N (record { fabric = target.fabric; narrowed = target.narrowed; samples = count }) written → IsCosted N P target json samples text written
+cost_told N P target json samples text written cost savings other count is way saved same told = record {
   cost = cost;
   is = is;
   savings = savings;
   saved = subst (λ (b : Bool). AreSavings N P b text savings) way saved;
-  told = subst (λ (n : ℕ). IsCostText cost savings N n written) same told;
+  told = subst (λ (n : ℕ). IsToldAs json cost savings N (record { fabric = target.fabric; narrowed = target.narrowed; samples = n }) written) same told;
 }

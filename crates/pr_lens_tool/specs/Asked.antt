@@ -20,7 +20,7 @@ pub record AskedTarget : Type 0 where
 -- of a program
 pub data AskedQuestion : Type 0 where
   Why : (json warnings : Bool) → AskedQuestion
-  Cost : (samples : ℕ) → AskedQuestion
+  Cost : (json : Bool) (samples : ℕ) → AskedQuestion
   Graph : AskedQuestion
   Rtl : (name : Text) → AskedQuestion
 
@@ -45,7 +45,7 @@ target_in target = record { file = target.file.now; fabric = target.fabric; narr
 
 abbrev pub question_in : Question → AskedQuestion
 question_in (Question.Why json warnings) = Why json warnings
-question_in (Question.Cost samples) = Cost samples
+question_in (Question.Cost json samples) = Cost json samples
 question_in Question.Graph = Graph
 question_in (Question.Rtl name) = Rtl name.now
 

@@ -73,7 +73,7 @@ help_text =
     ++ codes "  --fabric F     base has 16 columns and 8 registers, wide 32 and 16; base without it\n"
     ++ codes "  --narrow       leaves out what no output shows\n"
     ++ codes "  --samples N    how long the run is whose cycles `cost` tells; 1000 without it\n"
-    ++ codes "  --json         `why` tells each finding as a line of JSON\n"
+    ++ codes "  --json         a line of JSON for each finding of `why`, and one for all that `cost` tells\n"
     ++ codes "  --no-warnings  `why` points out nothing in a program that is accepted\n"
     ++ codes "  --name MODULE  how the module of `rtl` is named; pipeline without it\n"
     ++ codes "  --csv          `signals` writes lines of numbers in place of a waveform\n"

@@ -22,7 +22,7 @@ use Rattle.pr_lens_why.specs.Verdicts.{IsExplained}
 use Rattle.pr_lens_cost.specs.declared.amounts.Cost.{Cost as ProgramCost}
 use Rattle.pr_lens_cost.specs.declared.tables.Savings.{Savings}
 use Rattle.pr_lens_cost.specs.Costs.{IsCost}
-use Rattle.pr_lens_cost.specs.Texts.{IsCostText}
+use Rattle.pr_lens_cost.specs.Objects.{IsToldAs}
 use Rattle.pr_lens_graph.specs.declared.layouts.Layout.{Layout}
 use Rattle.pr_lens_graph.specs.Graphs.{graph_of}
 use Rattle.pr_lens_graph.specs.Layouts.{IsLayout}
@@ -87,13 +87,13 @@ abbrev pub AreSavings : ℕ → ℕ → Bool → List ℕ → Option Savings →
 AreSavings N P narrowed text (Some savings) = IsSaving N P narrowed text savings
 AreSavings N P narrowed text None = HasRefusal N P narrowed text
 
--- what a text costs is written, and what the other way saves
-pub record IsCosted (N P : ℕ) (narrowed : Bool) (samples : ℕ) (text written : List ℕ) : Type 0 where
+-- what a text costs is written, and what the other way saves, as JSON or as people read it
+pub record IsCosted (N P : ℕ) (target : AskedTarget) (json : Bool) (samples : ℕ) (text written : List ℕ) : Type 0 where
   pub cost : ProgramCost
-  pub is : IsCost N P narrowed text cost
+  pub is : IsCost N P target.narrowed text cost
   pub savings : Option Savings
-  pub saved : AreSavings N P (not narrowed) text savings
-  pub told : IsCostText cost savings N samples written
+  pub saved : AreSavings N P (not target.narrowed) text savings
+  pub told : IsToldAs json cost savings N (record { fabric = target.fabric; narrowed = target.narrowed; samples = samples }) written
 
 -- ---- graph
 -- a text has units with stages, and their graph is written
@@ -106,7 +106,7 @@ pub record IsGraphed (N P : ℕ) (narrowed : Bool) (text written : List ℕ) : T
 -- what is told of a text that is asked so, and what is written
 abbrev pub IsTold : AskedQuestion → ℕ → ℕ → AskedTarget → List ℕ → Outcome → List ℕ → Type 0
 IsTold (Why json warnings) N P target text outcome written = IsSaid N P target json warnings text outcome written
-IsTold (Cost samples) N P target text outcome written = (outcome ≡ Plain Answer.Ok) × IsCosted N P target.narrowed samples text written
+IsTold (Cost json samples) N P target text outcome written = (outcome ≡ Plain Answer.Ok) × IsCosted N P target json samples text written
 IsTold Graph N P target text outcome written = (outcome ≡ Plain Answer.Ok) × IsGraphed N P target.narrowed text written
 IsTold (Rtl name) N P target text outcome written = IsModuleOrLong N P target.narrowed text name outcome written
 

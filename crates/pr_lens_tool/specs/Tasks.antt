@@ -65,7 +65,7 @@ said_in options = record {
 abbrev pub one_file : Text → Said → Option AskedProduct
 one_file name said =
     if bytes_eq name (codes "why") then Some (OfProgram (Why said.json said.warnings))
-    else if bytes_eq name (codes "cost") then Some (OfProgram (Cost said.samples))
+    else if bytes_eq name (codes "cost") then Some (OfProgram (Cost said.json said.samples))
     else if bytes_eq name (codes "graph") then Some (OfProgram Graph)
     else if bytes_eq name (codes "rtl") then Some (OfProgram (Rtl said.name))
     else if bytes_eq name (codes "wave") then Some (OfLog Drawing.Wave said.window)

@@ -242,6 +242,7 @@ fn one_file<'a>(task: &str, options: &Options<'a>) -> Option<Product<'a>>
             warnings: options.warnings,
         })),
         "cost" => Some(Product::OfProgram(Question::Cost {
+            json: options.json,
             samples: options.samples,
         })),
         "graph" => Some(Product::OfProgram(Question::Graph)),

@@ -45,7 +45,7 @@ usage: pipelens TASK FILE [SAMPLES] [--fabric F] [--narrow] [--samples N] [--jso
   --fabric F     base has 16 columns and 8 registers, wide 32 and 16; base without it
   --narrow       leaves out what no output shows
   --samples N    how long the run is whose cycles `cost` tells; 1000 without it
-  --json         `why` tells each finding as a line of JSON
+  --json         a line of JSON for each finding of `why`, and one for all that `cost` tells
   --no-warnings  `why` points out nothing in a program that is accepted
   --name MODULE  how the module of `rtl` is named; pipeline without it
   --csv          `signals` writes lines of numbers in place of a waveform

@@ -20,8 +20,8 @@ pub struct Target<'a> {
 pub enum Question<'a> {
     /// Why it is refused, or what is pointed out in it. Findings are told for people or as JSON.
     Why { json: bool, warnings: bool },
-    /// What it costs, and the cycles of a run of so many samples.
-    Cost { samples: u32 },
+    /// What it costs, and the cycles of a run of so many samples, for people or as JSON.
+    Cost { json: bool, samples: u32 },
     /// Its units by stage, with their wires.
     Graph,
     /// Its stages as a module of this name in Verilog.

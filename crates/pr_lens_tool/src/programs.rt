@@ -13,7 +13,7 @@ use crate::outcomes::{Outcome, Output};
 use crate::rtl::rtl_of;
 use pr_base::Fabric;
 use pr_compile::CompileFault;
-use pr_lens_cost::{Savings, cost_of, put_cost};
+use pr_lens_cost::{Savings, Setting, cost_as, cost_of};
 use pr_lens_graph::{graph, layout_of};
 use pr_lens_show::{Finding, Severity, put_as};
 use pr_lens_why::{Explanation, Verdict, explain, put_code};
@@ -137,6 +137,7 @@ fn savings_of<const N: usize, const P: usize>(
 fn cost<const N: usize, const P: usize>(
     alloc: Global,
     target: &Target,
+    json: bool,
     samples: u32,
     text: &[u8],
 ) -> Result<Output, Answer>
@@ -146,14 +147,19 @@ fn cost<const N: usize, const P: usize>(
     requires registers { 2 ≤ P }
     requires most_registers { P ≤ 16 }
     ensures told { IfOk result (λ o.
-        IsTold (AskCost samples) N P (target_in target.now) text.now o.outcome o.text.items) }
+        IsTold (AskCost json samples) N P (target_in target.now) text.now o.outcome o.text.items) }
     ensures refused { IfErr result (λ a. IsUncompiled N P target.now.narrowed text.now a ⊎ (a ≡ Answer.Memory)) }
 {
     match cost_of::<N, P>(alloc, text, target.narrowed) {
         Ok(cost) => {
             let savings = savings_of::<N, P>(alloc, text, !target.narrowed)?;
+            let setting = Setting {
+                fabric: target.fabric,
+                narrowed: target.narrowed,
+                samples: u64::from(samples),
+            };
             Ok(Output {
-                text: put_cost(alloc, &cost, savings, N, u64::from(samples))?,
+                text: cost_as(alloc, json, &cost, savings, N, &setting)?,
                 outcome: Outcome::Plain(Answer::Ok),
             })
         }
@@ -202,7 +208,7 @@ pub fn of_program<const N: usize, const P: usize>(
 {
     match question {
         Question::Why { json, warnings } => why::<N, P>(alloc, target, json, warnings, text),
-        Question::Cost { samples } => cost::<N, P>(alloc, target, samples, text),
+        Question::Cost { json, samples } => cost::<N, P>(alloc, target, json, samples, text),
         Question::Graph => units::<N, P>(alloc, target, text),
         Question::Rtl { name } => rtl_of::<N, P>(alloc, target.narrowed, name, text),
     }
