@@ -29,12 +29,12 @@ use Rattle.pr_lens_probe.specs.Fresh.{fresh_names, is_within, probes_from}
 use Rattle.pr_lens_probe.specs.Shown.{HasColumns, stream_of, width_of}
 use Rattle.pr_lens_probe.proofs.Names.{fresh, probes-are}
 
-streams-same : (most number : ℕ) (env : Streams) (is : List Instance) → map (stream_at env) (probes_from most number is) ≡ map (stream_of env) is
+pub streams-same : (most number : ℕ) (env : Streams) (is : List Instance) → map (stream_at env) (probes_from most number is) ≡ map (stream_of env) is
 streams-same most number env [] = refl
 streams-same most number env (i ∷ is) = ap (λ (rest : List (Option Stream)). stream_of env i ∷ rest) (streams-same most (number + 1) env is)
 
 -- operands that are as wide as streams
-wide-same : (widths : List ℕ) (operands : List Operand) (streams : List Stream) → AllZip (IsAsWide widths) operands streams → map (operand_width widths) operands ≡ map width_of streams
+pub wide-same : (widths : List ℕ) (operands : List Operand) (streams : List Stream) → AllZip (IsAsWide widths) operands streams → map (operand_width widths) operands ≡ map width_of streams
 wide-same widths [] [] wide = refl
 wide-same widths [] (s ∷ streams) wide = absurd wide
 wide-same widths (a ∷ operands) [] wide = absurd wide
@@ -44,7 +44,7 @@ wide-same widths (a ∷ operands) (s ∷ streams) wide = ap₂ (λ (n : ℕ) (ns
 module _ (program : Program) (most : ℕ) (probed : Program) (none : offence program ≡ None)
     (turns : turns_after (program_walk program) + length (instances_of program) ≤ 65536) (named : AreNamed (is_within most) (instances_of program)) (statics : HaveNames (is_within most) program.items.items)
     (is : IsProbed program (probes_from most 0 (instances_of program)) probed) where
-  can-probe : (last : World) → program_walk program ≡ Ok last → CanProbe (is_within most) (probes_from most 0 (instances_of program)) last
+  pub can-probe : (last : World) → program_walk program ≡ Ok last → CanProbe (is_within most) (probes_from most 0 (instances_of program)) last
   can-probe last walk =
       let all = instances_of program in
       let names = fresh_names most 0 (length all) in

@@ -1,5 +1,5 @@
 -- What the outputs show that are added to a program.
-use Rattle.std.specs.Prelude.{◌≡◌, ◌+◌, ◌<◌, ℕ, List, ◌++◌, map, length, Option, Some, option_map, ⊤}
+use Rattle.std.specs.Prelude.{◌≡◌, ◌+◌, ◌<◌, ℕ, Bool, List, ◌++◌, map, length, Option, Some, option_map, ⊤}
 use Rattle.std.specs.List.{range_with_len}
 use Rattle.pr_lang.specs.declared.trees.Program.{Program}
 use Rattle.pr_scope_names.specs.declared.streams.Instance.{Instance}
@@ -15,6 +15,7 @@ use Rattle.pr_expand_spec.specs.Programs.{equations_of}
 use Rattle.pr_probe.specs.Instances.{instances_of}
 use Rattle.pr_probe.specs.Probes.{IsProbed, numbers_at}
 use Rattle.pr_lens_probe.specs.Fresh.{probes_from}
+use Rattle.pr_lens_probe.specs.Kinds.{kinds_of}
 use Rattle.pr_lens_probe.specs.declared.probing.Probed.{Probed}
 use Rattle.pr_lens_probe.specs.declared.probing.ProbeFault.{ProbeFault}
 use Rattle.pr_lens_probe.specs.declared.probing.ProbeFault.TheVariants.{Turns, Memory}
@@ -46,8 +47,12 @@ pub record HasColumns (program : Program) (operands : List Operand) (xs rows : L
   pub wide : (widths : List ℕ) → AreWidths (equations_of program).equations widths → map (operand_width widths) operands ≡ map width_of (outputs ++ streams)
   pub are : rows ≡ columns_of (length xs) outputs streams
 
+-- these are the kinds of its instances, whatever the samples
+abbrev pub HaveKinds : Program → List Bool → Type 0
+HaveKinds program kinds = (xs : List (List ℕ)) (outputs streams : List Stream) → HasStreams program xs outputs streams → kinds ≡ kinds_of program streams
+
 -- a program that keeps the rules of scope, with its equations: they are those of a given program, and its outputs are the
--- given program's, and then its instances. Its last items are outputs that stand for these, in their order
+-- given program's, and then its instances. Its last items are outputs that stand for these, in their order, and their kinds are told
 pub record Shows (program : Program) (p : Probed) : Type 0 where
   pub instances : p.instances.items ≡ instances_of program
   pub most : ℕ
@@ -56,6 +61,7 @@ pub record Shows (program : Program) (p : Probed) : Type 0 where
   pub equations : shapes_of p.flat.equations.items ≡ (equations_of p.scoped.program).equations
   pub outputs : p.flat.outputs.items ≡ (equations_of p.scoped.program).outputs
   pub columns : (xs : List (List ℕ)) → HasColumns program p.flat.outputs.items xs (out p.scoped.program xs)
+  pub kinds : HaveKinds program p.kinds.items
 
 -- the program has more instances than turns are left
 abbrev pub IsTooLong : Program → ProbeFault → Type 0

@@ -2,7 +2,7 @@
 
 ghost use Rattle.std.specs.Prelude.{◌≡◌, ◌<◌, ◌≤◌, ◌++◌, IfOk, length, map, option_map};
 ghost use Rattle.pr_lang.specs.declared.trees.Fixed.TheVariants.{Number};
-ghost use Rattle.pr_probe.specs.Probes.{IsProbed, probe_item};
+ghost use Rattle.pr_probe.specs.Probes.{IsProbed, probe_item, reference};
 ghost use Rattle.pr_lens_probe.specs.Fresh.{fresh_name, probe_at, probes_from};
 
 use pr_lang::{Expr, Fixed, Item, Name, Program, Ref};
@@ -10,7 +10,7 @@ use pr_scope_names::Instance;
 use std::alloc::{AllocError, Global};
 
 /// The name of this number: longer than so many bytes.
-fn fresh_name(alloc: Global, most: usize, number: usize) -> Result<Name, AllocError>
+pub fn fresh_name(alloc: Global, most: usize, number: usize) -> Result<Name, AllocError>
     requires { number < 65536 }
     ensures { IfOk result (λ n. n ≡ fresh_name most number) }
 {
@@ -32,6 +32,15 @@ fn index_of(index: Option<u64>) -> Option<Fixed>
     }
 }
 
+/// An expression that stands for an instance.
+pub fn reference(alloc: Global, instance: &Instance) -> Result<Expr, AllocError>
+    ensures { IfOk result (λ e. e ≡ reference instance.now.name instance.now.index) }
+{
+    let name = instance.name.copy(alloc)?;
+    let index = index_of(instance.index);
+    Ok(Expr::Refer(Ref { name, index }))
+}
+
 /// The output of this number, which shows an instance.
 fn probe_of(
     alloc: Global,
@@ -43,14 +52,11 @@ fn probe_of(
     ensures { IfOk result (λ item. item ≡ probe_item (probe_at most number instance.now)) }
 {
     let name = fresh_name(alloc, most, number)?;
-    let shown = Ref {
-        name: instance.name.copy(alloc)?,
-        index: index_of(instance.index),
-    };
+    let value = reference(alloc, instance)?;
     Ok(Item::Output {
         name,
         width: None,
-        value: Expr::Refer(shown),
+        value,
     })
 }
 

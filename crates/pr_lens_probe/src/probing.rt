@@ -1,19 +1,17 @@
 //! A program whose last outputs show its stream instances.
 
-ghost use Rattle.std.specs.Prelude.{◌≡◌, ◌≤◌, None, true, IfErr, IfOk, length};
-ghost use Rattle.pr_scope.specs.Walk.{offence};
-ghost use Rattle.pr_flat.specs.Shape.{shapes_of};
+ghost use Rattle.std.specs.Prelude.{◌≡◌, ◌≤◌, true, IfErr, IfOk, length};
 ghost use Rattle.pr_lang_meaning.specs.Programs.{has_widths};
 ghost use Rattle.pr_expand_spec.specs.Programs.{equations_of};
 ghost use Rattle.pr_lens_probe.specs.Shown.{IsTooLong, Shows};
 
 use crate::fresh::with_probes;
+use crate::kinds::tell_kinds;
 use crate::lengths::longest;
-use pr_expand::{ExpandFault, expand};
+use crate::passes::{checked, expanded};
 use pr_flat::Flat;
-use pr_lang::Program;
 use pr_probe::instances;
-use pr_scope::{ScopeFault, Scoped, check};
+use pr_scope::Scoped;
 use pr_scope_names::Instance;
 use std::alloc::{AllocError, Global};
 use thiserror::Error;
@@ -29,6 +27,8 @@ pub struct Probed {
     pub flat: Flat,
     /// What its last outputs show, in text order and with loops unrolled.
     pub instances: Vec<Instance>,
+    /// Which of them are signed; none of a program with more than 16,384 equations and twice its instances together.
+    pub kinds: Vec<bool>,
 }
 
 /// Why the instances of a program are not shown.
@@ -51,32 +51,6 @@ impl From<AllocError> for ProbeFault {
     }
 }
 
-/// A program that keeps the rules of scope, walked once more.
-fn checked(alloc: Global, program: Program) -> Result<Scoped, AllocError>
-    requires { offence program ≡ None }
-    ensures { IfOk result (λ s. s.program ≡ program) }
-{
-    match check(alloc, program) {
-        Ok(scoped) => Ok(scoped),
-        Err(ScopeFault::Memory(error)) => Err(error),
-        Err(ScopeFault::Scope { .. }) => unreachable!(),
-        Err(ScopeFault::Limit(_)) => unreachable!(),
-    }
-}
-
-/// The equations of a program that has few enough.
-fn expanded(alloc: Global, scoped: &Scoped) -> Result<Flat, AllocError>
-    requires { length (equations_of scoped.now.program).equations ≤ 16384 }
-    ensures equations { IfOk result (λ f. shapes_of f.equations.items ≡ (equations_of scoped.now.program).equations) }
-    ensures outputs { IfOk result (λ f. f.outputs.items ≡ (equations_of scoped.now.program).outputs) }
-{
-    match expand(alloc, scoped) {
-        Ok(flat) => Ok(flat),
-        Err(ExpandFault::Memory(error)) => Err(error),
-        Err(ExpandFault::Limit(_)) => unreachable!(),
-    }
-}
-
 /// The program with an output more for each of its stream instances, and its equations.
 ///
 /// # Errors
@@ -95,12 +69,14 @@ pub fn probe(alloc: Global, scoped: Scoped) -> Result<Probed, ProbeFault>
         return Err(ProbeFault::Turns);
     }
     let most = longest(&scoped.program.items, &instances);
-    let probed = with_probes(alloc, scoped.program, most, &instances)?;
+    let told = tell_kinds(alloc, scoped.program, most, &instances)?;
+    let probed = with_probes(alloc, told.program, most, &instances)?;
     let scoped = checked(alloc, probed)?;
     let flat = expanded(alloc, &scoped)?;
     Ok(Probed {
         scoped,
         flat,
         instances,
+        kinds: told.kinds,
     })
 }

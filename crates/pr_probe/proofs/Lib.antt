@@ -1,8 +1,8 @@
-mod References
+pub mod References
 pub mod Scope
 pub mod Equations
-mod Known
-mod Meaning
+pub mod Known
+pub mod Meaning
 pub mod Laws
 mod Listing
 pub mod Probing
