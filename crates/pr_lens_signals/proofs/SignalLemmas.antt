@@ -1,7 +1,8 @@
 -- What is written of a program that shows its instances, as the streams of a program's names.
-use Rattle.std.proofs.Common.{◌≡◌, ◌≢◌, ◌+◌, ◌≤◌, ℕ, List, [], ◌∷◌, ◌++◌, drop, length, map, take, None, Some, refl, sym, ap, ap₂, ◌∙◌, subst, arith, inl, inr}
+use Rattle.std.proofs.Common.{◌≡◌, ◌≢◌, ◌+◌, ◌≤◌, ◌&&◌, ℕ, List, [], ◌∷◌, ◌++◌, drop, length, map, take, None, Some, refl, sym, ap, ap₂, ◌∙◌, subst, arith, inl, inr}
 use Rattle.std.specs.List.{range_with_len}
 use Rattle.std.proofs.lemmas.List.{length-map, map-append}
+use Rattle.std.proofs.lemmas.Simd.{zip2_of_maps}
 use Rattle.std.proofs.Math.Seq.{drop-append_seam}
 use Rattle.pr_edge.specs.Files.{Told, IsMissing, HasReadCause}
 use Rattle.pr_edge.specs.Tape.{Tape, Appends, AppendsFront}
@@ -31,6 +32,7 @@ use Rattle.pr_tool_modes.specs.Programs.{inputs_of}
 use Rattle.pr_tool_modes.specs.Samples.{fed_in}
 use Rattle.pr_tool_modes.proofs.FileLemmas.{rose_earlier}
 use Rattle.pr_tool_modes.proofs.SampleLemmas.{some_file}
+use Rattle.pr_lens_probe.specs.Kinds.{has_room, is_signed}
 use Rattle.pr_lens_probe.specs.Shown.{HasColumns, Shows, width_of}
 use Rattle.pr_lens_signals.specs.declared.probing.Showing.{Showing}
 use Rattle.pr_lens_signals.specs.Calls.{call}
@@ -38,8 +40,8 @@ use Rattle.pr_lens_tracks.specs.declared.looks.Form.{Form}
 use Rattle.pr_lens_tracks.specs.declared.looks.Track.{Track}
 use Rattle.pr_lens_tracks.specs.declared.pens.Pen.{Pen}
 use Rattle.pr_lens_tracks.specs.Texts.{head_text, rows_text}
-use Rattle.pr_lens_signals.specs.Manners.{Manner, tracks_of}
-use Rattle.pr_lens_signals.specs.Reading.{all_widths, cut_rows, front_of, HasBegun, HasEnded, IsLongFeed, IsReady, IsSetUp, IsWriteCause}
+use Rattle.pr_lens_signals.specs.Manners.{Manner, look_in, look_with, tracks_of}
+use Rattle.pr_lens_signals.specs.Reading.{all_looks, all_widths, cut_rows, front_of, HasBegun, HasEnded, IsLongFeed, IsReady, IsSetUp, IsWriteCause}
 use Rattle.pr_lens_signals.specs.Signals.{AreFirst, IsBegun, IsShown, IsSignals, IsUnshown, IsWhole, rows_of}
 use Rattle.pr_lens_signals.proofs.RowLemmas.{begun_nothing, front_more, long-fed}
 
@@ -78,6 +80,13 @@ pub showing-ready : (program : Program) (s : Showing) → Shows program s.probed
 showing-ready program s shows widths = record {
   flat = record { equations = shows.equations; outputs = shows.outputs };
   widths = subst (λ es. AreWidths es s.widths) (sym shows.same) widths;
+  kinds =
+      (let has = (shows.columns []).has in
+      let outputs = (shows.columns []).outputs in
+      let streams = (shows.columns []).streams in
+      let told : length s.probed.kinds.items ≡ length streams = ap length (shows.kinds [] outputs streams has) ∙ length-map streams _ in
+      let count : length streams ≡ length s.probed.instances.items = sym (length-map streams Some) ∙ (sym (ap length has.each) ∙ (length-map (instances_of program) _ ∙ sym (ap length shows.instances))) in
+      omega (arith, told, count, s.probed.kinds.ok.0, s.probed.instances.ok.0));
   front = (let all = counted program _ [] _ (shows.columns []) (length s.probed.instances.items) (sym (ap length shows.instances)) in omega (arith, all, s.probed.flat.outputs.ok.0, s.probed.instances.ok.0));
 }
 
@@ -101,7 +110,9 @@ module _ (manner : Manner) (program : Program) (s : Showing) (pen : Pen) (lawful
       let all = counted program _ xs _ has (length s.probed.instances.items) (sym (ap length is.showing.shows.instances)) in
       let fits : length has.outputs ≡ front_of s = omega (arith, all, s.probed.flat.outputs.ok.0, s.probed.instances.ok.0) in
       let widths : drop (front_of s) (all_widths s) ≡ map width_of has.streams = cut-widths (front_of s) (all_widths s) has.outputs has.streams (has.wide s.widths is.showing.widths) fits in
-      let tracks : pen.tracks.items ≡ tracks_of manner.signed (instances_of program) (map width_of has.streams) = is.tracks ∙ ap₂ (tracks_of manner.signed) is.showing.shows.instances widths in
+      let kinds = is.showing.shows.kinds xs has.outputs has.streams has.has in
+      let looks : all_looks s ≡ map (look_in program) has.streams = zip2_of_maps look_with (λ t. has_room program && is_signed t) width_of has.streams kinds widths in
+      let tracks : pen.tracks.items ≡ tracks_of manner.signed (instances_of program) (map (look_in program) has.streams) = is.tracks ∙ ap₂ (tracks_of manner.signed) is.showing.shows.instances looks in
       let rows = ap (cut_rows (front_of s)) has.are ∙ cut-columns (front_of s) has.outputs has.streams (range_with_len 0 (length xs)) fits in
       record {
         outputs = has.outputs;

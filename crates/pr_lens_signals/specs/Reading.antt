@@ -1,5 +1,6 @@
 -- Lines that are written while samples are read.
 use Rattle.std.specs.Prelude.{◌≡◌, ◌-◌, ◌^◌, ◌≤◌, ⊤, ℕ, List, [], drop, map, take, Option, vec_len}
+use Rattle.std.specs.Simd.Lanes.{zip2}
 use Rattle.pr_edge.specs.Count.{Rose}
 use Rattle.pr_edge.specs.Files.{Told}
 use Rattle.pr_lang.specs.declared.trees.Program.{Program}
@@ -15,9 +16,10 @@ use Rattle.pr_tool_answers.specs.declared.answers.Answer.{Answer}
 use Rattle.pr_tool_modes.specs.Evaluations.{AreAll}
 use Rattle.pr_lens_probe.specs.Shown.{Shows}
 use Rattle.pr_lens_tracks.specs.declared.pens.Pen.{Pen}
+use Rattle.pr_lens_tracks.specs.declared.looks.Look.{Look}
 use Rattle.pr_lens_tracks.specs.declared.looks.Track.{Track}
 use Rattle.pr_lens_tracks.specs.Texts.{HasWritten}
-use Rattle.pr_lens_signals.specs.Manners.{AreNamed, Manner, tracks_of}
+use Rattle.pr_lens_signals.specs.Manners.{AreNamed, Manner, look_with, tracks_of}
 use Rattle.pr_lens_signals.specs.declared.probing.Showing.{Showing}
 
 -- a program with the same equations as this one shows its instances behind so many outputs, and these are the widths
@@ -29,18 +31,23 @@ pub record IsShowing (program : Program) (s : Showing) : Type 0 where
 abbrev pub front_of : Showing → ℕ
 front_of s = vec_len s.probed.flat.outputs - vec_len s.probed.instances
 
--- its equations, their widths, and no more instances than outputs
+-- its equations, their widths, no more instances than outputs, and a kind for each instance
 pub record IsReady (s : Showing) : Type 0 where
   pub flat : HasEquations s.probed.scoped.program s.probed.flat
   pub widths : AreWidths (equations_of s.probed.scoped.program).equations s.widths
   pub front : vec_len s.probed.instances ≤ vec_len s.probed.flat.outputs
+  pub kinds : vec_len s.probed.kinds ≡ vec_len s.probed.instances
 
--- the widths of all outputs, and of the instances
+-- the widths of all outputs
 abbrev pub all_widths : Showing → List ℕ
 all_widths s = map (operand_width s.widths) s.probed.flat.outputs.items
 
+-- how the instances are shown by themselves
+abbrev pub all_looks : Showing → List Look
+all_looks s = zip2 look_with s.probed.kinds.items (drop (front_of s) (all_widths s))
+
 abbrev pub tracks_in : Option (List ℕ) → Showing → List Track
-tracks_in signed s = tracks_of signed s.probed.instances.items (drop (front_of s) (all_widths s))
+tracks_in signed s = tracks_of signed s.probed.instances.items (all_looks s)
 
 -- a pen that wrote nothing yet has a stream, and room for a number, for each instance
 pub record IsPen (s : Showing) (pen : Pen) : Type 0 where

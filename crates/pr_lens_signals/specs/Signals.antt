@@ -15,10 +15,10 @@ use Rattle.pr_tool_answers.specs.declared.answers.Answer.{Answer}
 use Rattle.pr_tool_modes.specs.Files.{IsText}
 use Rattle.pr_tool_modes.specs.Programs.{inputs_of}
 use Rattle.pr_tool_modes.specs.Samples.{fed_in}
-use Rattle.pr_lens_probe.specs.Shown.{HasStreams, width_of}
+use Rattle.pr_lens_probe.specs.Shown.{HasStreams}
 use Rattle.pr_lens_tracks.specs.Texts.{streams_text}
 use Rattle.pr_lens_signals.specs.Calls.{Call}
-use Rattle.pr_lens_signals.specs.Manners.{AreNamed, Manner, tracks_of}
+use Rattle.pr_lens_signals.specs.Manners.{AreNamed, Manner, look_in, tracks_of}
 
 -- the numbers of streams at each of so many samples
 abbrev pub rows_of : ℕ → List Stream → List (List ℕ)
@@ -30,7 +30,7 @@ pub record IsSignals (manner : Manner) (program : Program) (samples : List (List
   pub streams : List Stream
   pub has : HasStreams program samples outputs streams
   pub named : AreNamed manner program
-  pub is : text ≡ streams_text manner.form (tracks_of manner.signed (instances_of program) (map width_of streams)) (rows_of (length samples) streams)
+  pub is : text ≡ streams_text manner.form (tracks_of manner.signed (instances_of program) (map (look_in program) streams)) (rows_of (length samples) streams)
 
 -- these are all samples of the file, they end so, and the whole text on them is written
 pub record IsWhole (manner : Manner) (told : Told) (name : List ℕ) (program : Program) (ending : Ending) (old new : Tape) : Type 0 where

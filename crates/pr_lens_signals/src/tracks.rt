@@ -4,7 +4,8 @@ ghost use Rattle.std.specs.Prelude.{◌≡◌, ◌<◌, get_or, length, true, If
 ghost use Rattle.pr_flat.specs.Widths.{operand_width};
 ghost use Rattle.pr_width.specs.Reads.{is_within};
 ghost use Rattle.pr_lens_signals.specs.Manners.{track_of};
-ghost use Rattle.pr_lens_signals.specs.Reading.{IsReady, all_widths, tracks_in};
+ghost use Rattle.pr_lens_tracks.specs.declared.looks.Look.{Look};
+ghost use Rattle.pr_lens_signals.specs.Reading.{IsReady, all_looks, all_widths, tracks_in};
 
 use crate::probing::Showing;
 use pr_flat::Operand;
@@ -18,7 +19,7 @@ use std::alloc::{AllocError, Global};
 pub struct Style<'a> {
     /// The kind of the text.
     pub form: Form,
-    /// The names of streams that are shown as two's complement, with a comma between.
+    /// The names of streams that are shown as two's complement whatever their kinds, with a comma between.
     pub signed: Option<&'a str>,
 }
 
@@ -46,22 +47,34 @@ fn width_at(showing: &Showing, place: usize) -> u8
     width_of(showing.probed.flat.outputs[place], &showing.widths)
 }
 
-/// An instance of this width, and how it is shown.
+/// How the instance at a place is shown by itself.
+fn look_at(showing: &Showing, place: usize) -> Look
+    requires ready { IsReady showing.now }
+    requires within { place < vec_len showing.now.probed.instances }
+    ensures { (d : Look) → result ≡ get_or (all_looks showing.now) place d }
+{
+    let front = showing.probed.flat.outputs.len() - showing.probed.instances.len();
+    let signed = showing.probed.kinds[place];
+    let width = width_at(showing, front + place);
+    Look { width, signed }
+}
+
+/// An instance that is shown so by itself, and as two's complement where its name is listed.
 fn track_of(
     alloc: Global,
     instance: &Instance,
-    width: u8,
+    look: Look,
     signed: Option<&str>,
 ) -> Result<Track, AllocError>
-    ensures { IfOk result (λ t. t ≡ track_of (option_map (λ s. s.now) signed.entry) instance.now width) }
+    ensures { IfOk result (λ t. t ≡ track_of (option_map (λ s. s.now) signed.entry) instance.now look) }
 {
     let name = instance.name.copy(alloc)?;
-    let signed = is_listed(signed, instance.name.as_bytes());
-    let look = Look { width, signed };
+    let signed = look.signed || is_listed(signed, instance.name.as_bytes());
+    let width = look.width;
     Ok(Track {
         name,
         index: instance.index,
-        look,
+        look: Look { width, signed },
     })
 }
 
@@ -74,11 +87,10 @@ pub fn tracks_of(
     requires ready { IsReady showing.now }
     ensures { IfOk result (λ tracks. tracks.items ≡ tracks_in (option_map (λ s. s.now) signed.entry) showing.now) }
 {
-    let front = showing.probed.flat.outputs.len() - showing.probed.instances.len();
     let mut tracks = Vec::new(alloc);
     for place in 0..showing.probed.instances.len() {
-        let width = width_at(showing, front + place);
-        let track = track_of(alloc, &showing.probed.instances[place], width, signed)?;
+        let look = look_at(showing, place);
+        let track = track_of(alloc, &showing.probed.instances[place], look, signed)?;
         tracks.push(track)?;
     }
     Ok(tracks)

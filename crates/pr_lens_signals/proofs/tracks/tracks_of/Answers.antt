@@ -1,10 +1,10 @@
-use Rattle.std.proofs.Common.{◌≡◌, ◌+◌, ◌-◌, ◌++◌, ℕ, List, drop, get_or, ap, sym, ◌∙◌, append-nil, arith}
+use Rattle.std.proofs.Common.{◌+◌, ◌++◌, List, drop, ap, sym, ◌∙◌, append-nil, arith}
 use Rattle.std.specs.Prelude.{option_map}
-use Rattle.std.proofs.lemmas.List.{drop_all, get_or-drop}
+use Rattle.std.proofs.lemmas.List.{drop_all}
 use Rattle.pr_lens_tracks.specs.declared.looks.Track.{Track}
 use Rattle.pr_lens_signals.specs.Manners.{track_of}
-use Rattle.pr_lens_signals.specs.Reading.{all_widths, front_of, tracks_in}
-use Rattle.pr_lens_signals.proofs.TrackLemmas.{track-put, tracks-long, widths-long}
+use Rattle.pr_lens_signals.specs.Reading.{all_looks, tracks_in}
+use Rattle.pr_lens_signals.proofs.TrackLemmas.{looks-long, track-put, tracks-long}
 use Rattle.pr_lens_signals.proofs.tracks.tracks_of.Goals as goal
 
 pub loop-place-preserved : goal.loop-place-preserved
@@ -12,11 +12,9 @@ loop-place-preserved c =
     let s = c.args.showing.now in
     let signed = option_map (λ s. s.now) c.args.signed in
     let place = c.loop-place.place in
-    let front : c.len.result - c.len-2.result + place ≡ front_of s + place = omega (arith, c.len.ensures, c.len-2.ensures) in
-    let width = c.width_at-width.ensures ∙ (ap (λ (k : ℕ). get_or (all_widths s) k 0) front ∙ sym (get_or-drop (front_of s) (all_widths s) place 0)) in
     ap (λ (ts : List Track). ts ++ drop (place + 1) (tracks_in signed s)) c.in_ok-push.ensures.items
-    ∙ track-put (track_of signed) s.probed.instances.items (drop (front_of s) (all_widths s)) place c.loop-place.tracks.items c.index.result.now c.in_ok-track.track
-    (omega (arith, c.loop-place-test.true, c.len-place-end.ensures, s.probed.instances.ok.0)) (widths-long s c.requires.ready) c.index.ensures (c.in_ok-track.ensures ∙ ap (track_of signed c.index.result.now) width) c.loop-place.invariant
+    ∙ track-put (track_of signed) s.probed.instances.items (all_looks s) place c.loop-place.tracks.items c.index.result.now c.look_at-look.result c.in_ok-track.track
+    (omega (arith, c.loop-place-test.true, c.len-place-end.ensures, s.probed.instances.ok.0)) (looks-long s c.requires.ready) c.index.ensures (c.look_at-look.ensures c.look_at-look.result) c.in_ok-track.ensures c.loop-place.invariant
 
 pub returns : goal.returns
 returns c =
