@@ -62,7 +62,7 @@ output y:16 = signed(less);
 1
 = 0
 x,less,y
-1,254,65534
+1,254,-2
 $ pipelens signals p s --csv
 input x:128;
 output y = ~x;
@@ -184,6 +184,97 @@ c,y
 #[test]
 fn shown(rt: HostRuntime) -> Result<(), AllocError> {
     check_calls(&rt, rt.alloc(), "", SHOWN)
+}
+
+/// Programs with signed streams, which are shown as two's complement without being asked for.
+const SIGNED: &str = "\
+$ pipelens signals p s --csv
+input x:4;
+let d = signed(x);
+let e = d;
+let back = d@1;
+rec r:4 = 0 by d;
+let low = d[3:0];
+let same = cat(d);
+let less = d < 0;
+output y = d;
+---
+15
+8
+7
+= 0
+x,d,e,back,r,low,same,less,y
+15,-1,-1,0,15,15,15,1,-1
+8,-8,-8,-1,8,8,8,1,-8
+7,7,7,-8,7,7,7,0,7
+$ pipelens signals p s --csv
+input x:4;
+let d = signed(x);
+let sum = d + 1;
+let product = d * x;
+let all = d & 7;
+let chosen = x[0:0] ? d : 1;
+let half = d >> 1;
+let none = ~d;
+output y = x + 1;
+---
+13
+6
+= 0
+x,d,sum,product,all,chosen,half,none,y
+13,-3,-2,-39,5,-3,-2,2,14
+6,6,7,36,6,1,3,-7,7
+$ pipelens signals p s --csv
+input x:3;
+fn read(v) { let w = signed(v); return w; }
+for i in 0..2 { let s[i] = read(x + i); let t[i] = x + i; }
+output y:8 = s[1];
+---
+7
+= 0
+x,s[0],t[0],s[1],t[1],y
+7,7,7,-8,8,-8
+$ pipelens signals p s --csv --signed bare
+input x:128;
+let bare = x;
+output y = signed(x);
+---
+340282366920938463463374607431768211455
+170141183460469231731687303715884105728
+= 0
+x,bare,y
+340282366920938463463374607431768211455,-1,-1
+170141183460469231731687303715884105728,-170141183460469231731687303715884105728,-170141183460469231731687303715884105728
+$ pipelens signals p s
+input x:2;
+let d = signed(x);
+output y = d + d;
+---
+3
+1
+= 0
+$comment the named streams of a program, a step of time for each sample $end
+$timescale 1 ns $end
+$scope module program $end
+$var wire 2 0 x [1:0] $end
+$var integer 2 1 d [1:0] $end
+$var integer 3 2 y [2:0] $end
+$upscope $end
+$enddefinitions $end
+#0
+b11 0
+b11 1
+b110 2
+#1
+b01 0
+b01 1
+b010 2
+#2
+";
+
+#[test]
+fn signed(rt: HostRuntime) -> Result<(), AllocError> {
+    check_calls(&rt, rt.alloc(), "", SIGNED)
 }
 
 /// Calls that end otherwise than with the samples' end.
