@@ -24,6 +24,7 @@ Signed = bool | Iterable[str]
 
 _COMMENT = re.compile(rb"//[^\n]*")
 _PORT = re.compile(rb"\b(input|output)\s+([A-Za-z_][A-Za-z0-9_]*)\s*(?::\s*(0x[0-9A-Fa-f]+|[0-9]+))?")
+_NO_STREAM = re.compile(r"no stream: (.*)")
 _BAD_LINE = re.compile(r"(?:program (\d+): )?bad sample: line (\d+)")
 
 
@@ -171,12 +172,13 @@ class Program:
             raise self._failure(status, note, None, None)
 
     def signals(self, samples: Any, *, signed: Iterable[str] = ()) -> Streams:
-        """Every name of the program as a stream. ``signed`` names further streams that are read as two's complement.
+        """Every name of the program as a stream. A signed stream has its values, and so have those that ``signed`` names.
 
-        Raises ValueError where ``signed`` names no stream, or one whose width is not known: a program that shows it has to fit.
+        Raises ValueError where ``signed`` names no stream.
         """
         ports = [port.name for port in self.inputs + self.outputs if port.signed]
-        widths = {name: self._width_of(name) for name in sorted({*signed, *ports})}
+        names = sorted({*signed, *ports})
+        listed = ["--signed", ",".join(names)] if names else []
         with self._folder() as folder:
             if isinstance(samples, (str, os.PathLike)):
                 file = _existing(samples)
@@ -184,23 +186,13 @@ class Program:
                 file = "samples.txt"
                 with open(os.path.join(folder, file), "wb") as written:
                     written.writelines(pieces_of(samples, self.inputs))
-            status, note, told = call("pipelens", ["signals", "program.dil", file, "--csv", *self._options()], folder)
+            status, note, told = call("pipelens", ["signals", "program.dil", file, "--csv", *listed, *self._options()], folder)
+        unknown = _NO_STREAM.match(note)
+        if status == 2 and unknown:
+            raise ValueError(f"signed names {unknown[1]}, which is no stream")
         if status:
             raise self._failure(status, note, samples, None)
-        return reports.read_columns(told, widths)
-
-    def _width_of(self, name: str) -> int:
-        """The width of a stream: that of its port, or of an output that shows it."""
-        for port in self.inputs + self.outputs:
-            if port.name == name and port.width is not None:
-                return port.width
-        shown = "shown"
-        while shown in self.text:
-            shown += "_"
-        width = Program(f"{self.text}\noutput {shown} = {name};\n", fabric="wide").outputs[-1].width
-        if width is None:
-            raise ValueError(f"signed names {name}, whose width is not known")
-        return width
+        return reports.read_columns(told)
 
     # What is told of a program
 

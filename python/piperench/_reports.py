@@ -5,10 +5,9 @@ from __future__ import annotations
 import html
 import json
 import re
-from collections.abc import Mapping, Sequence
+from collections.abc import Sequence
 from dataclasses import dataclass, field
 from functools import cached_property
-from typing import Any
 
 from ._call import call, failure
 from ._refused import Finding, Place
@@ -196,26 +195,15 @@ def findings_of_text(told: str, path: str | None) -> list[Finding]:
 
 # Columns
 
-def read_columns(told: bytes, signed: Mapping[str, int] | None = None) -> Streams:
-    """A text of a line of names and a line of whole numbers for each sample, with commas between.
-
-    ``signed`` has the widths of streams whose numbers are two's complement.
-    """
+def read_columns(told: bytes) -> Streams:
+    """A text of a line of names and a line of whole numbers for each sample, with commas between."""
     head, _, rest = told.partition(b"\n")
     names = [name.strip() for name in head.decode().strip().split(",")]
     values = list(map(int, rest.replace(b",", b" ").split()))
     count = len(names)
     if len(values) % count:
         raise ValueError(f"a line has not {count} numbers")
-    widths = signed or {}
-    return Streams({name: _column(values[k::count], widths.get(name)) for k, name in enumerate(names)})
-
-
-def _column(values: list[int], width: int | None) -> Any:
-    """The column of a stream; with a width, its numbers are two's complement of so many bits."""
-    if width is None:
-        return column_of(values, *_kind(values))
-    return column_of([value - (value >> width - 1 << width) for value in values], width, True)
+    return Streams({name: column_of(values[k::count], *_kind(values[k::count])) for k, name in enumerate(names)})
 
 
 def _kind(values: Sequence[int]) -> tuple[int, bool]:

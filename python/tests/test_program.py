@@ -190,6 +190,8 @@ class Further(unittest.TestCase):
         expected = [(2 * x - 3 + 256) % 512 - 256 for x in VALUES]
         self.assertEqual((list(streams["less"]), list(streams["y"])), (expected, expected))
         self.assertEqual(list(Program(text).signals(VALUES)["less"]), [(2 * x - 3) % 512 for x in VALUES])
+        halves = Program("input x:8; let less = signed(x - 3); let half = less >> 1; output y = half;").signals([1, 5])
+        self.assertEqual(halves.rows(), [(1, -2, -1, -1), (5, 2, 1, 1)])
         with self.assertRaisesRegex(ValueError, "signed names more"):
             program.signals(VALUES, signed=["more"])
         with self.assertRaises(Refused):

@@ -203,7 +203,7 @@ class Answers(unittest.TestCase):
             self.assertEqual(Program(SUM).run([1]).rows(), [(7,)])
 
     def test_columns_of_signals(self) -> None:
-        with stand_in("pipelens", "test \"$1 $4\" = 'signals --csv' || exit 9; printf 'x,t[0]\\n1,18446744073709551615\\n128,3\\n'"):
+        with stand_in("pipelens", "test \"$1 $4 $5 $6\" = 'signals --csv --signed x' || exit 9; printf 'x,t[0]\\n1,18446744073709551615\\n-128,3\\n'"):
             streams = Program(SUM, signed=["x"]).signals([1, 2])
         self.assertEqual(streams.names, ("x", "t[0]"))
         self.assertEqual(list(streams), [(1, 2**64 - 1), (-128, 3)])
