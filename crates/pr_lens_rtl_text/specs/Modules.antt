@@ -18,21 +18,10 @@ use Rattle.pr_lens_rtl_text.specs.Printed.{lines_text}
 abbrev pub ports_by : Side → Program → List ℕ → List Port
 ports_by side program widths = zipped (map port_name (names_in side program.items.items)) widths
 
--- what stands before the name: not every bit of a vector is read, which lint need not tell; and what the names of vectors mean
-unfoldable pub legend_text : List ℕ
-legend_text =
-    codes "/* verilator lint_off UNUSED */\n"
-    ++ codes "// The name of a vector tells what it holds, a stage, and a column or a byte. Of column 2 of stage 4:\n"
-    ++ codes "//   a4$2, b4$2 and c4$2: what it reads. i4$2: the carry that comes in. x4$2: what its table makes of a, b and c.\n"
-    ++ codes "//   t4$2: the sum of a, x and i. k4$2: the carry that goes out. o4$2: its output. q4$2: its state.\n"
-    ++ codes "// r4$9 is byte 9 of the row that stage 4 shows, and v$4 tells whether that row comes of a sample.\n"
-    ++ codes "// in$0 is byte 0 of the sample, and out$0 is byte 0 of the result.\n"
-    ++ codes "module "
-
--- the head: the name, and the ports of the handshake
+-- the head: the name, and the ports of the handshake. Not every bit of a vector is read, which lint need not tell
 unfoldable pub head_text : List ℕ → List ℕ
 head_text name =
-    legend_text ++ name
+    codes "/* verilator lint_off UNUSED */\nmodule " ++ name
     ++ codes "(\n  input clock,\n  input reset,\n  input in_valid,\n  output in_ready,\n  output out_valid,\n  input out_ready"
 
 -- a module of a name, with ports for numbers

@@ -11,7 +11,7 @@ ghost use Rattle.pr_lens_rtl_text.specs.Ports.{ports_text};
 ghost use Rattle.pr_lens_rtl_text.specs.Names.{port_name};
 ghost use Rattle.pr_lens_rtl_terms.specs.Terms.{assigns_of};
 ghost use Rattle.pr_lens_rtl_text.specs.Limits.{IsTooLong, most_text_bytes};
-ghost use Rattle.pr_lens_rtl_text.specs.Modules.{head_text, legend_text, ports_by, rtl_text, IsRtlText};
+ghost use Rattle.pr_lens_rtl_text.specs.Modules.{head_text, ports_by, rtl_text, IsRtlText};
 
 use crate::bytes::see_bytes;
 use crate::faults::NoText;
@@ -175,28 +175,11 @@ fn put_bytes(text: &mut Vec<u8>, bytes: &[u8]) -> Result<(), AllocError>
     text.extend_from_slice(bytes)
 }
 
-/// Adds what stands before the name of a module.
-#[tactic(auto, unfolding(crate::specs::Modules::legend_text))]
-fn put_legend(text: &mut Vec<u8>) -> Result<(), AllocError>
-    ensures { OnOk result (text.new.items ≡ text.old.items ++ legend_text) }
-{
-    put(
-        text,
-        "/* verilator lint_off UNUSED */\n\
-// The name of a vector tells what it holds, a stage, and a column or a byte. Of column 2 of stage 4:\n\
-//   a4$2, b4$2 and c4$2: what it reads. i4$2: the carry that comes in. x4$2: what its table makes of a, b and c.\n\
-//   t4$2: the sum of a, x and i. k4$2: the carry that goes out. o4$2: its output. q4$2: its state.\n\
-// r4$9 is byte 9 of the row that stage 4 shows, and v$4 tells whether that row comes of a sample.\n\
-// in$0 is byte 0 of the sample, and out$0 is byte 0 of the result.\n\
-module ",
-    )
-}
-
 /// Adds the head of a module.
 fn put_head(text: &mut Vec<u8>, name: &[u8]) -> Result<(), AllocError>
     ensures { OnOk result (text.new.items ≡ text.old.items ++ head_text name.now) }
 {
-    put_legend(text)?;
+    put(text, "/* verilator lint_off UNUSED */\nmodule ")?;
     put_bytes(text, name)?;
     put(
         text,
