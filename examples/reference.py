@@ -4,7 +4,7 @@ numbers of any size.
 
 usage: reference.py FOLDER [SAMPLES], as reference.py kernels/fir; without a folder it compares each stored file
 """
-import base64, itertools, pathlib, sys, zlib
+import base64, binascii, itertools, pathlib, sys, zlib
 from math import cos, floor, pi, sin
 
 here = pathlib.Path(__file__).resolve().parent
@@ -175,6 +175,12 @@ def short_feedback(rows):
         s = x + s // 2 + s // 4
         results.append([s])
     return results
+
+
+@example("idioms/crc-16")
+def crc_16(rows):
+    data = bytes(column(rows))
+    return [[binascii.crc_hqx(data[: n + 1], 0xFFFF)] for n in range(len(data))]
 
 
 @example("idioms/quarter-wave")
