@@ -1,6 +1,6 @@
 use Rattle.std.proofs.Common.{◌∙◌}
 use Rattle.pr_lens_probe.proofs.KindValues.{tells}
-use Rattle.pr_lens_probe.proofs.kinds.kind_value.Goals as goal
+use Rattle.pr_lens_probe.proofs.asking.kind_value.Goals as goal
 
 pub returns : goal.returns
 returns c =
