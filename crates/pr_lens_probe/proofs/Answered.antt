@@ -1,5 +1,5 @@
 -- A program with outputs that ask for something of some instances.
-use Rattle.std.proofs.Common.{◌≡◌, ◌∙◌, ◌+◌, ◌*◌, ◌-◌, ◌<◌, ◌≤◌, ℕ, Bool, true, false, ◌&&◌, List, [], ◌∷◌, ◌++◌, drop, map, length, replicate, Option, Some, None, Ok, is_some, refl, sym, ap, ap₂, subst, arith}
+use Rattle.std.proofs.Common.{◌≡◌, ◌∙◌, ◌+◌, ◌*◌, ◌-◌, ◌≤◌, ℕ, Bool, true, false, ◌&&◌, List, [], ◌∷◌, ◌++◌, drop, map, length, replicate, Option, Some, None, Ok, is_some, refl, sym, ap, ap₂, subst, arith}
 use Rattle.std.specs.List.{AllZip}
 use Rattle.std.proofs.lemmas.List.{append-nil, length-append, length-map}
 use Rattle.std.proofs.lemmas.Option.{none-some, same_Some}
@@ -18,7 +18,7 @@ use Rattle.pr_flat.specs.declared.equations.Operand.{Operand}
 use Rattle.pr_flat.specs.declared.flat.Flat.{Flat}
 use Rattle.pr_flat.specs.Facts.{IsFlat}
 use Rattle.pr_flat.specs.Forms.{Stream}
-use Rattle.pr_flat.specs.Shape.{EquationShape, shapes_of}
+use Rattle.pr_flat.specs.Shape.{EquationShape}
 use Rattle.pr_flat.specs.Values.{input_widths}
 use Rattle.pr_flat.specs.Widths.{AreWidths}
 use Rattle.pr_lang_meaning.specs.Streams.{Streams}
@@ -29,8 +29,8 @@ use Rattle.pr_expand_correct.specs.Outputs.{IsAsWide}
 use Rattle.pr_expand_correct.specs.Results.{AreSamples, IsListOf}
 use Rattle.pr_expand_correct.proofs.AgreedPrograms.{widths-exist, widths-found}
 use Rattle.pr_expand_correct.proofs.NumberLaws.{streams-have_lists}
-use Rattle.pr_probe.specs.Instances.{instances_of, items_listing}
-use Rattle.pr_probe.specs.Probes.{AreAmong, AreNamed, AreSignals, CanProbe, HaveNames, IsProbed, Probe, probe_item, reference, stream_at}
+use Rattle.pr_probe.specs.Instances.{items_listing}
+use Rattle.pr_probe.specs.Probes.{AreAmong, AreNamed, AreSignals, CanProbe, HaveNames, IsProbed, Probe, probe_item, stream_at}
 use Rattle.pr_probe.proofs.Equations.{equations-same}
 use Rattle.pr_probe.proofs.Laws.{probed-signals}
 use Rattle.pr_probe.proofs.Meaning.{outputs_of}
@@ -39,8 +39,8 @@ use Rattle.pr_probe.proofs.Scope.{probed-lawful}
 use Rattle.pr_lens_probe.specs.declared.asking.Want.{Want}
 use Rattle.pr_lens_probe.specs.Asked.{AreAsked, CanAsk, IsAnswered, IsAsking, cost_of}
 use Rattle.pr_lens_probe.specs.Fresh.{fresh_names, is_within, probes_from}
-use Rattle.pr_lens_probe.specs.Given.{AreGiven, GiveStreams, HasStreams, HaveKinds, stream_of}
-use Rattle.pr_lens_probe.specs.Kinds.{has_room, is_signed, is_wide, kinds_of, last_of}
+use Rattle.pr_lens_probe.specs.Given.{AreGiven, HasStreams, HaveKinds, stream_of}
+use Rattle.pr_lens_probe.specs.Kinds.{has_room, is_signed, is_wide, last_of}
 use Rattle.pr_lens_probe.proofs.Given.{lawful-last, zip-last}
 use Rattle.pr_lens_probe.proofs.KindLaws as laws
 use Rattle.pr_lens_probe.proofs.Names.{fresh, probes-are}

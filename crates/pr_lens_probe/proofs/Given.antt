@@ -1,6 +1,6 @@
 -- What gives the streams of instances, first of some and then of more.
 use mathlib.Core.Path.{fun_ext}
-use Rattle.std.proofs.Common.{◌≡◌, ◌≢◌, ◌∙◌, ◌+◌, ◌-◌, ◌<◌, ◌≤◌, ℕ, Bool, true, false, ◌&&◌, ◌||◌, nat_le, is_some, List, [], ◌∷◌, ◌++◌, drop, get_or, map, take, length, Option, Some, None, refl, sym, ap, ap₂, subst, arith}
+use Rattle.std.proofs.Common.{◌≡◌, ◌∙◌, ◌+◌, ◌-◌, ◌<◌, ℕ, Bool, ◌&&◌, ◌||◌, nat_le, List, [], ◌∷◌, ◌++◌, drop, get_or, map, take, length, Option, Some, refl, sym, ap, ap₂, subst, arith}
 use Rattle.std.specs.List.{AllZip, list_all, list_any, range_with_len}
 use Rattle.std.proofs.lemmas.Bool.{and_parts, or_parts}
 use Rattle.std.proofs.lemmas.List.{drop-map, get_or-map, length-append, length-map, map-append, same_lists, take-append-drop, take-map}
@@ -15,7 +15,7 @@ use Rattle.pr_lang.specs.declared.trees.Program.{Program}
 use Rattle.pr_scope_names.specs.declared.streams.Instance.{Instance}
 use Rattle.pr_scope_facts.specs.Items.{widths_of_inputs}
 use Rattle.pr_flat.specs.declared.equations.Operand.{Operand}
-use Rattle.pr_flat.specs.Facts.{DependsOnPast, IsApart, IsFlat, is_lawful_output, reads_equation}
+use Rattle.pr_flat.specs.Facts.{IsFlat, is_lawful_output, reads_equation}
 use Rattle.pr_flat.specs.Forms.{Stream}
 use Rattle.pr_flat.specs.Shape.{EquationShape}
 use Rattle.pr_flat.specs.Values.{operand_number, rows_of}
@@ -25,10 +25,10 @@ use Rattle.pr_lang_meaning.specs.Programs as meant
 use Rattle.pr_lang_meaning.proofs.Pairs.{each-map}
 use Rattle.pr_expand_spec.specs.Programs.{equations_of}
 use Rattle.pr_expand_correct.specs.Outputs.{IsAsWide}
-use Rattle.pr_expand_correct.specs.Results.{AreSamples, IsListOf, output_rows}
+use Rattle.pr_expand_correct.specs.Results.{IsListOf, output_rows}
 use Rattle.pr_probe.specs.Probes.{numbers_at}
 use Rattle.pr_probe.proofs.Equations.{made_of}
-use Rattle.pr_lens_probe.specs.Given.{AreGiven, AreLawful, GiveStreams, HasStreams, HaveKinds, Match, stream_of}
+use Rattle.pr_lens_probe.specs.Given.{AreGiven, AreLawful, HasStreams, HaveKinds, Match, stream_of}
 use Rattle.pr_lens_probe.specs.Kinds.{has_room, is_signed, kinds_of}
 use Rattle.pr_lens_probe.specs.Shown.{columns_of, width_of}
 

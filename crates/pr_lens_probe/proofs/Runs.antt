@@ -8,8 +8,7 @@ use Rattle.pr_lang.specs.declared.trees.Program.{Program}
 use Rattle.pr_scope_names.specs.declared.streams.Instance.{Instance}
 use Rattle.pr_scope.specs.Walk.{offence, program_walk, turns_after}
 use Rattle.pr_lang_meaning.specs.Programs.{has_widths}
-use Rattle.pr_probe.specs.Instances.{instances_of}
-use Rattle.pr_probe.specs.Probes.{AreAmong, AreNamed}
+use Rattle.pr_probe.specs.Probes.{AreNamed}
 use Rattle.pr_lens_probe.specs.Asked.{CanAsk, CanAskAll}
 use Rattle.pr_lens_probe.specs.Fresh.{is_within}
 use Rattle.pr_lens_probe.specs.Given.{AreGiven}

@@ -1,5 +1,5 @@
 -- The streams of a program's instances: the operands that give them, and their kinds.
-use Rattle.std.specs.Prelude.{◌≡◌, ◌≢◌, ◌+◌, ℕ, Bool, true, false, List, ◌++◌, map, length, Option, Some, option_map}
+use Rattle.std.specs.Prelude.{◌≡◌, ◌≢◌, ℕ, Bool, true, false, List, map, length, Option, Some, option_map}
 use Rattle.std.specs.List.{AllZip, list_all, list_any}
 use Rattle.pr_lang.specs.declared.trees.Program.{Program}
 use Rattle.pr_scope_names.specs.declared.streams.Instance.{Instance}

@@ -1,7 +1,6 @@
 //! The streams of a program's instances, some at a time.
 
-ghost use Rattle.std.specs.Prelude.{◌≡◌, ◌<◌, ◌≤◌, ◌+◌, ◌*◌, ◌++◌, true, List, IfOk, length};
-ghost use Rattle.pr_scope.specs.Walk.{program_walk, turns_after};
+ghost use Rattle.std.specs.Prelude.{◌≡◌, ◌≤◌, ◌+◌, ◌*◌, ◌++◌, true, List, IfOk, length};
 ghost use Rattle.pr_scope_names.specs.declared.streams.Instance.{Instance};
 ghost use Rattle.pr_expand_spec.specs.Programs.{equations_of};
 ghost use Rattle.pr_lens_probe.specs.Asked.{CanAsk, CanAskAll};

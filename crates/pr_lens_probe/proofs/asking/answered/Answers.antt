@@ -1,4 +1,4 @@
-use Rattle.std.proofs.Common.{◌≡◌, ◌∙◌, ◌≤◌, length, ap, subst, sym, arith}
+use Rattle.std.proofs.Common.{◌≤◌, length, subst, sym, arith}
 use Rattle.pr_lang.specs.declared.trees.Program.{Program}
 use Rattle.pr_expand_spec.specs.Programs.{equations_of}
 use Rattle.pr_lens_probe.specs.Asked.{AreAsked}

@@ -1,10 +1,8 @@
-use Rattle.std.proofs.Common.{◌≡◌, ◌∙◌, ◌+◌, ◌≤◌, ◌++◌, List, length, map, sym, ap, ap₂, subst, arith}
-use Rattle.std.proofs.lemmas.List.{length-map}
-use Rattle.pr_lang.specs.declared.trees.Item.{Item}
+use Rattle.std.proofs.Common.{◌≡◌, ◌∙◌, ◌++◌, List, sym, ap₂, subst, arith}
 use Rattle.pr_scope_names.specs.declared.streams.Instance.{Instance}
 use Rattle.pr_flat.specs.declared.equations.Operand.{Operand}
 use Rattle.pr_flat.specs.Facts.{IsFlat}
-use Rattle.pr_flat.specs.Shape.{EquationShape, shapes_of}
+use Rattle.pr_flat.specs.Shape.{EquationShape}
 use Rattle.pr_expand_spec.specs.Programs.{equations_of}
 use Rattle.pr_probe.specs.Instances.{instances_of}
 use Rattle.pr_probe.specs.Probes.{AreNamed, HaveNames}
