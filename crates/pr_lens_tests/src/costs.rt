@@ -37,6 +37,20 @@ $ pipelens graph p
 = 0
 ...  u1 -> u2;
 ...
+$ pipelens graph p
+= 0
+...\\nx, line 1\\n1 cell\"];
+...
+$ pipelens graph p
+= 0
+...    u2 [label=\"2 adds\\na, line 2\\n1 cell\"];
+...
+$ pipelens graph p
+= 0
+...  y0 [shape=plaintext, label=\"output y\"];
+  u3 -> y0;
+}
+...
 $ pipelens graph nowhere
 = 3
 ...
