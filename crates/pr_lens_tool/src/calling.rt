@@ -148,11 +148,11 @@ pub fn pipelens<S: Shelf, K: Sink>(
     out: &mut K,
 ) -> Reply
     // Lawful words are followed: what they ask for is written whole, unless a write fails, or nothing is, for its cause.
-    // Other words get the help or are refused. Memory may want in any call.
-    ensures called { IsCalled (asked_by words.now) (call
+    // Other words get the help where they ask for it, and are refused where they do not. Memory may want in any call.
+    ensures called { IsCalled words.now (call
         (S.told shelf.old) (S.faults shelf.old) (S.faults shelf.new)
         (K.told out.old) (K.told out.new) (K.faults out.old) (K.faults out.new)) result.outcome }
-    // A line that is told in place of an answer's own names the file.
+    // A line that is told in place of an answer's own names the file. It is left out for want of memory alone.
     ensures line { HasLine (asked_by words.now) result }
     ensures told { S.told shelf.new ≡ S.told shelf.old }
     ensures shelf_later { S.faults shelf.old ≤ S.faults shelf.new }

@@ -11,4 +11,6 @@ returns-in-Ok-clause-line g c = has_line _ _ c.reply_of.result _ c.in-Ok.ensures
 
 pub returns-in-Err-Help-clause-called : goal.returns-in-Err-Help-clause-called
 unfolding help_text
-returns-in-Err-Help-clause-called g c = called_help _ _ _ (c.in-Err-Help.ensures.help (rw c.in-Err-Help.field-0-is refl)) (rw c.bare.ensures.outcome c.written.ensures.written)
+returns-in-Err-Help-clause-called g c =
+    called_help _ _ _ (c.in-Err-Help.ensures.help (rw c.in-Err-Help.field-0-is refl)) (c.in-Err-Help.ensures.asks (rw c.in-Err-Help.field-0-is refl))
+    (rw c.bare.ensures.outcome c.written.ensures.written)
