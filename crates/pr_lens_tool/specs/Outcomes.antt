@@ -25,6 +25,10 @@ status_of LongModule = 6
 status_of LongBench = 6
 status_of (NoStream place) = 2
 
+-- no failed read is kept quiet: the outcome is a read fault, or the shelf's count of faults is as it was
+abbrev pub Shows : ℕ → ℕ → Outcome → Type 0
+Shows before now outcome = (outcome ≡ Plain Answer.ReadFault) ⊎ (now ≡ before)
+
 -- ---- the line that is told beside what is written
 abbrev pub bad_log_line : ℕ → List ℕ
 bad_log_line line = codes "bad log: line " ++ decimal line ++ codes "\n"
