@@ -7,7 +7,7 @@ use Rattle.pr_lang.specs.declared.trees.Stmt.TheVariants.{For}
 use Rattle.pr_lang.specs.declared.trees.Stmt.TheOpen.{Stmt-F}
 use Rattle.pr_lang.specs.declared.trees.Stmt.TheFolds.{fold-roll-Stmt}
 use Rattle.pr_lens_extents.specs.declared.verdicts.Verdict.{Verdict}
-use Rattle.pr_lens_extents.specs.Extents.{constant}
+use Rattle.pr_lens_reach.specs.Extents.{constant}
 use Rattle.pr_lens_extents.specs.Verdicts.{all_joined}
 use Rattle.pr_lens_extents.specs.Scenes.{Seen, fixed_value, with_stream}
 use Rattle.pr_lens_extents.specs.Statements.{IsAdded, IsTurned, Outcome, Step, all_blank, bound, in_turn, step_layer, step_of, steps_of, turn, turns}

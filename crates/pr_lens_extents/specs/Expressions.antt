@@ -1,15 +1,15 @@
--- What is known of expressions, and of the comparisons in them in the order of the text.
+-- What is known of expressions, and the verdicts on the comparisons in them in the order of the text.
 use Rattle.std.specs.Prelude.{ℕ, Bool, true, false, List, [], ◌∷◌, ◌++◌, Option, Some, None, bytes_eq, codes, if◌then◌else◌}
 use Rattle.pr_lang.specs.declared.trees.BinOp.{BinOp}
 use Rattle.pr_lang.specs.declared.trees.BinOp.TheVariants.{Equal, NotEqual, Less, LessEqual, Greater, GreaterEqual}
 use Rattle.pr_lang.specs.declared.trees.Expr.{Expr}
 use Rattle.pr_lang.specs.declared.trees.Expr.TheOpen.{Expr-F}
 use Rattle.pr_lang.specs.declared.trees.Expr.TheFolds.{fold-Expr}
-use Rattle.pr_lens_extents.specs.declared.extents.Extent.{Extent}
+use Rattle.pr_lens_reach.specs.declared.extents.Extent.{Extent}
 use Rattle.pr_lens_extents.specs.declared.verdicts.Verdict.{Verdict}
 use Rattle.pr_lens_extents.specs.declared.verdicts.Verdict.TheVariants.{Unseen}
-use Rattle.pr_lens_extents.specs.Extents.{constant, binary_of, choice_of, not_of, signed_of, slice_of, stream_of, width_beside, width_of}
-use Rattle.pr_lens_extents.specs.Verdicts.{verdict_on}
+use Rattle.pr_lens_reach.specs.Extents.{beside, binary_of, choice_of, constant, no_parts, not_of, past_of, signed_of, slice_of}
+use Rattle.pr_lens_extents.specs.Verdicts.{cut_of, verdict_on}
 use Rattle.pr_lens_extents.specs.Scenes.{Seen, fixed_value, known_of_target}
 
 abbrev pub compares : BinOp → Bool
@@ -49,13 +49,13 @@ verdicts_step (Expr-F.Paren e) seen = e.value.verdicts seen
 verdicts_step _ seen = []
 
 -- ---- extents
--- the width of parts beside one another, and of what stands above them
-abbrev pub widths_beside : Option ℕ → List Reading → Seen → Option ℕ
-widths_beside width [] seen = width
-widths_beside width (r ∷ rs) seen = widths_beside (width_beside width (r.extent seen)) rs seen
+-- parts beside one another, and what stands above them
+abbrev pub parts_beside : Option Extent → List Reading → Seen → Option Extent
+parts_beside above [] seen = above
+parts_beside above (r ∷ rs) seen = parts_beside (beside above (r.extent seen)) rs seen
 
 abbrev pub concatenated : List Reading → Seen → Option Extent
-concatenated rs seen = width_of (widths_beside (Some 0) rs seen)
+concatenated rs seen = parts_beside (Some no_parts) rs seen
 
 abbrev pub is_signed : List ℕ → Bool
 is_signed name = bytes_eq name (codes "signed")
@@ -68,7 +68,7 @@ called name _ seen = None
 abbrev pub extent_step : Expr-F Reading → Seen → Option Extent
 extent_step (Expr-F.Number n) seen = Some (constant n)
 extent_step (Expr-F.Refer r) seen = known_of_target r seen
-extent_step (Expr-F.Delay r k) seen = stream_of (known_of_target r seen)
+extent_step (Expr-F.Delay r k) seen = past_of (known_of_target r seen)
 extent_step (Expr-F.Slice e high low) seen = slice_of (fixed_value high seen) (fixed_value low seen)
 extent_step (Expr-F.Not e) seen = not_of (e.value.extent seen)
 extent_step (Expr-F.Binary o a b) seen = binary_of o (a.value.extent seen) (b.value.extent seen)
@@ -83,8 +83,39 @@ reading_step e = record { extent = extent_step e; verdicts = verdicts_step e }
 abbrev pub reading_of : Expr → Reading
 reading_of = fold-Expr Reading reading_step
 
+-- the operator outside of all others
+abbrev pub outer_step : Expr-F (Option BinOp) → Option BinOp
+outer_step (Expr-F.Binary o a b) = Some o
+outer_step (Expr-F.Paren e) = e.value
+outer_step _ = None
+
+abbrev pub outer_of : Expr → Option BinOp
+outer_of = fold-Expr (Option BinOp) outer_step
+
 abbrev pub extent_of : Expr → Seen → Option Extent
 extent_of e seen = (reading_of e).extent seen
 
 abbrev pub verdicts_of : Expr → Option Seen → List Verdict
 verdicts_of e seen = (reading_of e).verdicts seen
+
+-- ---- what is assigned
+abbrev pub width_verdict : ℕ → Expr → Option Seen → Verdict
+width_verdict w e None = Unseen
+width_verdict w e (Some seen) = cut_of (outer_of e) w (extent_of e seen)
+
+-- a verdict on the declared width where there is one
+abbrev pub width_verdicts : Option ℕ → Expr → Option Seen → List Verdict
+width_verdicts None e seen = []
+width_verdicts (Some w) e seen = width_verdict w e seen ∷ []
+
+-- the declared width stands before the expression
+abbrev pub assigned_verdicts : Option ℕ → Expr → Option Seen → List Verdict
+assigned_verdicts width e seen = width_verdicts width e seen ++ verdicts_of e seen
+
+-- a recurrence wraps around at its declared width
+abbrev pub blank_width : Option ℕ → List Verdict
+blank_width None = []
+blank_width (Some w) = Unseen ∷ []
+
+abbrev pub repeated_verdicts : Option ℕ → Expr → Option Seen → List Verdict
+repeated_verdicts width e seen = blank_width width ++ verdicts_of e seen

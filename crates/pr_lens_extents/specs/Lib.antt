@@ -1,4 +1,3 @@
-pub mod Extents
 pub mod Verdicts
 pub mod Scenes
 pub mod Expressions

@@ -1,4 +1,4 @@
--- The verdicts on the comparisons of a program, in the order of its text.
+-- The verdicts on the comparisons and declared widths of a program, in the order of its text.
 use Rattle.std.specs.Prelude.{ℕ, ◌+◌, false, List, [], ◌∷◌, ◌++◌, Option, Some, None}
 use Rattle.pr_lang.specs.declared.trees.Fixed.{Fixed}
 use Rattle.pr_lang.specs.declared.trees.Expr.{Expr}
@@ -7,9 +7,9 @@ use Rattle.pr_lang.specs.declared.trees.Item.{Item}
 use Rattle.pr_lang.specs.declared.trees.Item.TheVariants as item
 use Rattle.pr_lang.specs.declared.trees.Program.{Program}
 use Rattle.pr_lens_extents.specs.declared.verdicts.Verdict.{Verdict}
-use Rattle.pr_lens_extents.specs.Extents.{settled_as, width_form}
+use Rattle.pr_lens_reach.specs.Extents.{settled_as, width_form}
 use Rattle.pr_lens_extents.specs.Scenes.{Seen, fixed_value, nothing_seen, with_constant, with_stream}
-use Rattle.pr_lens_extents.specs.Expressions.{extent_of, verdicts_of}
+use Rattle.pr_lens_extents.specs.Expressions.{assigned_verdicts, extent_of, verdicts_of}
 use Rattle.pr_lens_extents.specs.Statements.{Outcome, behind, in_turn, step_of, steps_of}
 
 abbrev pub with_value : List ℕ → Option ℕ → Option ℕ → Seen → Seen
@@ -36,7 +36,7 @@ function_outcome body result seen =
 
 abbrev pub output_outcome : List ℕ → Option ℕ → Expr → Seen → Outcome
 output_outcome name width e seen = record {
-  verdicts = verdicts_of e (Some seen);
+  verdicts = assigned_verdicts width e (Some seen);
   seen = with_stream name None (settled_as width (extent_of e seen)) seen;
 }
 

@@ -9,9 +9,9 @@ use Rattle.pr_lang.specs.declared.trees.FixedOp.{FixedOp}
 use Rattle.pr_lang.specs.declared.trees.Ref.{Ref}
 use Rattle.pr_scope_names.specs.Constants.{applied}
 use Rattle.pr_scope_names.specs.Names.{ByInstance, instances_in, placed, with_instance}
-use Rattle.pr_lens_extents.specs.declared.extents.Extent.{Extent}
+use Rattle.pr_lens_reach.specs.declared.extents.Extent.{Extent}
 use Rattle.pr_lens_extents.specs.declared.scenes.Scene.{Scene}
-use Rattle.pr_lens_extents.specs.Extents.{constant}
+use Rattle.pr_lens_reach.specs.Extents.{constant}
 
 -- the constants and entries of tables, and the streams and indices of loops, with what is known of them
 pub record Seen : Type 0 where

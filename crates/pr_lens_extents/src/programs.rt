@@ -5,12 +5,12 @@ ghost use Rattle.pr_lens_extents.specs.Scenes.{fixed_value, seen_in};
 ghost use Rattle.pr_lens_extents.specs.Statements.{IsAdded};
 ghost use Rattle.pr_lens_extents.specs.Programs.{function_outcome, item_outcome, output_outcome, program_verdicts, with_entries, with_value};
 
-use crate::expressions::{extent_of, put_verdicts};
-use crate::extents::{settled_as, width_form};
+use crate::expressions::{extent_of, put_assigned, put_verdicts};
 use crate::scenes::{Scene, empty, fixed_value, set_constant, set_stream};
 use crate::statements::{put_stmt, put_stmts};
 use crate::verdicts::Verdict;
 use pr_lang::{Expr, Fixed, Item, Name, Program, Stmt};
+use pr_lens_reach::{settled_as, width_form};
 use pr_scope_names::Instances;
 use std::alloc::{AllocError, Global};
 use std::mem;
@@ -76,7 +76,7 @@ fn put_output(
     ensures { OnOk result (IsAdded (output_outcome name.now width value.now (seen_in scene.old))
         verdicts.old.items verdicts.new.items (seen_in scene.new)) }
 {
-    put_verdicts(verdicts, Some(scene), value)?;
+    put_assigned(verdicts, Some(scene), width, value)?;
     let extent = settled_as(width, extent_of(scene, value));
     set_stream(alloc, scene, name, None, extent)
 }

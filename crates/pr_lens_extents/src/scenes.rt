@@ -3,8 +3,8 @@
 ghost use Rattle.std.specs.Prelude.{◌≡◌, IfOk, OnOk};
 ghost use Rattle.pr_lens_extents.specs.Scenes.{both_applied, fixed_value, known_at, known_of_target, nothing_seen, number_at, place_by, seen_in, with_constant, with_stream, with_target};
 
-use crate::extents::{Extent, constant, number_of};
 use pr_lang::{Fixed, FixedOp, Name, Ref};
+use pr_lens_reach::{Extent, constant, number_of};
 use pr_scope_names::{Instances, apply};
 use std::alloc::{AllocError, Global};
 

@@ -1,11 +1,13 @@
 -- What is told of a remark.
-use Rattle.std.specs.Prelude.{ℕ, Bool, true, false, List, Option, None, Some, ◌++◌, codes, decimal}
+use Rattle.std.specs.Prelude.{ℕ, ◌-◌, Bool, true, false, nat_eq, List, Option, None, Some, ◌++◌, codes, decimal, if◌then◌else◌}
 use Rattle.pr_lang.specs.declared.tokens.Token.{Token}
 use Rattle.pr_flat.specs.declared.forms.Form.{Form}
-use Rattle.pr_lens_extents.specs.declared.extents.Extent.{Extent}
+use Rattle.pr_lens_reach.specs.declared.extents.Extent.{Extent}
+use Rattle.pr_lens_reach.specs.declared.reaches.Reach.{Reach}
+use Rattle.pr_lens_reach.specs.Reaches.{whole}
 use Rattle.pr_lens_rules.specs.Pieces.{token_text}
 use Rattle.pr_lens_warn.specs.declared.remarks.Remark.{Remark}
-use Rattle.pr_lens_warn.specs.declared.remarks.Remark.TheVariants.{Negative, Wrapping, Unneeded, Amount, Settled}
+use Rattle.pr_lens_warn.specs.declared.remarks.Remark.TheVariants.{Negative, Wrapping, Unneeded, Amount, Settled, Narrow}
 use Rattle.pr_lens_warn.specs.declared.remarks.Warning.{Warning}
 
 -- a short word for the kind of a remark, which never changes
@@ -15,6 +17,7 @@ code_of (Wrapping by width left) = codes "wrapping-difference"
 code_of Unneeded = codes "unneeded"
 code_of (Amount number) = codes "constant-shift"
 code_of (Settled answer left right) = codes "constant-comparison"
+code_of (Narrow form reach) = codes "cut-bits"
 
 abbrev pub heading_of : Remark → List ℕ
 heading_of (Negative value width below) = codes "warning: signed-constant\n"
@@ -22,6 +25,7 @@ heading_of (Wrapping by width left) = codes "warning: wrapping-difference\n"
 heading_of Unneeded = codes "warning: unneeded\n"
 heading_of (Amount number) = codes "warning: constant-shift\n"
 heading_of (Settled answer left right) = codes "warning: constant-comparison\n"
+heading_of (Narrow form reach) = codes "warning: cut-bits\n"
 
 -- ---- what is wrong, and what to do
 unfoldable pub sign_text : ℕ → ℕ → ℕ → List ℕ
@@ -76,12 +80,38 @@ settled_text answer left right =
     sides_text answer left right
     ++ codes ".\nCompare with a number in reach, or take the comparison out. `signed(s)` reads the highest bit of `s` as its sign.\n"
 
+-- a value that is so far below 0
+abbrev pub least_text : ℕ → List ℕ
+least_text below = if nat_eq below 0 then codes "from 0 to " else codes "from -" ++ decimal below ++ codes " to "
+
+abbrev pub span_text : Reach → List ℕ
+span_text r = least_text r.below ++ decimal r.above
+
+abbrev pub reach_text : Option Reach → List ℕ
+reach_text None = codes "beyond 128 bits"
+reach_text (Some r) = span_text r
+
+unfoldable pub values_text : Option Reach → List ℕ
+values_text reach = codes "The values here go " ++ reach_text reach ++ codes ", and the width "
+
+unfoldable pub width_text : Form → List ℕ
+width_text form = decimal form.width ++ codes " holds those " ++ reach_text (whole form)
+
+unfoldable pub slice_text : ℕ → List ℕ
+slice_text w =
+    codes ": the bits above are cut off.\nDeclare a greater width. Where these bits are not wanted, a slice says so: `(..){" ++ decimal (w - 1)
+    ++ codes "..0}`.\n"
+
+unfoldable pub narrow_text : Form → Option Reach → List ℕ
+narrow_text form reach = values_text reach ++ width_text form ++ slice_text form.width
+
 abbrev pub remark_text : List ℕ → List Token → ℕ → Remark → List ℕ
 remark_text text tokens token (Negative value width below) = sign_text value width below ++ unsigned_text value
 remark_text text tokens token (Wrapping by width left) = wrap_text by width left ++ minus_text by
 remark_text text tokens token Unneeded = unneeded_text text tokens token
 remark_text text tokens token (Amount number) = amount_text text tokens token number
 remark_text text tokens token (Settled answer left right) = settled_text answer left right
+remark_text text tokens token (Narrow form reach) = narrow_text form reach
 
 abbrev pub message_of : List ℕ → List Token → Warning → List ℕ
 message_of text tokens w = remark_text text tokens w.first w.remark

@@ -30,7 +30,7 @@ difference_warning text tokens spans at =
 abbrev pub name_warning : List Token → List Bool → ℕ → Option Warning
 name_warning tokens needed at = if is_assigned tokens at && not (is_marked needed at) then Some (warning at at Unneeded) else None
 
--- on a comparison, by its sign
+-- on a comparison, by its sign, or on a declared width
 abbrev pub comparison_warning : List Verdict → ℕ → Option Warning
 comparison_warning verdicts at = option_map (warning at at) (settled (slice_index_or verdicts at Unseen))
 

@@ -1,14 +1,15 @@
-//! Comparisons that are settled, by their signs in the text.
+//! Comparisons that are settled, by their signs in the text, and declared widths that cut bits off.
 
-ghost use Rattle.std.specs.Prelude.{◌≡◌, ◌≤◌, IfOk, length, slice_index_or};
+ghost use Rattle.std.specs.Prelude.{◌≡◌, ◌<◌, ◌≤◌, IfOk, length, slice_index_or};
 ghost use Rattle.pr_lang.specs.Tokens.{tokens_of};
 ghost use Rattle.pr_lens_extents.specs.declared.verdicts.Verdict.TheVariants.{Unseen};
-ghost use Rattle.pr_lens_warn.specs.Comparisons.{AreVerdicts, by_tokens, settled};
+ghost use Rattle.pr_lens_warn.specs.Comparisons.{AreVerdicts, by_tokens, is_judged, settled};
 
-use crate::kinds::is_comparison;
+use crate::kinds::{is_assign, is_colon, is_comparison, is_number};
 use crate::remarks::Remark;
 use pr_lang::Token;
 use pr_lens_extents::{Verdict, verdicts_of};
+use pr_lens_source::Source;
 use pr_parse::{ParseFault, parse};
 use std::alloc::{AllocError, Global};
 
@@ -35,19 +36,33 @@ fn verdict_at(verdicts: &[Verdict], number: usize) -> Verdict
     }
 }
 
-/// A verdict for each token: the comparisons have theirs, one after the other.
+/// Whether a token has a verdict: it is the sign of a comparison, or a declared width behind a name that is assigned.
+#[tactic(auto, unfolding(crate::specs::Comparisons::is_judged))]
+fn is_judged(source: &Source, at: usize) -> bool
+    requires { at < length source.now.tokens.now }
+    ensures { result ≡ is_judged source.now.tokens.now at }
+{
+    if is_comparison(source.kind(at)) {
+        return true;
+    }
+    is_number(source.kind(at))
+        && is_colon(source.kind(at.saturating_sub(1)))
+        && is_assign(source.kind(at + 1))
+}
+
+/// A verdict for each token: those that are judged have theirs, one after the other.
 pub fn by_tokens(
     alloc: Global,
-    tokens: &[Token],
+    source: &Source,
     verdicts: &[Verdict],
 ) -> Result<Vec<Verdict>, AllocError>
-    ensures count { IfOk result (λ all. length all.items ≡ length tokens.now) }
-    ensures each { IfOk result (λ all. all.items ≡ by_tokens tokens.now verdicts.now) }
+    ensures count { IfOk result (λ all. length all.items ≡ length source.now.tokens.now) }
+    ensures each { IfOk result (λ all. all.items ≡ by_tokens source.now.tokens.now verdicts.now) }
 {
     let mut all = Vec::new(alloc);
     let mut next = 0;
-    for token in tokens {
-        if is_comparison(token.kind) {
+    for at in 0..source.tokens.len() {
+        if is_judged(source, at) {
             all.push(verdict_at(verdicts, next))?;
             next += 1;
         } else {
@@ -57,7 +72,7 @@ pub fn by_tokens(
     Ok(all)
 }
 
-/// What is pointed out of a comparison with this verdict.
+/// What is pointed out of a comparison or a declared width with this verdict.
 pub fn settled(verdict: Verdict) -> Option<Remark>
     ensures { result ≡ settled verdict }
 {
@@ -72,5 +87,6 @@ pub fn settled(verdict: Verdict) -> Option<Remark>
             left,
             right,
         }),
+        Verdict::Cut { form, reach } => Some(Remark::Narrow { form, reach }),
     }
 }

@@ -1,7 +1,7 @@
 //! What a careful reader points out in a program that is accepted all the same.
 //!
-//! What is pointed out is decided on the tokens of the text and its names, and of comparisons by what `pr_lens_extents`
-//! knows of their sides.
+//! What is pointed out is decided on the tokens of the text and its names, and of comparisons and declared
+//! widths by what `pr_lens_extents` knows of expressions.
 #![tactic(auto)]
 
 mod comparisons;

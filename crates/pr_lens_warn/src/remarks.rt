@@ -1,6 +1,7 @@
 //! Remarks on a program.
 
-use pr_lens_extents::Extent;
+use pr_flat::Form;
+use pr_lens_reach::{Extent, Reach};
 
 /// What is pointed out.
 #[derive(Clone, Copy, PartialEq, Eq, Debug)]
@@ -31,6 +32,13 @@ pub enum Remark {
         answer: bool,
         left: Extent,
         right: Extent,
+    },
+    /// A declared width cuts bits off, as it does not have all these values.
+    Narrow {
+        /// The kind of what is assigned, and the declared width.
+        form: Form,
+        /// None where the values are beyond 128 bits.
+        reach: Option<Reach>,
     },
 }
 

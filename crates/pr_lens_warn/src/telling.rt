@@ -1,10 +1,12 @@
 //! What is told of a warning.
 
-ghost use Rattle.std.specs.Prelude.{◌≡◌, ◌++◌, OnOk};
-ghost use Rattle.pr_lens_warn.specs.Texts.{amount_text, answer_text, code_of, heading_of, message_of, minus_text, settled_text, side_text, sides_text, unneeded_text, sign_text, unsigned_text, wrap_text};
+ghost use Rattle.std.specs.Prelude.{◌≡◌, ◌++◌, OnOk, decimal};
+ghost use Rattle.pr_lens_warn.specs.Texts.{amount_text, answer_text, code_of, heading_of, least_text, message_of, minus_text, narrow_text, reach_text, settled_text, side_text, sides_text, slice_text, span_text, unneeded_text, sign_text, unsigned_text, values_text, width_text, wrap_text};
 
 use crate::remarks::{Remark, Warning};
-use pr_lens_extents::Extent;
+use itoa::Buffer;
+use pr_flat::Form;
+use pr_lens_reach::{Extent, Reach, whole_of};
 use pr_lens_rules::put_quoted;
 use pr_lens_source::Source;
 use pr_lens_text::{put, put_counted};
@@ -20,6 +22,7 @@ pub fn code_of(remark: &Remark) -> &'static [u8]
         Remark::Unneeded => b"unneeded",
         Remark::Amount { .. } => b"constant-shift",
         Remark::Settled { .. } => b"constant-comparison",
+        Remark::Narrow { .. } => b"cut-bits",
     }
 }
 
@@ -33,6 +36,7 @@ pub fn heading_of(remark: &Remark) -> &'static [u8]
         Remark::Unneeded => b"warning: unneeded\n",
         Remark::Amount { .. } => b"warning: constant-shift\n",
         Remark::Settled { .. } => b"warning: constant-comparison\n",
+        Remark::Narrow { .. } => b"warning: cut-bits\n",
     }
 }
 
@@ -180,6 +184,87 @@ fn put_settled(
     )
 }
 
+/// Adds a number in decimal digits.
+fn put_wide(message: &mut Vec<u8>, number: u128) -> Result<(), AllocError>
+    ensures { OnOk result (message.new.items ≡ message.old.items ++ decimal number) }
+{
+    let mut buffer = Buffer::new();
+    message.extend_from_slice(buffer.format(number).as_bytes())
+}
+
+/// Tells the least value, which is so far below 0.
+fn put_least(message: &mut Vec<u8>, below: u128) -> Result<(), AllocError>
+    ensures { OnOk result (message.new.items ≡ message.old.items ++ least_text below) }
+{
+    if below == 0 {
+        return put(message, "from 0 to ");
+    }
+    put(message, "from -")?;
+    put_wide(message, below)?;
+    put(message, " to ")
+}
+
+/// Tells between which values a stream stands.
+fn put_span(message: &mut Vec<u8>, reach: Reach) -> Result<(), AllocError>
+    ensures { OnOk result (message.new.items ≡ message.old.items ++ span_text reach) }
+{
+    put_least(message, reach.below)?;
+    put_wide(message, reach.above)
+}
+
+/// The same, where the values can be beyond 128 bits.
+fn put_reach(message: &mut Vec<u8>, reach: Option<Reach>) -> Result<(), AllocError>
+    ensures { OnOk result (message.new.items ≡ message.old.items ++ reach_text reach) }
+{
+    match reach {
+        None => put(message, "beyond 128 bits"),
+        Some(reach) => put_span(message, reach),
+    }
+}
+
+/// Tells what values an expression has.
+#[tactic(auto, unfolding(crate::specs::Texts::values_text))]
+fn put_values(message: &mut Vec<u8>, reach: Option<Reach>) -> Result<(), AllocError>
+    ensures { OnOk result (message.new.items ≡ message.old.items ++ values_text reach) }
+{
+    put(message, "The values here go ")?;
+    put_reach(message, reach)?;
+    put(message, ", and the width ")
+}
+
+/// Tells what values a width has.
+#[tactic(auto, unfolding(crate::specs::Texts::width_text))]
+fn put_width(message: &mut Vec<u8>, form: Form) -> Result<(), AllocError>
+    ensures { OnOk result (message.new.items ≡ message.old.items ++ width_text form) }
+{
+    put_wide(message, u128::from(form.width))?;
+    put(message, " holds those ")?;
+    put_reach(message, whole_of(form.signed, form.width))
+}
+
+/// Tells what to write in its place.
+#[tactic(auto, unfolding(crate::specs::Texts::slice_text))]
+fn put_slice(message: &mut Vec<u8>, width: u16) -> Result<(), AllocError>
+    ensures { OnOk result (message.new.items ≡ message.old.items ++ slice_text width) }
+{
+    put_counted(
+        message,
+        ": the bits above are cut off.\nDeclare a greater width. Where these bits are not wanted, a slice says so: `(..){",
+        usize::from(width.saturating_sub(1)),
+    )?;
+    put(message, "..0}`.\n")
+}
+
+/// Tells that a declared width cuts bits off.
+#[tactic(auto, unfolding(crate::specs::Texts::narrow_text))]
+fn put_narrow(message: &mut Vec<u8>, form: Form, reach: Option<Reach>) -> Result<(), AllocError>
+    ensures { OnOk result (message.new.items ≡ message.old.items ++ narrow_text form reach) }
+{
+    put_values(message, reach)?;
+    put_width(message, form)?;
+    put_slice(message, form.width)
+}
+
 /// Tells what is wrong, and what to do.
 pub fn put_message(
     message: &mut Vec<u8>,
@@ -209,5 +294,6 @@ pub fn put_message(
             left,
             right,
         } => put_settled(message, answer, left, right),
+        Remark::Narrow { form, reach } => put_narrow(message, form, reach),
     }
 }

@@ -69,7 +69,7 @@ fn amount_warning(source: &Source, at: usize) -> Option<Warning>
     })
 }
 
-/// The warning at a token that is the sign of a comparison with this verdict.
+/// The warning at a token that is the sign of a comparison, or a declared width, with this verdict.
 fn comparison_warning(verdicts: &[Verdict], at: usize) -> Option<Warning>
     requires { at < length verdicts.now }
     ensures { result ≡ comparison_warning verdicts.now at }
@@ -82,7 +82,7 @@ fn comparison_warning(verdicts: &[Verdict], at: usize) -> Option<Warning>
     })
 }
 
-/// The warning at a name that is assigned, or at the sign of a comparison.
+/// The warning at a name that is assigned, at the sign of a comparison, or at a declared width.
 fn last_warning(
     source: &Source,
     needed: &[bool],
@@ -143,8 +143,9 @@ fn warnings_by(
 }
 
 /// What is pointed out in a program, in the order of its text: `signed` of a constant whose highest bit is 1, a
-/// difference of constants that wraps around, a name that no result needs, a shift by a stream that is one number, and a comparison whose verdict is that it gives
-/// always the same. The verdicts are those on the comparisons of the text, one after the other.
+/// difference of constants that wraps around, a name that no result needs, a shift by a stream that is one number, a
+/// comparison that gives always the same by its verdict, and a declared width that cuts bits off by its own. The
+/// verdicts are those on the comparisons and declared widths of the text, one after the other.
 pub fn warnings_of(
     alloc: Global,
     source: &Source,
@@ -154,6 +155,6 @@ pub fn warnings_of(
         AreWarnings source.text.now source.tokens.now source.spans.now verdicts.now found.items) }
 {
     let needed = needed(alloc, source)?;
-    let by_tokens = by_tokens(alloc, source.tokens, verdicts)?;
+    let by_tokens = by_tokens(alloc, source, verdicts)?;
     warnings_by(alloc, source, &needed, &by_tokens)
 }
