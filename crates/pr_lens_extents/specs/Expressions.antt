@@ -1,5 +1,5 @@
 -- What is known of expressions, and the verdicts on the comparisons in them in the order of the text.
-use Rattle.std.specs.Prelude.{ℕ, Bool, true, false, List, [], ◌∷◌, ◌++◌, Option, Some, None, bytes_eq, codes, if◌then◌else◌}
+use Rattle.std.specs.Prelude.{ℕ, ◌+◌, Bool, true, false, List, [], ◌∷◌, ◌++◌, Option, Some, None, if◌then◌else◌}
 use Rattle.pr_lang.specs.declared.trees.BinOp.{BinOp}
 use Rattle.pr_lang.specs.declared.trees.BinOp.TheVariants.{Equal, NotEqual, Less, LessEqual, Greater, GreaterEqual}
 use Rattle.pr_lang.specs.declared.trees.Expr.{Expr}
@@ -9,8 +9,9 @@ use Rattle.pr_lens_reach.specs.declared.extents.Extent.{Extent}
 use Rattle.pr_lens_extents.specs.declared.verdicts.Verdict.{Verdict}
 use Rattle.pr_lens_extents.specs.declared.verdicts.Verdict.TheVariants.{Unseen}
 use Rattle.pr_lens_reach.specs.Extents.{beside, binary_of, choice_of, constant, no_parts, not_of, past_of, signed_of, slice_of}
-use Rattle.pr_lens_extents.specs.Verdicts.{cut_of, verdict_on}
+use Rattle.pr_lens_extents.specs.Verdicts.{cut_of, first_said, negative_of, verdict_on}
 use Rattle.pr_lens_extents.specs.Scenes.{Seen, fixed_value, known_of_target}
+use Rattle.pr_lens_extents.specs.Parameters.{is_marked, is_signed}
 
 abbrev pub compares : BinOp → Bool
 compares Equal = true
@@ -38,12 +39,30 @@ abbrev pub all_verdicts : List Reading → Option Seen → List Verdict
 all_verdicts [] seen = []
 all_verdicts (r ∷ rs) seen = r.verdicts seen ++ all_verdicts rs seen
 
+-- ---- calls
+abbrev pub argument_verdict : List ℕ → ℕ → Option Extent → Seen → Verdict
+argument_verdict function at e seen = if is_marked function at seen then negative_of at e else Unseen
+
+-- the first of the arguments from this one on of which something is said
+abbrev pub arguments_verdict : List ℕ → ℕ → List Reading → Seen → Verdict
+arguments_verdict function at [] seen = Unseen
+arguments_verdict function at (r ∷ rs) seen =
+    first_said (argument_verdict function at (r.extent seen) seen) (arguments_verdict function (at + 1) rs seen)
+
+abbrev pub call_verdict : List ℕ → List Reading → Option Seen → Verdict
+call_verdict function rs None = Unseen
+call_verdict function rs (Some seen) = arguments_verdict function 0 rs seen
+
+-- the name of a function stands before its arguments
+abbrev pub call_verdicts : List ℕ → List Reading → Option Seen → List Verdict
+call_verdicts function rs seen = call_verdict function rs seen ∷ all_verdicts rs seen
+
 abbrev pub verdicts_step : Expr-F Reading → Option Seen → List Verdict
 verdicts_step (Expr-F.Slice e high low) seen = e.value.verdicts seen
 verdicts_step (Expr-F.Not e) seen = e.value.verdicts seen
 verdicts_step (Expr-F.Binary o a b) seen = (a.value.verdicts seen ++ own_verdict o a.value b.value seen) ++ b.value.verdicts seen
 verdicts_step (Expr-F.Choose c a b) seen = (c.value.verdicts seen ++ a.value.verdicts seen) ++ b.value.verdicts seen
-verdicts_step (Expr-F.Call name args) seen = all_verdicts args.items seen
+verdicts_step (Expr-F.Call name args) seen = call_verdicts name args.items seen
 verdicts_step (Expr-F.Cat parts) seen = all_verdicts parts.items seen
 verdicts_step (Expr-F.Paren e) seen = e.value.verdicts seen
 verdicts_step _ seen = []
@@ -56,9 +75,6 @@ parts_beside above (r ∷ rs) seen = parts_beside (beside above (r.extent seen))
 
 abbrev pub concatenated : List Reading → Seen → Option Extent
 concatenated rs seen = parts_beside (Some no_parts) rs seen
-
-abbrev pub is_signed : List ℕ → Bool
-is_signed name = bytes_eq name (codes "signed")
 
 -- of the functions only `signed` is looked at
 abbrev pub called : List ℕ → List Reading → Seen → Option Extent

@@ -7,7 +7,8 @@ use Rattle.pr_flat.specs.Facts.{is_width}
 use Rattle.pr_lens_reach.specs.declared.extents.Extent.{Extent}
 use Rattle.pr_lens_reach.specs.declared.reaches.Reach.{Reach}
 use Rattle.pr_lens_extents.specs.declared.verdicts.Verdict.{Verdict}
-use Rattle.pr_lens_extents.specs.declared.verdicts.Verdict.TheVariants.{Unseen, Always, Varies, Cut}
+use Rattle.pr_lens_extents.specs.declared.verdicts.Verdict.TheVariants.{Unseen, Always, Varies, Cut, Negative}
+use Rattle.pr_lens_reach.specs.Extents.{signed_extent}
 use Rattle.pr_lens_reach.specs.Reaches.{fits_at, greatest_of}
 
 -- the least value, which can be below 0 where it is signed
@@ -87,6 +88,20 @@ abbrev pub cut_of : Option BinOp → ℕ → Option Extent → Verdict
 cut_of o w None = Unseen
 cut_of o w (Some e) = cut_by o w e
 
+-- ---- arguments that are read by `signed`
+abbrev pub negative_by : ℕ → Option ℕ → ℕ → Option Reach → Verdict
+negative_by at (Some n) w (Some r) = if nat_lt 0 r.below then Negative at n w r.below else Unseen
+negative_by at _ w _ = Unseen
+
+-- a constant at this place whose highest bit is 1
+abbrev pub negative_of : ℕ → Option Extent → Verdict
+negative_of at None = Unseen
+negative_of at (Some e) = negative_by at e.number e.form.width (signed_extent e).reach
+
+abbrev pub first_said : Verdict → Verdict → Verdict
+first_said Unseen other = other
+first_said one other = one
+
 -- ---- in several turns of a loop
 abbrev pub agree : Bool → Bool → Bool
 agree a b = if a then b else not b
@@ -96,12 +111,14 @@ joined_with one a Unseen = one
 joined_with one a Varies = Varies
 joined_with one a (Always b g h) = if agree a b then one else Varies
 joined_with one a (Cut f r) = one
+joined_with one a (Negative at n w below) = one
 
 abbrev pub joined : Verdict → Verdict → Verdict
 joined Unseen other = other
 joined Varies other = Varies
 joined (Always a e f) other = joined_with (Always a e f) a other
 joined (Cut f r) other = Cut f r
+joined (Negative at n w below) other = Negative at n w below
 
 abbrev pub all_joined : List Verdict → List Verdict → List Verdict
 all_joined (v ∷ vs) (w ∷ ws) = joined v w ∷ all_joined vs ws

@@ -1,11 +1,12 @@
 //! What is known of expressions, and of the comparisons in them.
 
 ghost use Rattle.std.specs.Prelude.{◌≡◌, ◌++◌, map, option_map, OnOk};
-ghost use Rattle.pr_lens_extents.specs.Expressions.{all_verdicts, assigned_verdicts, blank_width, called, compares, concatenated, extent_of, is_signed, judged, outer_of, reading_of, repeated_verdicts, verdicts_of, width_verdict, width_verdicts};
+ghost use Rattle.pr_lens_extents.specs.Expressions.{all_verdicts, argument_verdict, arguments_verdict, assigned_verdicts, blank_width, call_verdict, call_verdicts, called, compares, concatenated, extent_of, judged, outer_of, reading_of, repeated_verdicts, verdicts_of, width_verdict, width_verdicts};
 ghost use Rattle.pr_lens_extents.specs.Scenes.{seen_in};
 
+use crate::parameters::{is_marked, is_signed};
 use crate::scenes::{Scene, fixed_value, known_of};
-use crate::verdicts::{Verdict, cut_of, verdict_on};
+use crate::verdicts::{Verdict, cut_of, negative_of, verdict_on};
 use pr_lang::{BinOp, Expr, Name};
 use pr_lens_reach::{
     Extent, beside, binary_of, choice_of, constant, no_parts, not_of, past_of, signed_of, slice_of,
@@ -21,12 +22,6 @@ fn compares(op: BinOp) -> bool
         BinOp::Greater | BinOp::GreaterEqual => true,
         _ => false,
     }
-}
-
-fn is_signed(name: &Name) -> bool
-    ensures { result ≡ is_signed name.now }
-{
-    name.as_bytes() == b"signed".as_slice()
 }
 
 /// What is known of an expression.
@@ -94,7 +89,40 @@ fn judged(scene: Option<&Scene>, op: BinOp, left: &Expr, right: &Expr) -> Verdic
     }
 }
 
-/// Adds the verdicts on the comparisons of an expression.
+/// What is known of an argument.
+fn argument_verdict(scene: &Scene, function: &Name, at: u64, extent: Option<Extent>) -> Verdict
+    ensures { result ≡ argument_verdict function.now at extent (seen_in scene.now) }
+{
+    if is_marked(scene, function, at) {
+        return negative_of(at, extent);
+    }
+    Verdict::Unseen
+}
+
+/// What is known of the first argument of which something is said.
+fn arguments_verdict(scene: &Scene, function: &Name, args: &[Expr]) -> Verdict
+    ensures { result ≡ arguments_verdict function.now 0 (map reading_of args.now) (seen_in scene.now) }
+{
+    for at in 0..args.len() {
+        match argument_verdict(scene, function, at as u64, extent_of(scene, &args[at])) {
+            Verdict::Unseen => {}
+            said => return said,
+        }
+    }
+    Verdict::Unseen
+}
+
+/// What is known of a call.
+fn call_verdict(scene: Option<&Scene>, function: &Name, args: &[Expr]) -> Verdict
+    ensures { result ≡ call_verdict function.now (map reading_of args.now) (option_map (λ s. seen_in s.now) scene.entry) }
+{
+    match scene {
+        None => Verdict::Unseen,
+        Some(scene) => arguments_verdict(scene, function, args),
+    }
+}
+
+/// Adds the verdicts on the comparisons and calls of an expression.
 #[cycle(verdicts)]
 pub fn put_verdicts(
     verdicts: &mut Vec<Verdict>,
@@ -119,13 +147,28 @@ pub fn put_verdicts(
             put_verdicts(verdicts, scene, one)?;
             put_verdicts(verdicts, scene, other)
         }
-        Expr::Call(_, args) => put_all(verdicts, scene, args),
+        Expr::Call(function, args) => put_call(verdicts, scene, function, args),
         Expr::Cat(parts) => put_all(verdicts, scene, parts),
         Expr::Paren(inner) => put_verdicts(verdicts, scene, inner),
     }
 }
 
-/// Adds the verdicts on the comparisons of expressions, one after the other.
+/// Adds the verdict on a call, and those on what stands in its arguments.
+#[cycle(verdicts)]
+fn put_call(
+    verdicts: &mut Vec<Verdict>,
+    scene: Option<&Scene>,
+    function: &Name,
+    args: &[Expr],
+) -> Result<(), AllocError>
+    ensures { OnOk result (verdicts.new.items ≡ verdicts.old.items
+        ++ call_verdicts function.now (map reading_of args.now) (option_map (λ s. seen_in s.now) scene.entry)) }
+{
+    verdicts.push(call_verdict(scene, function, args))?;
+    put_all(verdicts, scene, args)
+}
+
+/// Adds the verdicts on the comparisons and calls of expressions, one after the other.
 #[cycle(verdicts)]
 fn put_all(
     verdicts: &mut Vec<Verdict>,

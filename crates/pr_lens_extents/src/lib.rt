@@ -6,6 +6,7 @@
 #![tactic(auto)]
 
 mod expressions;
+mod parameters;
 mod programs;
 mod scenes;
 mod statements;

@@ -1,11 +1,11 @@
 //! Comparisons that kinds and widths settle, and declared widths that cut bits off.
 
 ghost use Rattle.std.specs.Prelude.{◌≡◌, ◌≤◌, is_some, length};
-ghost use Rattle.pr_lens_extents.specs.Verdicts.{agree, all_joined, answer, cut_by, cut_of, cut_to, decided, is_below, is_from, is_over, is_up_to, joined, joined_with, least, makes_room, most, verdict_of, verdict_on};
+ghost use Rattle.pr_lens_extents.specs.Verdicts.{agree, all_joined, answer, cut_by, cut_of, cut_to, decided, is_below, is_from, is_over, is_up_to, joined, joined_with, least, makes_room, most, negative_of, verdict_of, verdict_on};
 
 use pr_flat::Form;
 use pr_lang::BinOp;
-use pr_lens_reach::{Extent, Reach, fits_at, greatest_of};
+use pr_lens_reach::{Extent, Reach, fits_at, greatest_of, signed_extent};
 
 /// What is known of a comparison, or of a declared width.
 #[derive(Clone, Copy, PartialEq, Eq, Debug)]
@@ -24,6 +24,15 @@ pub enum Verdict {
         /// The kind of what is assigned, and the declared width.
         form: Form,
         reach: Option<Reach>,
+    },
+    /// A call has a constant for an argument that the function reads by `signed`, and its highest bit is 1.
+    Negative {
+        /// The place of the argument, from 0.
+        argument: u64,
+        number: u64,
+        width: u16,
+        /// How far it is below 0.
+        below: u128,
     },
 }
 
@@ -200,6 +209,30 @@ pub fn cut_of(op: Option<BinOp>, width: u64, extent: Option<Extent>) -> Verdict
     }
 }
 
+/// Whether a constant at this place of the arguments has the highest bit 1.
+pub fn negative_of(argument: u64, extent: Option<Extent>) -> Verdict
+    ensures { result ≡ negative_of argument extent }
+{
+    let Some(extent) = extent else {
+        return Verdict::Unseen;
+    };
+    let Some(number) = extent.number else {
+        return Verdict::Unseen;
+    };
+    let Some(reach) = signed_extent(extent).reach else {
+        return Verdict::Unseen;
+    };
+    if reach.below == 0 {
+        return Verdict::Unseen;
+    }
+    Verdict::Negative {
+        argument,
+        number,
+        width: extent.form.width,
+        below: reach.below,
+    }
+}
+
 fn agree(one: bool, other: bool) -> bool
     ensures { result ≡ agree one other }
 {
@@ -219,7 +252,7 @@ fn joined_with(one: Verdict, answer: bool, other: Verdict) -> Verdict
             }
             Verdict::Varies
         }
-        Verdict::Cut { .. } => one,
+        Verdict::Cut { .. } | Verdict::Negative { .. } => one,
     }
 }
 
@@ -231,7 +264,7 @@ fn joined(one: Verdict, other: Verdict) -> Verdict
         Verdict::Unseen => other,
         Verdict::Varies => Verdict::Varies,
         Verdict::Always { answer, .. } => joined_with(one, answer, other),
-        Verdict::Cut { .. } => one,
+        Verdict::Cut { .. } | Verdict::Negative { .. } => one,
     }
 }
 

@@ -60,6 +60,69 @@ fn signed_constants(rt: HostRuntime) -> Result<(), AllocError> {
     check_calls(&rt, rt.alloc(), "", SIGNED)
 }
 
+/// Constants that functions read by `signed`.
+const ARGUMENTS: &str = "\
+$ pipelens why p
+input x:8;
+fn tap(a, k) { return signed(a) * signed(k); }
+output y = tap(x, 12);
+= 0
+accepted
+p:3:12: warning: signed-constant
+  3 | output y = tap(x, 12);
+    |            ^^^
+Argument 2 is 12, which has the width 4. `tap` of line 2 reads it by `signed`, so it is -4 there.
+Declare a width for the parameter, as in `k:8`: the highest bit of this width is the sign.
+$ pipelens why p
+input x:8;
+const c = [0, 3, 253];
+fn scale(k, a) {
+    let m = a + 1;
+    return m + signed(((k)));
+}
+fn twice(a, n) { return (cat(a, scale(n, a)) + 1){3..0}; }
+for i in 0..3 { let s[i] = x > 3 ? x : twice(x, c[i]); }
+output y = s[0] + s[1] + s[2] + (x < 300);
+= 0
+accepted
+p:8:40: warning: signed-constant
+  8 | for i in 0..3 { let s[i] = x > 3 ? x : twice(x, c[i]); }
+    |                                        ^^^^^
+Argument 2 is 3, which has the width 2. `twice` of line 7 reads it by `signed`, so it is -1 there.
+Declare a width for the parameter, as in `k:8`: the highest bit of this width is the sign.
+p:9:36: warning: constant-comparison
+  9 | output y = s[0] + s[1] + s[2] + (x < 300);
+    |                                    ^
+This is always 1: on the left is an unsigned stream of width 8, and on the right the number 300.
+Compare with a number in reach, or take the comparison out. `signed(s)` reads the highest bit of `s` as its sign.
+$ pipelens why p
+input x:8;
+const low = 0x80;
+fn f(k) { for i in 0..1 { let t[i] = signed(k) + i; } return t[0]; }
+fn g(k) { return f(low) + k; }
+output y = g(x) + f(3 + 4);
+= 0
+accepted
+p:4:18: warning: signed-constant
+...Argument 1 is 128, which has the width 8. `f` of line 3 reads it by `signed`, so it is -128 there.
+...
+$ pipelens why p
+input x:8;
+const c = [0, 253];
+fn f(k:9) { return signed(k); }
+fn g(k) { return k + f(k) + signed(k + 0) + signed(cat(0, k)); }
+fn h(k, j) { return signed(j) - k; }
+let m = 12;
+output y = f(c[1]) + g(12) + h(12, x) + h(12, 0) + h(x, m) + h(x, 4 + 3) + h(x, c[0]);
+= 0
+accepted
+";
+
+#[test]
+fn signed_arguments(rt: HostRuntime) -> Result<(), AllocError> {
+    check_calls(&rt, rt.alloc(), "", ARGUMENTS)
+}
+
 /// Differences of constants.
 const DIFFERENCES: &str = "\
 $ pipelens why p

@@ -1,13 +1,14 @@
 -- What is told of a remark.
-use Rattle.std.specs.Prelude.{ℕ, ◌-◌, Bool, true, false, nat_eq, List, Option, None, Some, ◌++◌, codes, decimal, if◌then◌else◌}
+use Rattle.std.specs.Prelude.{ℕ, ◌+◌, ◌-◌, Bool, true, false, nat_eq, List, Option, None, Some, ◌++◌, codes, decimal, if◌then◌else◌}
 use Rattle.pr_lang.specs.declared.tokens.Token.{Token}
 use Rattle.pr_flat.specs.declared.forms.Form.{Form}
 use Rattle.pr_lens_reach.specs.declared.extents.Extent.{Extent}
 use Rattle.pr_lens_reach.specs.declared.reaches.Reach.{Reach}
 use Rattle.pr_lens_reach.specs.Reaches.{whole}
-use Rattle.pr_lens_rules.specs.Pieces.{token_text}
+use Rattle.pr_lens_source.specs.Tokens.{start_of}
+use Rattle.pr_lens_rules.specs.Pieces.{line_of, token_text}
 use Rattle.pr_lens_warn.specs.declared.remarks.Remark.{Remark}
-use Rattle.pr_lens_warn.specs.declared.remarks.Remark.TheVariants.{Negative, Wrapping, Unneeded, Amount, Settled, Narrow}
+use Rattle.pr_lens_warn.specs.declared.remarks.Remark.TheVariants.{Negative, Wrapping, Unneeded, Amount, Settled, Narrow, Argument}
 use Rattle.pr_lens_warn.specs.declared.remarks.Warning.{Warning}
 
 -- a short word for the kind of a remark, which never changes
@@ -18,6 +19,7 @@ code_of Unneeded = codes "unneeded"
 code_of (Amount number) = codes "constant-shift"
 code_of (Settled answer left right) = codes "constant-comparison"
 code_of (Narrow form reach) = codes "cut-bits"
+code_of (Argument argument number width below function) = codes "signed-constant"
 
 abbrev pub heading_of : Remark → List ℕ
 heading_of (Negative value width below) = codes "warning: signed-constant\n"
@@ -26,6 +28,7 @@ heading_of Unneeded = codes "warning: unneeded\n"
 heading_of (Amount number) = codes "warning: constant-shift\n"
 heading_of (Settled answer left right) = codes "warning: constant-comparison\n"
 heading_of (Narrow form reach) = codes "warning: cut-bits\n"
+heading_of (Argument argument number width below function) = codes "warning: signed-constant\n"
 
 -- ---- what is wrong, and what to do
 unfoldable pub sign_text : ℕ → ℕ → ℕ → List ℕ
@@ -105,6 +108,23 @@ slice_text w =
 unfoldable pub narrow_text : Form → Option Reach → List ℕ
 narrow_text form reach = values_text reach ++ width_text form ++ slice_text form.width
 
+unfoldable pub argument_text : ℕ → ℕ → ℕ → List ℕ
+argument_text argument number width =
+    codes "Argument " ++ decimal (argument + 1) ++ codes " is " ++ decimal number ++ codes ", which has the width " ++ decimal width
+
+-- the line of a token
+unfoldable pub line_text : List ℕ → List Token → ℕ → List ℕ
+line_text text tokens token = codes " of line " ++ decimal (line_of text (start_of text tokens token))
+
+unfoldable pub function_text : List ℕ → List Token → ℕ → ℕ → List ℕ
+function_text text tokens token function =
+    codes ". " ++ token_text text tokens token ++ line_text text tokens function ++ codes " reads it by `signed`, "
+
+unfoldable pub parameter_text : ℕ → List ℕ
+parameter_text below =
+    codes "so it is -" ++ decimal below
+    ++ codes " there.\nDeclare a width for the parameter, as in `k:8`: the highest bit of this width is the sign.\n"
+
 abbrev pub remark_text : List ℕ → List Token → ℕ → Remark → List ℕ
 remark_text text tokens token (Negative value width below) = sign_text value width below ++ unsigned_text value
 remark_text text tokens token (Wrapping by width left) = wrap_text by width left ++ minus_text by
@@ -112,6 +132,8 @@ remark_text text tokens token Unneeded = unneeded_text text tokens token
 remark_text text tokens token (Amount number) = amount_text text tokens token number
 remark_text text tokens token (Settled answer left right) = settled_text answer left right
 remark_text text tokens token (Narrow form reach) = narrow_text form reach
+remark_text text tokens token (Argument argument number width below function) =
+    argument_text argument number width ++ function_text text tokens token function ++ parameter_text below
 
 abbrev pub message_of : List ℕ → List Token → Warning → List ℕ
 message_of text tokens w = remark_text text tokens w.first w.remark

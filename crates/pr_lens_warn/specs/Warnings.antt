@@ -30,16 +30,18 @@ difference_warning text tokens spans at =
 abbrev pub name_warning : List Token → List Bool → ℕ → Option Warning
 name_warning tokens needed at = if is_assigned tokens at && not (is_marked needed at) then Some (warning at at Unneeded) else None
 
--- on a comparison, by its sign, or on a declared width
-abbrev pub comparison_warning : List Verdict → ℕ → Option Warning
-comparison_warning verdicts at = option_map (warning at at) (settled (slice_index_or verdicts at Unseen))
+-- on a token with a verdict: the sign of a comparison, a declared width, or the name of a function that is called
+abbrev pub verdict_warning : List ℕ → List Token → List Span → List Verdict → ℕ → Option Warning
+verdict_warning text tokens spans verdicts at =
+    option_map (warning at at) (settled text tokens spans at (slice_index_or verdicts at Unseen))
 
 -- on a name that a shift has for its amount
 abbrev pub amount_warning : List ℕ → List Token → List Span → ℕ → Option Warning
 amount_warning text tokens spans at = option_map (warning at at) (amount_remark text tokens spans at)
 
-abbrev pub last_warning : List Token → List Bool → List Verdict → ℕ → Option Warning
-last_warning tokens needed verdicts at = if is_assigned tokens at then name_warning tokens needed at else comparison_warning verdicts at
+abbrev pub last_warning : List ℕ → List Token → List Span → List Bool → List Verdict → ℕ → Option Warning
+last_warning text tokens spans needed verdicts at =
+    if is_assigned tokens at then name_warning tokens needed at else verdict_warning text tokens spans verdicts at
 
 -- where these are the marks of needed statements, and the verdicts by tokens
 unfoldable pub warning_at : List ℕ → List Token → List Span → List Bool → List Verdict → ℕ → Option Warning
@@ -47,7 +49,7 @@ warning_at text tokens spans needed verdicts at =
     if is_signed_token text tokens at then signed_warning text tokens spans at
     else if is_difference tokens at then difference_warning text tokens spans at
     else if is_amount tokens at then amount_warning text tokens spans at
-    else last_warning tokens needed verdicts at
+    else last_warning text tokens spans needed verdicts at
 
 -- in the order of the text
 pub record AreWarnings (text : List ℕ) (tokens : List Token) (spans : List Span) (verdicts : List Verdict) (warnings : List Warning) : Type 0 where

@@ -40,6 +40,17 @@ pub enum Remark {
         /// None where the values are beyond 128 bits.
         reach: Option<Reach>,
     },
+    /// A constant is an argument that a function reads by `signed`, and is negative there.
+    Argument {
+        /// Its place among the arguments, from 0.
+        argument: u64,
+        number: u64,
+        width: u16,
+        /// How far it is below 0.
+        below: u128,
+        /// The token that introduces the function.
+        function: usize,
+    },
 }
 
 /// A remark on a few tokens.

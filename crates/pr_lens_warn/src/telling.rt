@@ -1,7 +1,7 @@
 //! What is told of a warning.
 
 ghost use Rattle.std.specs.Prelude.{◌≡◌, ◌++◌, OnOk, decimal};
-ghost use Rattle.pr_lens_warn.specs.Texts.{amount_text, answer_text, code_of, heading_of, least_text, message_of, minus_text, narrow_text, reach_text, settled_text, side_text, sides_text, slice_text, span_text, unneeded_text, sign_text, unsigned_text, values_text, width_text, wrap_text};
+ghost use Rattle.pr_lens_warn.specs.Texts.{amount_text, answer_text, argument_text, code_of, function_text, heading_of, least_text, line_text, message_of, minus_text, narrow_text, parameter_text, reach_text, settled_text, side_text, sides_text, slice_text, span_text, unneeded_text, sign_text, unsigned_text, values_text, width_text, wrap_text};
 
 use crate::remarks::{Remark, Warning};
 use itoa::Buffer;
@@ -9,7 +9,7 @@ use pr_flat::Form;
 use pr_lens_reach::{Extent, Reach, whole_of};
 use pr_lens_rules::put_quoted;
 use pr_lens_source::Source;
-use pr_lens_text::{put, put_counted};
+use pr_lens_text::{line_at, put, put_counted};
 use std::alloc::AllocError;
 
 /// The word for the kind of a remark.
@@ -23,6 +23,7 @@ pub fn code_of(remark: &Remark) -> &'static [u8]
         Remark::Amount { .. } => b"constant-shift",
         Remark::Settled { .. } => b"constant-comparison",
         Remark::Narrow { .. } => b"cut-bits",
+        Remark::Argument { .. } => b"signed-constant",
     }
 }
 
@@ -37,6 +38,7 @@ pub fn heading_of(remark: &Remark) -> &'static [u8]
         Remark::Amount { .. } => b"warning: constant-shift\n",
         Remark::Settled { .. } => b"warning: constant-comparison\n",
         Remark::Narrow { .. } => b"warning: cut-bits\n",
+        Remark::Argument { .. } => b"warning: signed-constant\n",
     }
 }
 
@@ -265,6 +267,62 @@ fn put_narrow(message: &mut Vec<u8>, form: Form, reach: Option<Reach>) -> Result
     put_slice(message, form.width)
 }
 
+/// Tells which argument is which number.
+#[tactic(auto, unfolding(crate::specs::Texts::argument_text))]
+fn put_argument(
+    message: &mut Vec<u8>,
+    argument: u64,
+    number: u64,
+    width: u16,
+) -> Result<(), AllocError>
+    ensures { OnOk result (message.new.items ≡ message.old.items ++ argument_text argument number width) }
+{
+    put(message, "Argument ")?;
+    put_wide(message, u128::from(argument) + 1)?;
+    put_counted(message, " is ", number as usize)?;
+    put_counted(message, ", which has the width ", usize::from(width))
+}
+
+/// Tells the line of a token.
+#[tactic(auto, unfolding(crate::specs::Texts::line_text, pr_lens_rules::specs::Pieces::line_of))]
+fn put_line(message: &mut Vec<u8>, source: &Source, token: usize) -> Result<(), AllocError>
+    ensures { OnOk result (message.new.items
+        ≡ message.old.items ++ line_text source.now.text.now source.now.tokens.now token) }
+{
+    let line = line_at(source.text, source.start(token));
+    put_counted(message, " of line ", line.number)
+}
+
+/// Tells which function reads it.
+#[tactic(auto, unfolding(crate::specs::Texts::function_text))]
+fn put_function(
+    message: &mut Vec<u8>,
+    source: &Source,
+    token: usize,
+    function: usize,
+) -> Result<(), AllocError>
+    ensures { OnOk result (message.new.items ≡ message.old.items
+        ++ function_text source.now.text.now source.now.tokens.now token function) }
+{
+    put(message, ". ")?;
+    put_quoted(message, source, token)?;
+    put_line(message, source, function)?;
+    put(message, " reads it by `signed`, ")
+}
+
+/// Tells what it is there, and what to do.
+#[tactic(auto, unfolding(crate::specs::Texts::parameter_text))]
+fn put_parameter(message: &mut Vec<u8>, below: u128) -> Result<(), AllocError>
+    ensures { OnOk result (message.new.items ≡ message.old.items ++ parameter_text below) }
+{
+    put(message, "so it is -")?;
+    put_wide(message, below)?;
+    put(
+        message,
+        " there.\nDeclare a width for the parameter, as in `k:8`: the highest bit of this width is the sign.\n",
+    )
+}
+
 /// Tells what is wrong, and what to do.
 pub fn put_message(
     message: &mut Vec<u8>,
@@ -295,5 +353,16 @@ pub fn put_message(
             right,
         } => put_settled(message, answer, left, right),
         Remark::Narrow { form, reach } => put_narrow(message, form, reach),
+        Remark::Argument {
+            argument,
+            number,
+            width,
+            below,
+            function,
+        } => {
+            put_argument(message, argument, number, width)?;
+            put_function(message, source, warning.first, function)?;
+            put_parameter(message, below)
+        }
     }
 }

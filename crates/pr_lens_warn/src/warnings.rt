@@ -2,7 +2,7 @@
 
 ghost use Rattle.std.specs.Prelude.{◌≡◌, ◌<◌, IfOk, filter_map, length};
 ghost use Rattle.std.specs.List.{range_with_len};
-ghost use Rattle.pr_lens_warn.specs.Warnings.{AreWarnings, amount_warning, comparison_warning, difference_warning, last_warning, name_warning, signed_warning, warning_at};
+ghost use Rattle.pr_lens_warn.specs.Warnings.{AreWarnings, amount_warning, difference_warning, last_warning, name_warning, signed_warning, verdict_warning, warning_at};
 
 use crate::comparisons::{by_tokens, settled};
 use crate::constants::{constant_at, is_difference, is_signed_token, negative_of, wrapping_of};
@@ -69,12 +69,13 @@ fn amount_warning(source: &Source, at: usize) -> Option<Warning>
     })
 }
 
-/// The warning at a token that is the sign of a comparison, or a declared width, with this verdict.
-fn comparison_warning(verdicts: &[Verdict], at: usize) -> Option<Warning>
+/// The warning at a token with a verdict.
+fn verdict_warning(source: &Source, verdicts: &[Verdict], at: usize) -> Option<Warning>
     requires { at < length verdicts.now }
-    ensures { result ≡ comparison_warning verdicts.now at }
+    ensures { result
+        ≡ verdict_warning source.now.text.now source.now.tokens.now source.now.spans.now verdicts.now at }
 {
-    let remark = settled(verdicts[at])?;
+    let remark = settled(source, at, verdicts[at])?;
     Some(Warning {
         remark,
         first: at,
@@ -82,7 +83,7 @@ fn comparison_warning(verdicts: &[Verdict], at: usize) -> Option<Warning>
     })
 }
 
-/// The warning at a name that is assigned, at the sign of a comparison, or at a declared width.
+/// The warning at a name that is assigned, or at a token with a verdict.
 fn last_warning(
     source: &Source,
     needed: &[bool],
@@ -91,12 +92,13 @@ fn last_warning(
 ) -> Option<Warning>
     requires mark { at < length needed.now }
     requires verdict { at < length verdicts.now }
-    ensures { result ≡ last_warning source.now.tokens.now needed.now verdicts.now at }
+    ensures { result
+        ≡ last_warning source.now.text.now source.now.tokens.now source.now.spans.now needed.now verdicts.now at }
 {
     if is_assigned(source, at) {
         return name_warning(source, needed, at);
     }
-    comparison_warning(verdicts, at)
+    verdict_warning(source, verdicts, at)
 }
 
 /// The warning at a token.
@@ -143,9 +145,10 @@ fn warnings_by(
 }
 
 /// What is pointed out in a program, in the order of its text: `signed` of a constant whose highest bit is 1, a
-/// difference of constants that wraps around, a name that no result needs, a shift by a stream that is one number, a
-/// comparison that gives always the same by its verdict, and a declared width that cuts bits off by its own. The
-/// verdicts are those on the comparisons and declared widths of the text, one after the other.
+/// difference of constants that wraps around, a name that no result needs, a shift by a stream that is one number, and by
+/// their verdicts a comparison that gives always the same, a declared width that cuts bits off, and a call with such a
+/// constant for an argument that is read by `signed`. The verdicts are those on the comparisons, declared widths and
+/// calls of the text, one after the other.
 pub fn warnings_of(
     alloc: Global,
     source: &Source,
