@@ -56,7 +56,7 @@ fn reply_to<R: Env + Files + Print + AllocGlobal>(rt: &R) -> Reply {
         Err(outcome) => Reply {
             outcome,
             bounds: Bounds::BASE,
-            line: None,
+            line: Ok(None),
         },
     }
 }

@@ -1,5 +1,5 @@
 -- What comes of a loop.
-use Rattle.std.proofs.Common.{◌≡◌, ◌∙◌, ◌-◌, ◌+◌, ◌<◌, ◌++◌, ℕ, suc, List, [], Some, None, Vec, Global, sym, ap, arith}
+use Rattle.std.proofs.Common.{◌≡◌, ◌∙◌, ◌-◌, ◌+◌, ◌<◌, ◌++◌, ℕ, suc, Bool, List, [], Some, None, Vec, Global, sym, ap, arith}
 use Rattle.pr_lang.specs.declared.trees.Fixed.{Fixed}
 use Rattle.pr_lang.specs.declared.trees.Stmt as statements
 use Rattle.pr_lang.specs.declared.trees.Stmt.{Stmt}
@@ -7,9 +7,10 @@ use Rattle.pr_lang.specs.declared.trees.Stmt.TheVariants.{For}
 use Rattle.pr_lang.specs.declared.trees.Stmt.TheOpen.{Stmt-F}
 use Rattle.pr_lang.specs.declared.trees.Stmt.TheFolds.{fold-roll-Stmt}
 use Rattle.pr_lens_extents.specs.declared.verdicts.Verdict.{Verdict}
-use Rattle.pr_lens_extents.specs.Extents.{constant}
+use Rattle.pr_lens_reach.specs.Extents.{constant}
 use Rattle.pr_lens_extents.specs.Verdicts.{all_joined}
 use Rattle.pr_lens_extents.specs.Scenes.{Seen, fixed_value, with_stream}
+use Rattle.pr_lens_extents.specs.Parameters.{sign_step, stmt_signs, stmts_sign}
 use Rattle.pr_lens_extents.specs.Statements.{IsAdded, IsTurned, Outcome, Step, all_blank, bound, in_turn, step_layer, step_of, steps_of, turn, turns}
 
 for_step : (index : List ℕ) (low high : Fixed) (body : Vec Stmt Global) → step_of (For index low high body) ≡ step_layer (statements.map-Stmt Stmt Step step_of (Stmt-F.For index low high body))
@@ -19,6 +20,14 @@ for_step index low high body = fold-roll-Stmt Step step_layer (Stmt-F.For index 
 pub for_blank : (s : Stmt) (index : List ℕ) (low high : Fixed) (body : Vec Stmt Global) (lent : List Stmt) → s ≡ For index low high body → lent ≡ body.items → all_blank (steps_of lent) ≡ (step_of s).blank
 for_blank s index low high body lent is all =
     ap (λ (ss : List Stmt). all_blank (steps_of ss)) all ∙ sym (ap (λ (x : Stmt). (step_of x).blank) is ∙ ap (λ (p : Step). p.blank) (for_step index low high body))
+
+for_sign : (index : List ℕ) (low high : Fixed) (body : Vec Stmt Global) (name : List ℕ) (seen : Seen) → stmt_signs (For index low high body) name seen ≡ stmts_sign body.items name seen
+unfolding statements.roll-Stmt denote.Hole.Carrier.roll
+for_sign index low high body name seen = ap (λ (s : List ℕ → Seen → Bool). s name seen) (fold-roll-Stmt (List ℕ → Seen → Bool) sign_step (Stmt-F.For index low high body))
+
+pub for_signs : (s : Stmt) (index : List ℕ) (low high : Fixed) (body : Vec Stmt Global) (lent : List Stmt) (name : List ℕ) (seen : Seen) → s ≡ For index low high body → lent ≡ body.items → stmts_sign lent name seen ≡ stmt_signs s name seen
+for_signs s index low high body lent name seen is all =
+    ap (λ (ss : List Stmt). stmts_sign ss name seen) all ∙ sym (ap (λ (x : Stmt). stmt_signs x name seen) is ∙ for_sign index low high body name seen)
 
 abbrev pub loop_outcome : List ℕ → ℕ → ℕ → List Stmt → Seen → Outcome
 loop_outcome index from to body seen = turns (to - from) from (turn index (steps_of body)) (record { verdicts = all_blank (steps_of body); seen = seen })

@@ -1,5 +1,5 @@
 -- What is known of the names that are visible.
-use Rattle.std.specs.Prelude.{ℕ, List, Option, Some, None, option_map}
+use Rattle.std.specs.Prelude.{ℕ, Bool, true, List, Option, Some, None, option_map}
 use Rattle.std.specs.Option.{option_and_then}
 use Rattle.std.specs.Result.{result_ok}
 use Rattle.pr_lang.specs.declared.trees.Fixed.{Fixed}
@@ -9,20 +9,22 @@ use Rattle.pr_lang.specs.declared.trees.FixedOp.{FixedOp}
 use Rattle.pr_lang.specs.declared.trees.Ref.{Ref}
 use Rattle.pr_scope_names.specs.Constants.{applied}
 use Rattle.pr_scope_names.specs.Names.{ByInstance, instances_in, placed, with_instance}
-use Rattle.pr_lens_extents.specs.declared.extents.Extent.{Extent}
+use Rattle.pr_lens_reach.specs.declared.extents.Extent.{Extent}
 use Rattle.pr_lens_extents.specs.declared.scenes.Scene.{Scene}
-use Rattle.pr_lens_extents.specs.Extents.{constant}
+use Rattle.pr_lens_reach.specs.Extents.{constant}
 
--- the constants and entries of tables, and the streams and indices of loops, with what is known of them
+-- the constants and entries of tables, and the streams and indices of loops, with what is known of them; and functions with
+-- the places of arguments that they read by `signed`
 pub record Seen : Type 0 where
   pub constants : ByInstance ℕ
   pub streams : ByInstance (Option Extent)
+  pub signs : ByInstance Bool
 
 abbrev pub seen_in : Scene → Seen
-seen_in s = record { constants = instances_in s.constants; streams = instances_in s.streams }
+seen_in s = record { constants = instances_in s.constants; streams = instances_in s.streams; signs = instances_in s.signs }
 
 abbrev pub nothing_seen : Seen
-nothing_seen = record { constants = λ name. None; streams = λ name. None }
+nothing_seen = record { constants = λ name. None; streams = λ name. None; signs = λ name. None }
 
 -- what is known of a name, with an index or without one
 abbrev pub known_of : Option ℕ → Option (Option Extent) → Option Extent
@@ -68,6 +70,9 @@ with_stream name place e seen = record seen { streams = with_instance name place
 
 abbrev pub with_constant : List ℕ → Option ℕ → ℕ → Seen → Seen
 with_constant name place n seen = record seen { constants = with_instance name place n seen.constants }
+
+abbrev pub with_sign : List ℕ → ℕ → Seen → Seen
+with_sign function place seen = record seen { signs = with_instance function (Some place) true seen.signs }
 
 abbrev pub placed_stream : Option (Option ℕ) → List ℕ → Option Extent → Seen → Seen
 placed_stream None name e seen = seen

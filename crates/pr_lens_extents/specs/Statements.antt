@@ -1,4 +1,4 @@
--- What statements make known, and the verdicts on the comparisons in them: in a loop those of all its turns.
+-- What statements make known, and the verdicts on the comparisons and declared widths in them: in a loop those of all its turns.
 use Rattle.std.specs.Prelude.{◌≡◌, ℕ, zero, suc, ◌+◌, ◌-◌, List, [], ◌∷◌, ◌++◌, map, Option, Some, None}
 use Rattle.std.specs.Option.{unwrap_or}
 use Rattle.pr_lang.specs.declared.trees.Expr.{Expr}
@@ -7,16 +7,16 @@ use Rattle.pr_lang.specs.declared.trees.Stmt.{Stmt}
 use Rattle.pr_lang.specs.declared.trees.Stmt.TheOpen.{Stmt-F}
 use Rattle.pr_lang.specs.declared.trees.Stmt.TheFolds.{fold-Stmt}
 use Rattle.pr_lens_extents.specs.declared.verdicts.Verdict.{Verdict}
-use Rattle.pr_lens_extents.specs.Extents.{constant, recurrence_of, settled_as}
+use Rattle.pr_lens_reach.specs.Extents.{constant, recurrence_of, settled_as}
 use Rattle.pr_lens_extents.specs.Verdicts.{all_joined}
 use Rattle.pr_lens_extents.specs.Scenes.{Seen, fixed_value, with_stream, with_target}
-use Rattle.pr_lens_extents.specs.Expressions.{extent_of, verdicts_of}
+use Rattle.pr_lens_extents.specs.Expressions.{assigned_verdicts, extent_of, repeated_verdicts}
 
 pub record Outcome : Type 0 where
   pub verdicts : List Verdict
   pub seen : Seen
 
--- a statement: a verdict for each of its comparisons that is not looked at, and what comes of it
+-- a statement: a verdict for each of its comparisons and declared widths where it is not looked at, and what comes of it
 pub record Step : Type 0 where
   pub blank : List Verdict
   pub run : Seen → Outcome
@@ -48,7 +48,7 @@ bound n = unwrap_or n 0
 
 abbrev pub let_outcome : Ref → Option ℕ → Expr → Seen → Outcome
 let_outcome target width e seen = record {
-  verdicts = verdicts_of e (Some seen);
+  verdicts = assigned_verdicts width e (Some seen);
   seen = with_target target (settled_as width (extent_of e seen)) seen;
 }
 
@@ -56,7 +56,7 @@ let_outcome target width e seen = record {
 abbrev pub rec_outcome : Ref → Option ℕ → Expr → Seen → Outcome
 rec_outcome target width e seen =
     let own = with_target target (recurrence_of width) seen in
-    record { verdicts = verdicts_of e (Some own); seen = own }
+    record { verdicts = repeated_verdicts width e (Some own); seen = own }
 
 abbrev pub run_step : Stmt-F Step → Seen → Outcome
 run_step (Stmt-F.Let target width e) seen = let_outcome target width e seen
@@ -66,8 +66,8 @@ run_step (Stmt-F.For index low high body) seen =
     turns (bound (fixed_value high seen) - from) from (turn index body.items) (record { verdicts = all_blank body.items; seen = seen })
 
 abbrev pub blank_step : Stmt-F Step → List Verdict
-blank_step (Stmt-F.Let target width e) = verdicts_of e None
-blank_step (Stmt-F.Rec target width init e) = verdicts_of e None
+blank_step (Stmt-F.Let target width e) = assigned_verdicts width e None
+blank_step (Stmt-F.Rec target width init e) = repeated_verdicts width e None
 blank_step (Stmt-F.For index low high body) = all_blank body.items
 
 abbrev pub step_layer : Stmt-F Step → Step

@@ -3,14 +3,15 @@
 ghost use Rattle.std.specs.Prelude.{◌≡◌, IfOk, None, OnOk, Some};
 ghost use Rattle.pr_lens_extents.specs.Scenes.{fixed_value, seen_in};
 ghost use Rattle.pr_lens_extents.specs.Statements.{IsAdded};
-ghost use Rattle.pr_lens_extents.specs.Programs.{function_outcome, item_outcome, output_outcome, program_verdicts, with_entries, with_value};
+ghost use Rattle.pr_lens_extents.specs.Programs.{body_outcome, function_outcome, item_outcome, output_outcome, program_verdicts, with_entries, with_value};
 
-use crate::expressions::{extent_of, put_verdicts};
-use crate::extents::{settled_as, width_form};
+use crate::expressions::{extent_of, put_assigned, put_verdicts};
+use crate::parameters::{Function, set_params};
 use crate::scenes::{Scene, empty, fixed_value, set_constant, set_stream};
 use crate::statements::{put_stmt, put_stmts};
 use crate::verdicts::Verdict;
 use pr_lang::{Expr, Fixed, Item, Name, Program, Stmt};
+use pr_lens_reach::{settled_as, width_form};
 use pr_scope_names::Instances;
 use std::alloc::{AllocError, Global};
 use std::mem;
@@ -47,15 +48,15 @@ fn set_entries(
     Ok(())
 }
 
-/// Adds the verdicts on the comparisons of a function, with parameters of which nothing is known.
-fn put_function(
+/// Adds the verdicts on the body of a function, with parameters of which nothing is known.
+fn put_body(
     alloc: Global,
     scene: &mut Scene,
     verdicts: &mut Vec<Verdict>,
     body: &[Stmt],
     value: &Expr,
 ) -> Result<(), AllocError>
-    ensures { OnOk result (IsAdded (function_outcome body.now value.now (seen_in scene.old))
+    ensures { OnOk result (IsAdded (body_outcome body.now value.now (seen_in scene.old))
         verdicts.old.items verdicts.new.items (seen_in scene.new)) }
 {
     let outer = mem::replace(&mut scene.streams, Instances::new(alloc));
@@ -63,6 +64,21 @@ fn put_function(
     put_verdicts(verdicts, Some(scene), value)?;
     scene.streams = outer;
     Ok(())
+}
+
+/// Adds the verdicts on the body of a function, and looks which of its parameters it reads by `signed`.
+fn put_function(
+    alloc: Global,
+    scene: &mut Scene,
+    verdicts: &mut Vec<Verdict>,
+    function: &Function,
+) -> Result<(), AllocError>
+    ensures { let f = function.now in OnOk result
+        (IsAdded (function_outcome f.name.now f.params.now f.body.now f.result.now (seen_in scene.old))
+        verdicts.old.items verdicts.new.items (seen_in scene.new)) }
+{
+    put_body(alloc, scene, verdicts, function.body, function.result)?;
+    set_params(alloc, scene, function)
 }
 
 fn put_output(
@@ -76,7 +92,7 @@ fn put_output(
     ensures { OnOk result (IsAdded (output_outcome name.now width value.now (seen_in scene.old))
         verdicts.old.items verdicts.new.items (seen_in scene.new)) }
 {
-    put_verdicts(verdicts, Some(scene), value)?;
+    put_assigned(verdicts, Some(scene), width, value)?;
     let extent = settled_as(width, extent_of(scene, value));
     set_stream(alloc, scene, name, None, extent)
 }
@@ -101,12 +117,20 @@ fn put_item(
         Item::Const { name, value } => set_value(alloc, scene, name, None, value),
         Item::Table { name, values } => set_entries(alloc, scene, name, values),
         Item::Function {
-            name: _,
-            params: _,
+            name,
+            params,
             width: _,
             body,
             result,
-        } => put_function(alloc, scene, verdicts, body, result),
+        } => {
+            let function = Function {
+                name,
+                params,
+                body,
+                result,
+            };
+            put_function(alloc, scene, verdicts, &function)
+        }
         Item::Step(stmt) => put_stmt(alloc, scene, verdicts, stmt),
     }
 }

@@ -1,10 +1,10 @@
 //! What is known of the names that are visible.
 
 ghost use Rattle.std.specs.Prelude.{◌≡◌, IfOk, OnOk};
-ghost use Rattle.pr_lens_extents.specs.Scenes.{both_applied, fixed_value, known_at, known_of_target, nothing_seen, number_at, place_by, seen_in, with_constant, with_stream, with_target};
+ghost use Rattle.pr_lens_extents.specs.Scenes.{both_applied, fixed_value, known_at, known_of_target, nothing_seen, number_at, place_by, seen_in, with_constant, with_sign, with_stream, with_target};
 
-use crate::extents::{Extent, constant, number_of};
 use pr_lang::{Fixed, FixedOp, Name, Ref};
+use pr_lens_reach::{Extent, constant, number_of};
 use pr_scope_names::{Instances, apply};
 use std::alloc::{AllocError, Global};
 
@@ -13,6 +13,8 @@ use std::alloc::{AllocError, Global};
 pub struct Scene {
     pub constants: Instances<u64>,
     pub streams: Instances<Option<Extent>>,
+    /// Functions, with the places of arguments that they read by `signed`.
+    pub signs: Instances<bool>,
 }
 
 /// Where no name is known.
@@ -22,6 +24,7 @@ pub fn empty(alloc: Global) -> Scene
     Scene {
         constants: Instances::new(alloc),
         streams: Instances::new(alloc),
+        signs: Instances::new(alloc),
     }
 }
 
@@ -125,6 +128,18 @@ pub fn set_constant(
     ensures { OnOk result (seen_in scene.new ≡ with_constant name.now place number (seen_in scene.old)) }
 {
     scene.constants.set(alloc, name, place, number)
+}
+
+/// A function reads the argument at this place by `signed`.
+pub fn set_sign(
+    alloc: Global,
+    scene: &mut Scene,
+    function: &Name,
+    place: u64,
+) -> Result<(), AllocError>
+    ensures { OnOk result (seen_in scene.new ≡ with_sign function.now place (seen_in scene.old)) }
+{
+    scene.signs.set(alloc, function, Some(place), true)
 }
 
 /// This is known of a target from now on.

@@ -1,14 +1,14 @@
-//! What statements make known, and the verdicts on their comparisons.
+//! What statements make known, and the verdicts on their comparisons and declared widths.
 
 ghost use Rattle.std.specs.Prelude.{◌≡◌, ◌-◌, ◌++◌, OnOk};
 ghost use Rattle.pr_lens_extents.specs.Scenes.{fixed_value, seen_in};
 ghost use Rattle.pr_lens_extents.specs.Statements.{IsAdded, IsTurned, all_blank, bound, in_turn, let_outcome, rec_outcome, step_of, steps_of, turn, turns};
 
-use crate::expressions::{extent_of, put_verdicts};
-use crate::extents::{constant, recurrence_of, settled_as};
+use crate::expressions::{extent_of, put_assigned, put_repeated};
 use crate::scenes::{Scene, fixed_value, set_stream, set_target};
 use crate::verdicts::{Verdict, join_all};
 use pr_lang::{Expr, Fixed, Name, Ref, Stmt};
+use pr_lens_reach::{constant, recurrence_of, settled_as};
 use std::alloc::{AllocError, Global};
 
 /// Adds a verdict for each comparison of a statement that is not looked at.
@@ -19,15 +19,15 @@ fn put_blank(verdicts: &mut Vec<Verdict>, stmt: &Stmt) -> Result<(), AllocError>
     match stmt {
         Stmt::Let {
             target: _,
-            width: _,
+            width,
             value,
-        } => put_verdicts(verdicts, None, value),
+        } => put_assigned(verdicts, None, *width, value),
         Stmt::Rec {
             target: _,
-            width: _,
+            width,
             init: _,
             body,
-        } => put_verdicts(verdicts, None, body),
+        } => put_repeated(verdicts, None, *width, body),
         Stmt::For {
             index: _,
             low: _,
@@ -74,7 +74,7 @@ fn put_let(
     ensures { OnOk result (IsAdded (let_outcome target.now width value.now (seen_in scene.old))
         verdicts.old.items verdicts.new.items (seen_in scene.new)) }
 {
-    put_verdicts(verdicts, Some(scene), value)?;
+    put_assigned(verdicts, Some(scene), width, value)?;
     let extent = settled_as(width, extent_of(scene, value));
     set_target(alloc, scene, target, extent)
 }
@@ -91,7 +91,7 @@ fn put_rec(
         verdicts.old.items verdicts.new.items (seen_in scene.new)) }
 {
     set_target(alloc, scene, target, recurrence_of(width))?;
-    put_verdicts(verdicts, Some(scene), body)
+    put_repeated(verdicts, Some(scene), width, body)
 }
 
 /// Adds verdicts behind others.

@@ -1,16 +1,16 @@
-//! Comparisons that kinds and widths settle.
+//! Comparisons that kinds and widths settle, and declared widths that cut bits off.
 
-ghost use Rattle.std.specs.Prelude.{◌≡◌, ◌-◌, ◌^◌, ◌≤◌, None, is_some, length};
-ghost use Rattle.pr_lens_extents.specs.Verdicts.{agree, all_joined, answer, decided, is_below, is_from, is_over, is_up_to, joined, joined_with, least, most, most_by, verdict_of, verdict_on};
+ghost use Rattle.std.specs.Prelude.{◌≡◌, ◌≤◌, is_some, length};
+ghost use Rattle.pr_lens_extents.specs.Verdicts.{agree, all_joined, answer, cut_by, cut_of, cut_to, decided, is_below, is_from, is_over, is_up_to, joined, joined_with, least, makes_room, most, negative_of, verdict_of, verdict_on};
 
-use crate::extents::Extent;
 use pr_flat::Form;
 use pr_lang::BinOp;
+use pr_lens_reach::{Extent, Reach, fits_at, greatest_of, signed_extent};
 
-/// What is known of a comparison.
+/// What is known of a comparison, or of a declared width.
 #[derive(Clone, Copy, PartialEq, Eq, Debug)]
 pub enum Verdict {
-    /// It stands in a loop without turns.
+    /// It stands in a loop without turns, or nothing is to be said of it.
     Unseen,
     /// For all values it gives the same.
     Always {
@@ -19,6 +19,21 @@ pub enum Verdict {
         right: Extent,
     },
     Varies,
+    /// A declared width cuts bits off, as it does not have all these values.
+    Cut {
+        /// The kind of what is assigned, and the declared width.
+        form: Form,
+        reach: Option<Reach>,
+    },
+    /// A call has a constant for an argument that the function reads by `signed`, and its highest bit is 1.
+    Negative {
+        /// The place of the argument, from 0.
+        argument: u64,
+        number: u64,
+        width: u16,
+        /// How far it is below 0.
+        below: u128,
+    },
 }
 
 /// The least value of a stream; none where it can be below 0.
@@ -38,31 +53,8 @@ fn most(extent: Extent) -> u128
 {
     match extent.number {
         Some(number) => u128::from(number),
-        None => most_of(extent.form),
+        None => greatest_of(extent.form.signed, extent.form.width),
     }
-}
-
-/// The greatest value of a stream.
-fn most_of(form: Form) -> u128
-    requires width { form.width ≤ 128 }
-    ensures { result ≡ most_by None form.signed form.width }
-{
-    if form.signed {
-        return greatest(form.width.saturating_sub(1));
-    }
-    greatest(form.width)
-}
-
-/// The greatest number of so many bits.
-fn greatest(width: u16) -> u128
-    requires { width ≤ 128 }
-    ensures { result ≡ 2 ^ width - 1 }
-{
-    if width == 128 {
-        return u128::MAX;
-    }
-    let whole: u128 = 1 << width;
-    whole - 1
 }
 
 fn is_over(least: Option<u64>, number: u128) -> bool
@@ -169,6 +161,78 @@ pub fn verdict_on(op: BinOp, left: Option<Extent>, right: Option<Extent>) -> Ver
     verdict_of(op, left, right)
 }
 
+/// Whether an operator has room for every bit of what it gives: a difference has it among signed numbers alone.
+fn makes_room(op: Option<BinOp>, signed: bool) -> bool
+    ensures { result ≡ makes_room op signed }
+{
+    match op {
+        None => false,
+        Some(op) => match op {
+            BinOp::Add | BinOp::Mul => true,
+            BinOp::Sub => signed,
+            _ => false,
+        },
+    }
+}
+
+/// Whether a kind and width cut bits off values.
+fn cut_to(form: Form, reach: Option<Reach>) -> Verdict
+    requires { form.width ≤ 128 }
+    ensures { result ≡ cut_to form reach }
+{
+    if fits_at(form.signed, form.width, reach) {
+        return Verdict::Unseen;
+    }
+    Verdict::Cut { form, reach }
+}
+
+fn cut_by(op: Option<BinOp>, width: u64, extent: Extent) -> Verdict
+    ensures { result ≡ cut_by op width extent }
+{
+    if width < 1 || width > 128 || !makes_room(op, extent.form.signed) {
+        return Verdict::Unseen;
+    }
+    let form = Form {
+        signed: extent.form.signed,
+        width: width as u16,
+    };
+    cut_to(form, extent.reach)
+}
+
+/// What a declared width makes of an expression with this operator outside of all others.
+pub fn cut_of(op: Option<BinOp>, width: u64, extent: Option<Extent>) -> Verdict
+    ensures { result ≡ cut_of op width extent }
+{
+    match extent {
+        None => Verdict::Unseen,
+        Some(extent) => cut_by(op, width, extent),
+    }
+}
+
+/// Whether a constant at this place of the arguments has the highest bit 1.
+pub fn negative_of(argument: u64, extent: Option<Extent>) -> Verdict
+    ensures { result ≡ negative_of argument extent }
+{
+    let Some(extent) = extent else {
+        return Verdict::Unseen;
+    };
+    let Some(number) = extent.number else {
+        return Verdict::Unseen;
+    };
+    let Some(reach) = signed_extent(extent).reach else {
+        return Verdict::Unseen;
+    };
+    if reach.below == 0 {
+        return Verdict::Unseen;
+    }
+    Verdict::Negative {
+        argument,
+        number,
+        width: extent.form.width,
+        below: reach.below,
+    }
+}
+
 fn agree(one: bool, other: bool) -> bool
     ensures { result ≡ agree one other }
 {
@@ -188,6 +252,7 @@ fn joined_with(one: Verdict, answer: bool, other: Verdict) -> Verdict
             }
             Verdict::Varies
         }
+        Verdict::Cut { .. } | Verdict::Negative { .. } => one,
     }
 }
 
@@ -199,6 +264,7 @@ fn joined(one: Verdict, other: Verdict) -> Verdict
         Verdict::Unseen => other,
         Verdict::Varies => Verdict::Varies,
         Verdict::Always { answer, .. } => joined_with(one, answer, other),
+        Verdict::Cut { .. } | Verdict::Negative { .. } => one,
     }
 }
 

@@ -29,23 +29,25 @@ use Rattle.pr_probe.proofs.Known.{first-unknowing, items-unknowing}
 use Rattle.pr_probe.proofs.Laws.{apart-from, probed-signals}
 use Rattle.pr_probe.proofs.Meaning.{AreApart, meant-append, outputs_of, stream-still}
 use Rattle.pr_probe.proofs.Scope.{apart}
-use Rattle.pr_lens_probe.specs.Kinds.{IsKindOutput, is_signed, is_wide, kind_width, last_of}
+use Rattle.pr_lens_probe.specs.Kinds.{is_signed, is_wide, kind_width, last_of}
+use Rattle.pr_lens_probe.specs.Asked.{IsAsking}
+use Rattle.pr_lens_probe.specs.declared.asking.Want.{Want}
 use Rattle.pr_lens_probe.specs.Shown.{width_of}
 use Rattle.pr_lens_probe.proofs.KindValues.{whole}
-use Rattle.pr_lens_probe.proofs.Shown.{wide-same}
+use Rattle.pr_lens_probe.proofs.Given.{wide-same}
 
 -- ---- equations
-counts : (at : ℕ) (ps : List Probe) (is : List Item) (w : programs.World) → AllZip IsKindOutput ps is → length (programs.items_change at is w).progress.equations ≡ length w.progress.equations + 2 * length ps
+counts : (at : ℕ) (ps : List Probe) (is : List Item) (w : programs.World) → AllZip (IsAsking Want.Kind) ps is → length (programs.items_change at is w).progress.equations ≡ length w.progress.equations + 2 * length ps
 counts at [] [] w each = omega arith
 counts at [] (i ∷ is) w each = absurd each
 counts at (p ∷ ps) [] w each = absurd each
 counts at (p ∷ ps) (i ∷ is) w each =
     let next = programs.item_change at i w in
     let one : length next.progress.equations ≡ length w.progress.equations + 2 =
-    ap (λ (x : Item). length (programs.item_change at x w).progress.equations) each.0.is ∙ each.0.tells.makes w.visible w.progress.streams w.progress.equations in
+    ap (λ (x : Item). length (programs.item_change at x w).progress.equations) each.0.is ∙ each.0.gives.makes w.visible w.progress.streams w.progress.equations in
     omega (arith, one, counts (at + 1) ps is next each.1)
 
-pub asked-count : (program asked : Program) (ps : List Probe) (is : List Item) → asked.items.items ≡ program.items.items ++ is → AllZip IsKindOutput ps is → length (equations_of asked).equations ≡ length (equations_of program).equations + 2 * length ps
+pub asked-count : (program asked : Program) (ps : List Probe) (is : List Item) → asked.items.items ≡ program.items.items ++ is → AllZip (IsAsking Want.Kind) ps is → length (equations_of asked).equations ≡ length (equations_of program).equations + 2 * length ps
 asked-count program asked ps is are each =
     let after = made-append 0 program.items.items is programs.start in
     ap (λ (l : List Item). length (made_of l)) are ∙ (ap (λ (w : programs.World). length w.progress.equations) after.1 ∙ counts after.0 ps is (programs.items_change 0 program.items.items programs.start) each)
@@ -87,14 +89,14 @@ kind-low : (signed : Bool) → kind_width signed ≤ 128
 kind-low true = omega arith
 kind-low false = omega arith
 
-told-all : (test : List ℕ → Bool) (xs : List (List ℕ)) (at : ℕ) (ps : List Probe) (is : List Item) (w : meant.World) (ss : List Stream) → AreApart test w.visible.known ps → AllZip IsKindOutput ps is → AllZip (IsThere w.streams) ps ss → AreTold w.outputs ss (outputs_of (meant.items_change xs at is w))
+told-all : (test : List ℕ → Bool) (xs : List (List ℕ)) (at : ℕ) (ps : List Probe) (is : List Item) (w : meant.World) (ss : List Stream) → AreApart test w.visible.known ps → AllZip (IsAsking Want.Kind) ps is → AllZip (IsThere w.streams) ps ss → AreTold w.outputs ss (outputs_of (meant.items_change xs at is w))
 told-all test xs at [] [] w [] are each there = record { told = []; is = ap Some (sym (append-nil w.outputs)); wide = refl }
 told-all test xs at [] [] w (s ∷ ss) are each there = absurd there
 told-all test xs at [] (i ∷ is) w ss are each there = absurd each
 told-all test xs at (p ∷ ps) [] w ss are each there = absurd each
 told-all test xs at (p ∷ ps) (i ∷ is) w [] are each there = absurd there
 told-all test xs at (p ∷ ps) (i ∷ is) w (s ∷ ss) are each there =
-    let here = each.0.tells.means w.visible (length xs) w.streams s are.0.unknown there.0.0 there.0.1 in
+    let here = each.0.gives.means w.visible (length xs) w.streams s are.0.unknown there.0.0 there.0.1 in
     let low : here.stream.form.width ≤ 128 = omega (arith, here.wide, kind-low (is_signed s)) in
     let next = meant.with_output p.fresh w here.stream in
     let change : meant.item_change xs at i w ≡ Some next =
@@ -119,14 +121,14 @@ wide-are : (widths : List ℕ) (os : List Operand) → map (is_wide widths) os �
 wide-are widths [] = refl
 wide-are widths (o ∷ os) = ap (λ (bs : List Bool). is_wide widths o ∷ bs) (wide-are widths os)
 
-lawful-outputs : (ps : List Probe) (is : List Item) → AllZip IsKindOutput ps is → AllZip IsLawfulOutput ps is
+lawful-outputs : (ps : List Probe) (is : List Item) → AllZip (IsAsking Want.Kind) ps is → AllZip IsLawfulOutput ps is
 lawful-outputs [] [] each = tt
 lawful-outputs [] (i ∷ is) each = absurd each
 lawful-outputs (p ∷ ps) [] each = absurd each
-lawful-outputs (p ∷ ps) (i ∷ is) each = ((each.0.value, each.0.is, each.0.tells.keeps), lawful-outputs ps is each.1)
+lawful-outputs (p ∷ ps) (i ∷ is) each = ((each.0.value, each.0.is, each.0.gives.keeps), lawful-outputs ps is each.1)
 
 -- a program with such outputs behind its items, and one with probes
-module _ (test : List ℕ → Bool) (program asked probed : Program) (ps : List Probe) (is : List Item) (last : scope.World) (are : asked.items.items ≡ program.items.items ++ is) (each : AllZip IsKindOutput ps is)
+module _ (test : List ℕ → Bool) (program asked probed : Program) (ps : List Probe) (is : List Item) (last : scope.World) (are : asked.items.items ≡ program.items.items ++ is) (each : AllZip (IsAsking Want.Kind) ps is)
     (probes : IsProbed program ps probed) (walk : program_walk program ≡ Ok last) (can : CanProbe test ps last) where
   pub asked-lawful : offence asked ≡ None
   asked-lawful = outputs-lawful test program ps is asked last are (lawful-outputs ps is each) walk can

@@ -1,7 +1,9 @@
 pub mod Names
 pub mod KindValues
-pub mod Shown
+pub mod Given
 pub mod KindLaws
-pub mod Told
+pub mod Answered
+pub mod Runs
+pub mod Shown
 pub mod Pushing
 pub mod Wide

@@ -1,27 +1,23 @@
 -- Whether the streams of instances are signed, read off the widths of further outputs.
-use Rattle.std.specs.Prelude.{◌≡◌, ◌+◌, ◌-◌, ◌*◌, ◌≤◌, ℕ, Bool, drop, ◌&&◌, nat_le, nat_lt, cond, List, ◌++◌, length, map, Option, Some, None}
-use Rattle.std.specs.List.{AllZip}
+use Rattle.std.specs.Prelude.{◌≡◌, ◌+◌, ◌-◌, ◌≤◌, ℕ, Bool, drop, ◌&&◌, nat_le, nat_lt, cond, List, length, map, Option, Some, None}
 use Rattle.pr_lang.specs.declared.trees.Expr.{Expr}
-use Rattle.pr_lang.specs.declared.trees.Item.{Item}
-use Rattle.pr_lang.specs.declared.trees.Item.TheVariants.{Output}
 use Rattle.pr_lang.specs.declared.trees.Program.{Program}
 use Rattle.pr_flat.specs.declared.equations.Operand.{Operand}
 use Rattle.pr_flat.specs.Forms.{Stream}
-use Rattle.pr_flat.specs.Widths.{AreWidths, operand_width}
+use Rattle.pr_flat.specs.Widths.{operand_width}
 use Rattle.pr_lang_meaning.specs.Streams.{Streams, sources}
 use Rattle.pr_lang_meaning.specs.Expressions as meant
 use Rattle.pr_expand_spec.specs.Making.{Equations}
 use Rattle.pr_expand_spec.specs.Expressions as made
 use Rattle.pr_expand_spec.specs.Programs.{equations_of}
-use Rattle.pr_probe.specs.Instances.{instances_of}
-use Rattle.pr_probe.specs.Probes.{KeepsRules, Probe}
+use Rattle.pr_probe.specs.Probes.{KeepsRules}
 
 abbrev pub is_signed : Stream → Bool
 is_signed s = s.form.signed
 
--- a program that has equations enough left for two more for each of its instances
+-- a program that has two equations left, which it takes to tell the kind of an instance
 abbrev pub has_room : Program → Bool
-has_room program = nat_le (length (equations_of program).equations + 2 * length (instances_of program)) 16384
+has_room program = nat_le (length (equations_of program).equations + 2) 16384
 
 -- which streams of a program are signed, where it has equations enough left to tell
 abbrev pub kinds_of : Program → List Stream → List Bool
@@ -44,18 +40,6 @@ pub record TellsKind (name : List ℕ) (index : Option ℕ) (e : Expr) : Type 0 
   pub means : (v : meant.Visible) (m : ℕ) (env : Streams) (s : Stream) → v.known name ≡ None → (sources m env).now name index ≡ Some s → s.form.width ≤ 128 → IsWide (kind_width (is_signed s)) (meant.meaning e v m (sources m env))
   pub makes : (v : made.Visible) (env : made.Streams) (equations : Equations) → length (made.assigned None e v env equations).equations ≡ length equations + 2
 
--- an output of such an expression, under a probe's name
-pub record IsKindOutput (p : Probe) (i : Item) : Type 0 where
-  pub value : Expr
-  pub is : i ≡ Output p.fresh None value
-  pub tells : TellsKind p.name p.index value
-
--- these items, and behind them such an output for each probe
-pub record AreAsked (items : List Item) (probes : List Probe) (asked : List Item) : Type 0 where
-  pub outputs : List Item
-  pub each : AllZip IsKindOutput probes outputs
-  pub are : asked ≡ items ++ outputs
-
 -- whether an operand is wider than 1 bit
 abbrev pub is_wide : List ℕ → Operand → Bool
 is_wide widths o = nat_lt 1 (operand_width widths o)
@@ -63,9 +47,3 @@ is_wide widths o = nat_lt 1 (operand_width widths o)
 -- the last operands, so many
 abbrev pub last_of : ℕ → List Operand → List Operand
 last_of count outputs = drop (length outputs - count) outputs
-
--- these say which of the last outputs of a program are wider than 1 bit
-pub record AreWide (program : Program) (count : ℕ) (kinds : List Bool) : Type 0 where
-  pub widths : List ℕ
-  pub are : AreWidths (equations_of program).equations widths
-  pub is : kinds ≡ map (is_wide widths) (last_of count (equations_of program).outputs)

@@ -1,11 +1,11 @@
-//! The outputs that show instances.
+//! Names for further outputs, and instances as expressions.
 
-ghost use Rattle.std.specs.Prelude.{◌≡◌, ◌<◌, ◌≤◌, ◌++◌, IfOk, length, map, option_map};
+ghost use Rattle.std.specs.Prelude.{◌≡◌, ◌<◌, IfOk, option_map};
 ghost use Rattle.pr_lang.specs.declared.trees.Fixed.TheVariants.{Number};
-ghost use Rattle.pr_probe.specs.Probes.{IsProbed, probe_item, reference};
-ghost use Rattle.pr_lens_probe.specs.Fresh.{fresh_name, probe_at, probes_from};
+ghost use Rattle.pr_probe.specs.Probes.{reference};
+ghost use Rattle.pr_lens_probe.specs.Fresh.{fresh_name};
 
-use pr_lang::{Expr, Fixed, Item, Name, Program, Ref};
+use pr_lang::{Expr, Fixed, Name, Ref};
 use pr_scope_names::Instance;
 use std::alloc::{AllocError, Global};
 
@@ -39,56 +39,4 @@ pub fn reference(alloc: Global, instance: &Instance) -> Result<Expr, AllocError>
     let name = instance.name.copy(alloc)?;
     let index = index_of(instance.index);
     Ok(Expr::Refer(Ref { name, index }))
-}
-
-/// The output of this number, which shows an instance.
-fn probe_of(
-    alloc: Global,
-    most: usize,
-    number: usize,
-    instance: &Instance,
-) -> Result<Item, AllocError>
-    requires { number < 65536 }
-    ensures { IfOk result (λ item. item ≡ probe_item (probe_at most number instance.now)) }
-{
-    let name = fresh_name(alloc, most, number)?;
-    let value = reference(alloc, instance)?;
-    Ok(Item::Output {
-        name,
-        width: None,
-        value,
-    })
-}
-
-/// Adds an output for each instance.
-fn push_probes(
-    alloc: Global,
-    items: Vec<Item>,
-    most: usize,
-    instances: &[Instance],
-) -> Result<Vec<Item>, AllocError>
-    requires { length instances.now ≤ 65536 }
-    ensures { IfOk result (λ v. v.items ≡ items.items ++ map probe_item (probes_from most 0 instances.now)) }
-{
-    let mut items = items;
-    let mut number = 0;
-    for instance in instances {
-        items.push(probe_of(alloc, most, number, instance)?)?;
-        number += 1;
-    }
-    Ok(items)
-}
-
-/// The program with an output for each instance, under names that are longer than so many bytes.
-pub fn with_probes(
-    alloc: Global,
-    program: Program,
-    most: usize,
-    instances: &[Instance],
-) -> Result<Program, AllocError>
-    requires { length instances.now ≤ 65536 }
-    ensures { IfOk result (λ probed. IsProbed program (probes_from most 0 instances.now) probed) }
-{
-    let items = push_probes(alloc, program.items, most, instances)?;
-    Ok(Program { items })
 }

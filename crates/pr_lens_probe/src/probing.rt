@@ -1,15 +1,16 @@
-//! A program whose last outputs show its stream instances.
+//! Equations whose last outputs show the stream instances of a program.
 
-ghost use Rattle.std.specs.Prelude.{◌≡◌, ◌≤◌, true, IfErr, IfOk, length};
+ghost use Rattle.std.specs.Prelude.{◌≡◌, ◌+◌, ◌*◌, ◌<◌, ◌≤◌, ◌++◌, true, IfErr, IfOk, length};
 ghost use Rattle.pr_lang_meaning.specs.Programs.{has_widths};
 ghost use Rattle.pr_expand_spec.specs.Programs.{equations_of};
+ghost use Rattle.pr_flat.specs.Flats.{equations_of as flat_equations};
+ghost use Rattle.pr_lens_probe.specs.Given.{AreLawful};
 ghost use Rattle.pr_lens_probe.specs.Shown.{IsTooLong, Shows};
 
-use crate::fresh::with_probes;
-use crate::kinds::tell_kinds;
 use crate::lengths::longest;
-use crate::passes::{checked, expanded};
-use pr_flat::Flat;
+use crate::parts::show_all;
+use crate::passes::expanded;
+use pr_flat::{Flat, Operand};
 use pr_probe::instances;
 use pr_scope::Scoped;
 use pr_scope_names::Instance;
@@ -19,22 +20,26 @@ use thiserror::Error;
 /// The turns of a walk over a program, at most.
 const MOST_TURNS: usize = 65_536;
 
-/// A program whose last outputs show the instances.
+/// The equations of a program, at most.
+const MOST_EQUATIONS: usize = 16_384;
+
+/// A program, and equations whose last outputs show its instances.
 #[derive(Drop)]
 pub struct Probed {
+    /// The program as it was given.
     pub scoped: Scoped,
-    /// Its equations, which are those of the program that it was made of.
+    /// Its equations, with its outputs and then one for each instance.
     pub flat: Flat,
-    /// What its last outputs show, in text order and with loops unrolled.
+    /// What the last outputs show, in text order and with loops unrolled.
     pub instances: Vec<Instance>,
-    /// Which of them are signed; none of a program with more than 16,384 equations and twice its instances together.
+    /// Which of them are signed; none of a program with more than 16,382 equations.
     pub kinds: Vec<bool>,
 }
 
 /// Why the instances of a program are not shown.
 #[derive(Debug, Drop, Error)]
 pub enum ProbeFault {
-    /// The program has more instances than turns are left.
+    /// The program leaves no turn.
     #[error("the walk has too many turns")]
     Turns,
     #[error("out of memory")]
@@ -51,32 +56,71 @@ impl From<AllocError> for ProbeFault {
     }
 }
 
-/// The program with an output more for each of its stream instances, and its equations.
+/// Equations with further outputs.
+fn with_outputs(flat: Flat, more: &[Operand]) -> Result<Flat, AllocError>
+    requires { AreLawful (flat_equations flat) more.now }
+    ensures equations { IfOk result (λ f. flat_equations f ≡ flat_equations flat) }
+    ensures outputs { IfOk result (λ f. f.outputs.items ≡ flat.outputs.items ++ more.now) }
+{
+    let Flat {
+        equations,
+        mut outputs,
+    } = flat;
+    outputs.extend_from_slice(more)?;
+    Ok(Flat { equations, outputs })
+}
+
+/// How many instances are asked for at a time, where so many turns and equations are made; one that takes two equations
+/// counts where two are left.
+fn part_size(turns: usize, equations: usize) -> usize
+    requires turns { turns < 65536 }
+    requires equations { equations ≤ 16384 }
+    ensures some { 0 < result }
+    ensures turns { turns + result ≤ 65536 }
+    ensures equations { equations + 2 ≤ 16384 → equations + 2 * result ≤ 16384 }
+{
+    let left = MOST_TURNS - turns;
+    let pairs = (MOST_EQUATIONS - equations) / 2;
+    if pairs == 0 {
+        return left;
+    }
+    left.min(pairs)
+}
+
+/// The equations of a program with outputs more, which give the streams of its instances, and the kinds of these.
 ///
 /// # Errors
 ///
-/// `Turns` where the turns of the program and the number of its instances are more than 65,536, `Memory` where memory
-/// is wanting.
+/// `Turns` where the program leaves none of 65,536 turns, `Memory` where memory is wanting.
 pub fn probe(alloc: Global, scoped: Scoped) -> Result<Probed, ProbeFault>
     requires widths { has_widths scoped.program ≡ true }
     requires few { length (equations_of scoped.program).equations ≤ 16384 }
     ensures shows { IfOk result (λ p. Shows scoped.program p) }
     ensures refused { IfErr result (λ fault. IsTooLong scoped.program fault) }
 {
-    let turns = scoped.turns as usize;
-    let instances = instances(alloc, &scoped.program)?;
-    if turns + instances.len() > MOST_TURNS {
+    if scoped.turns as usize >= MOST_TURNS {
         return Err(ProbeFault::Turns);
     }
-    let most = longest(&scoped.program.items, &instances);
-    let told = tell_kinds(alloc, scoped.program, most, &instances)?;
-    let probed = with_probes(alloc, told.program, most, &instances)?;
-    let scoped = checked(alloc, probed)?;
+    let instances = instances(alloc, &scoped.program)?;
     let flat = expanded(alloc, &scoped)?;
+    let most = longest(&scoped.program.items, &instances);
+    let size = part_size(scoped.turns as usize, flat.equations.len());
+    let tells = flat.equations.len() + 2 <= MOST_EQUATIONS;
+    let Scoped {
+        program,
+        inputs,
+        turns,
+    } = scoped;
+    let shown = show_all(alloc, program, most, &instances, size, tells)?;
+    let flat = with_outputs(flat, &shown.operands)?;
     Ok(Probed {
-        scoped,
+        scoped: Scoped {
+            program: shown.program,
+            inputs,
+            turns,
+        },
         flat,
         instances,
-        kinds: told.kinds,
+        kinds: shown.kinds,
     })
 }

@@ -5,14 +5,8 @@ use Rattle.pr_edge.specs.Files.{Told, OfFile}
 use Rattle.pr_edge.specs.Tape.{Tape, Appends, AppendsFront}
 use Rattle.pr_edge.proofs.Appending.{Appends-append}
 use Rattle.pr_flat.specs.declared.equations.Operand.{Operand}
-use Rattle.pr_flat.specs.declared.flat.Flat.{Flat}
 use Rattle.pr_flat.specs.Shape.{EquationShape, shapes_of}
 use Rattle.pr_flat.specs.Values.{row_of, rows_of}
-use Rattle.pr_flat.specs.Widths.{AreWidths}
-use Rattle.pr_lang.specs.declared.trees.Program.{Program}
-use Rattle.pr_lang_meaning.specs.Programs.{out}
-use Rattle.pr_expand_spec.specs.Programs.{equations_of}
-use Rattle.pr_compile_front.specs.Passed.{HasEquations}
 use Rattle.pr_samples.specs.declared.tails.Tail.{Tail}
 use Rattle.pr_samples.specs.declared.feed.Feed.{Feed}
 use Rattle.pr_samples.specs.declared.feed.Got.{Got}
@@ -20,19 +14,18 @@ use Rattle.pr_samples.specs.Feed.{name_of, given_of, fed, SameFile, StandsFor, B
 use Rattle.pr_samples.specs.Fed.{fed_of}
 use Rattle.pr_samples.specs.Got.{given_by}
 use Rattle.pr_samples.proofs.ResultLemmas.{put_front}
-use Rattle.pr_scope.specs.declared.checking.Scoped.{Scoped}
 use Rattle.pr_source.specs.declared.evaluator.Evaluator.{Evaluator}
 use Rattle.pr_source.specs.Outputs.{given, given_all}
 use Rattle.pr_source.specs.Standing.{Stands}
 use Rattle.pr_source.proofs.Latest.{rows_of-more}
-use Rattle.pr_source_laws.proofs.Meaning.{rows_mean}
 use Rattle.pr_tool_modes.specs.Samples.{fed_at_most, fed_in}
 use Rattle.pr_tool_modes.proofs.SampleLemmas.{HasGiven, given_more, done_all}
 use Rattle.pr_lens_tracks.specs.declared.looks.Form.{Form}
 use Rattle.pr_lens_tracks.specs.declared.looks.Track.{Track}
 use Rattle.pr_lens_tracks.specs.Texts.{rows_text, text_behind}
 use Rattle.pr_lens_tracks.proofs.RowLemmas.{rows-more}
-use Rattle.pr_lens_signals.specs.Reading.{AreFirst, HasBegun, HasEnded, IsLongFeed, cut_rows}
+use Rattle.pr_lens_signals.specs.declared.probing.Showing.{Showing}
+use Rattle.pr_lens_signals.specs.Reading.{AreFirst, HasBegun, HasEnded, IsLongFeed, cut_rows, front_of, instance_rows}
 
 -- a feed that began as this one has given these samples, and the evaluator was given them
 pub record HasTaken (told : Told) (equations : List EquationShape) (widths : List ℕ) (first f : Feed) (v : Evaluator) : Type 0 where
@@ -88,9 +81,9 @@ pub put_nothing : (told : Told) (equations : List EquationShape) (outputs : List
 put_nothing told equations outputs widths inputs front f v Put long stands none =
     record { taken = record { samples = []; reads = reads_none told inputs f long; stands = stands }; text = none }
 
-pub begun_nothing : (told : Told) (program : Program) (inputs : List ℕ) (front : ℕ) (f : Feed) (Put : List (List ℕ) → Type 0) → IsLongFeed inputs f → Put (cut_rows front (out program [])) → HasBegun told program front f f Put
-begun_nothing told program inputs front f Put long none =
-    record { samples = []; reads = reads_first told f f [] (reads_none told inputs f long); text = none }
+pub begun_nothing : (told : Told) (s : Showing) (inputs : List ℕ) (f : Feed) (Put : List (List ℕ) → Type 0) → IsLongFeed inputs f → Put (instance_rows s []) → HasBegun told s f f Put
+begun_nothing told s inputs f Put long none =
+    record { samples = []; lawful = λ n d low. absurd (omega (arith, low)); reads = reads_first told f f [] (reads_none told inputs f long); text = none }
 
 -- ---- one sample more
 pub reads_more : (told : Told) (first f f' : Feed) (samples : List (List ℕ)) (numbers : List ℕ) → ReadsOn told [] first f (λ file. HasGiven first f file samples) → SameFile first f' → given_of f' ≡ given_of f + 1
@@ -136,17 +129,6 @@ put_more told equations outputs widths front first f f' v v' numbers row Put Put
       text = subst Put' (sym (shown-more front equations outputs widths taken.samples numbers row is)) (put has.text);
     }
 
--- the equations of a program give what the program means on samples that an evaluator was given
-pub given-mean : (scoped : Scoped) (flat : Flat) (widths : List ℕ) (samples : List (List ℕ)) (v : Evaluator) → HasEquations scoped.program flat → AreWidths (equations_of scoped.program).equations widths
-    → Stands (shapes_of flat.equations.items) widths samples v → given_all (shapes_of flat.equations.items) flat.outputs.items widths samples ≡ out scoped.program samples
-given-mean scoped flat widths samples v has wide stands = rows_mean scoped.program flat widths samples (record {
-  lawful = scoped.lawful;
-  equations = has.equations;
-  outputs = has.outputs;
-  wide = subst (λ (es : List EquationShape). AreWidths es widths) (sym has.equations) wide;
-  rows = stands.lawful;
-})
-
 -- a row without its front
 pub row-rest : (row : List ℕ) (k front : ℕ) → k ≡ front → take (length row - k) (drop k row) ≡ drop front row
 row-rest row k front is = take_rest row k ∙ ap (λ (n : ℕ). drop n row) is
@@ -162,41 +144,41 @@ pub put-less : (told : Told) (equations : List EquationShape) (outputs : List Op
 put-less told equations outputs widths front first f v Put Put' has less = record { taken = has.taken; text = less (rows_shown front equations outputs widths has.taken.samples) has.text }
 
 -- ---- no sample more
-module _ (told : Told) (program : Program) (equations : List EquationShape) (outputs : List Operand) (widths : List ℕ) (front : ℕ) (first f : Feed) (v : Evaluator) (Put : List (List ℕ) → Type 0)
-    (has : HasPut told equations outputs widths front first f v Put) (means : given_all equations outputs widths has.taken.samples ≡ out program has.taken.samples) where
-  text-means : Put (cut_rows front (out program has.taken.samples))
-  text-means = subst (λ (rows : List (List ℕ)). Put (cut_rows front rows)) means has.text
-
+module _ (told : Told) (s : Showing) (first f : Feed) (v : Evaluator) (Put : List (List ℕ) → Type 0)
+    (has : HasPut told (shapes_of s.probed.flat.equations.items) s.probed.flat.outputs.items s.widths (front_of s) first f v Put) where
   -- the feed answered with the end of the samples
   pub put_ended : (f' : Feed) (numbers : List ℕ) (end : Got) → SameFile first f' → given_of f' ≡ given_of f + given_by end
-      → ((bytes : List ℕ) → IsSeen told bytes f → ReadsOn told bytes f f' (λ file. StandsFor f file → Gives end (given_of f) f' numbers file)) → end ≢ Got.Sample → end ≢ Got.ReadFault → HasEnded told program front first f' end Put
+      → ((bytes : List ℕ) → IsSeen told bytes f → ReadsOn told bytes f f' (λ file. StandsFor f file → Gives end (given_of f) f' numbers file)) → end ≢ Got.Sample → end ≢ Got.ReadFault → HasEnded told s first f' end Put
   put_ended f' numbers end same count next other no_fault = record {
     samples = has.taken.samples;
+    lawful = has.taken.stands.lawful;
     reads = done_all told first f f' has.taken.samples numbers end has.taken.reads same count next other no_fault;
-    text = text-means;
+    text = has.text;
   }
 
   -- the feed was asked in vain
-  pub put_faulted : (f' : Feed) (Holds : List ℕ → Type 0) → ((bytes : List ℕ) → IsSeen told bytes f → ReadsOn told bytes f f' Holds) → HasBegun told program front first f' Put
+  pub put_faulted : (f' : Feed) (Holds : List ℕ → Type 0) → ((bytes : List ℕ) → IsSeen told bytes f → ReadsOn told bytes f f' Holds) → HasBegun told s first f' Put
   put_faulted f' Holds next =
       let on = next has.taken.reads.bytes has.taken.reads.seen in
       record {
         samples = has.taken.samples;
+        lawful = has.taken.stands.lawful;
         reads = record {
           bytes = on.bytes;
           seen = on.seen;
           began = λ file begins. has.taken.reads.began file (on.began file begins);
           holds = λ file begins. (given_of f, (has.taken.reads.holds file (on.began file begins)).samples);
         };
-        text = text-means;
+        text = has.text;
       }
 
   -- the last line was not written whole
-  pub put_broken : HasBegun told program front first f Put
+  pub put_broken : HasBegun told s first f Put
   put_broken = record {
     samples = has.taken.samples;
+    lawful = has.taken.stands.lawful;
     reads = reads_first told first f has.taken.samples has.taken.reads;
-    text = text-means;
+    text = has.text;
   }
 
 -- ---- first bytes of two pieces

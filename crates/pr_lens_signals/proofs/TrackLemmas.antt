@@ -27,7 +27,7 @@ use Rattle.pr_lens_signals.specs.Reading.{all_looks, all_widths, front_of, IsPen
 -- an output of a program that shows its instances
 pub shown-within : (s : Showing) (place : ℕ) (d : Operand) → IsReady s → place < length s.probed.flat.outputs.items → is_within (length s.widths) (get_or s.probed.flat.outputs.items place d) ≡ true
 shown-within s place d ready below =
-    let count : length s.widths ≡ length (shapes_of s.probed.flat.equations.items) = ready.widths.count ∙ sym (ap length ready.flat.equations) in
+    let count : length s.widths ≡ length (shapes_of s.probed.flat.equations.items) = ready.widths.count ∙ sym (ap length ready.equations) in
     subst (λ (n : ℕ). is_within n (get_or s.probed.flat.outputs.items place d) ≡ true) (sym count)
     (output-within (length (shapes_of s.probed.flat.equations.items)) s.probed.flat.outputs.items place d s.probed.flat.lawful.given below)
 

@@ -1,13 +1,16 @@
 -- Lines that are written while samples are read.
 use Rattle.std.specs.Prelude.{◌≡◌, ◌-◌, ◌^◌, ◌≤◌, ⊤, ℕ, List, [], drop, map, take, Option, vec_len}
+use Rattle.std.specs.List.{All}
 use Rattle.std.specs.Simd.Lanes.{zip2}
 use Rattle.pr_edge.specs.Count.{Rose}
 use Rattle.pr_edge.specs.Files.{Told}
 use Rattle.pr_lang.specs.declared.trees.Program.{Program}
-use Rattle.pr_lang_meaning.specs.Programs.{out}
+use Rattle.pr_base.specs.Rows.{IsRow}
+use Rattle.pr_flat.specs.Shape.{shapes_of}
+use Rattle.pr_flat.specs.Values.{input_widths}
 use Rattle.pr_flat.specs.Widths.{AreWidths, operand_width}
 use Rattle.pr_expand_spec.specs.Programs.{equations_of}
-use Rattle.pr_compile_front.specs.Passed.{HasEquations}
+use Rattle.pr_source.specs.Outputs.{given_all}
 use Rattle.pr_run.specs.Setting.{IsFresh}
 use Rattle.pr_samples.specs.declared.feed.Feed.{Feed}
 use Rattle.pr_samples.specs.declared.feed.Got.{Got}
@@ -22,7 +25,7 @@ use Rattle.pr_lens_tracks.specs.Texts.{HasWritten}
 use Rattle.pr_lens_signals.specs.Manners.{AreNamed, Manner, look_with, tracks_of}
 use Rattle.pr_lens_signals.specs.declared.probing.Showing.{Showing}
 
--- a program with the same equations as this one shows its instances behind so many outputs, and these are the widths
+-- the instances of a program are shown behind its outputs, and these are the widths of its equations
 pub record IsShowing (program : Program) (s : Showing) : Type 0 where
   pub shows : Shows program s.probed
   pub widths : AreWidths (equations_of program).equations s.widths
@@ -33,7 +36,7 @@ front_of s = vec_len s.probed.flat.outputs - vec_len s.probed.instances
 
 -- its equations, their widths, no more instances than outputs, and a kind for each instance
 pub record IsReady (s : Showing) : Type 0 where
-  pub flat : HasEquations s.probed.scoped.program s.probed.flat
+  pub equations : shapes_of s.probed.flat.equations.items ≡ (equations_of s.probed.scoped.program).equations
   pub widths : AreWidths (equations_of s.probed.scoped.program).equations s.widths
   pub front : vec_len s.probed.instances ≤ vec_len s.probed.flat.outputs
   pub kinds : vec_len s.probed.kinds ≡ vec_len s.probed.instances
@@ -77,17 +80,27 @@ pub record IsLongFeed (widths : List ℕ) (feed : Feed) : Type 0 where
 abbrev pub AreFirst : Feed → List ℕ → List (List ℕ) → Type 0
 AreFirst feed file samples = (k : ℕ) × (samples ≡ take k (fed feed file).samples)
 
+-- each sample has a number for each input
+abbrev pub AreLawful : Showing → List (List ℕ) → Type 0
+AreLawful s samples = All (IsRow (input_widths (shapes_of s.probed.flat.equations.items))) samples
+
+-- the numbers of the instances at each of these samples, as the equations give them
+abbrev pub instance_rows : Showing → List (List ℕ) → List (List ℕ)
+instance_rows s samples = cut_rows (front_of s) (given_all (shapes_of s.probed.flat.equations.items) s.probed.flat.outputs.items s.widths samples)
+
 -- a feed was read to its end, and the rows on all samples of each file that begins so are put
-pub record HasEnded (told : Told) (program : Program) (front : ℕ) (first now : Feed) (end : Got) (Put : List (List ℕ) → Type 0) : Type 0 where
+pub record HasEnded (told : Told) (s : Showing) (first now : Feed) (end : Got) (Put : List (List ℕ) → Type 0) : Type 0 where
   pub samples : List (List ℕ)
+  pub lawful : AreLawful s samples
   pub reads : ReadsOn told [] first now (λ file. AreAll first file samples end)
-  pub text : Put (cut_rows front (out program samples))
+  pub text : Put (instance_rows s samples)
 
 -- a feed was read so far, and the rows on these first samples of each file that begins so are put
-pub record HasBegun (told : Told) (program : Program) (front : ℕ) (first now : Feed) (Put : List (List ℕ) → Type 0) : Type 0 where
+pub record HasBegun (told : Told) (s : Showing) (first now : Feed) (Put : List (List ℕ) → Type 0) : Type 0 where
   pub samples : List (List ℕ)
+  pub lawful : AreLawful s samples
   pub reads : ReadsOn told [] first now (λ file. AreFirst first file samples)
-  pub text : Put (cut_rows front (out program samples))
+  pub text : Put (instance_rows s samples)
 
 -- why a line was not written whole
 abbrev pub IsWriteCause : ℕ → ℕ → Answer → Type 0

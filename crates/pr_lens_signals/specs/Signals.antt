@@ -1,5 +1,5 @@
 -- The streams of the names of a program on samples, and how much of their text is written.
-use Rattle.std.specs.Prelude.{◌≡◌, ◌⊎◌, ◌+◌, ◌<◌, ⊤, ℕ, List, map, length, take}
+use Rattle.std.specs.Prelude.{◌≡◌, ◌⊎◌, ◌≤◌, ⊤, ℕ, List, map, length, take}
 use Rattle.std.specs.List.{range_with_len}
 use Rattle.pr_base.specs.declared.caps.Cap.{Cap}
 use Rattle.pr_edge.specs.Count.{Rose}
@@ -15,7 +15,7 @@ use Rattle.pr_tool_answers.specs.declared.answers.Answer.{Answer}
 use Rattle.pr_tool_modes.specs.Files.{IsText}
 use Rattle.pr_tool_modes.specs.Programs.{inputs_of}
 use Rattle.pr_tool_modes.specs.Samples.{fed_in}
-use Rattle.pr_lens_probe.specs.Shown.{HasStreams}
+use Rattle.pr_lens_probe.specs.Given.{HasStreams}
 use Rattle.pr_lens_tracks.specs.Texts.{streams_text}
 use Rattle.pr_lens_signals.specs.Calls.{Call}
 use Rattle.pr_lens_signals.specs.Manners.{AreNamed, Manner, look_in, tracks_of}
@@ -28,7 +28,7 @@ rows_of count streams = map (λ n. numbers_at n streams) (range_with_len 0 count
 pub record IsSignals (manner : Manner) (program : Program) (samples : List (List ℕ)) (text : List ℕ) : Type 0 where
   pub outputs : List Stream
   pub streams : List Stream
-  pub has : HasStreams program samples outputs streams
+  pub has : HasStreams program samples (instances_of program) outputs streams
   pub named : AreNamed manner program
   pub is : text ≡ streams_text manner.form (tracks_of manner.signed (instances_of program) (map (look_in program) streams)) (rows_of (length samples) streams)
 
@@ -59,16 +59,16 @@ pub record IsBegun (manner : Manner) (told : Told) (name : List ℕ) (program : 
   pub signals : IsSignals manner program samples text
   pub put : Put text
 
--- a program has more instances than turns are left
-abbrev pub HasManyInstances : Program → Type 0
-HasManyInstances program = 65536 < turns_after (program_walk program) + length (instances_of program)
+-- a program leaves no turn, in which an instance would be asked for
+abbrev pub LeavesNoTurn : Program → Type 0
+LeavesNoTurn program = 65536 ≤ turns_after (program_walk program)
 
 -- what it comes to that the signals of a program are asked for in this manner, on the samples of the file of this name
 abbrev pub IsShown : Manner → List ℕ → Program → Call → Answer → Type 0
 IsShown manner name program c Answer.Ok = IsWhole manner c.told name program End c.old c.new
 IsShown manner name program c (Answer.BadSample line) = IsWhole manner c.told name program (BadSample line) c.old c.new
 IsShown manner name program c (Answer.Limit which) =
-    ((which ≡ Cap.Turns) × HasManyInstances program × (c.new ≡ c.old)) ⊎ IsWhole manner c.told name program (Limit which) c.old c.new
+    ((which ≡ Cap.Turns) × LeavesNoTurn program × (c.new ≡ c.old)) ⊎ IsWhole manner c.told name program (Limit which) c.old c.new
 IsShown manner name program c Answer.ReadFault = HasReadCause c.told name c.reads_before c.reads_now × IsBegun manner c.told name program (Appends c.old c.new)
 IsShown manner name program c Answer.WriteFault = Rose c.writes_before c.writes_now × IsBegun manner c.told name program (AppendsFront c.old c.new)
 IsShown manner name program c Answer.Memory = (c.new ≡ c.old) ⊎ IsBegun manner c.told name program (AppendsFront c.old c.new)
@@ -76,6 +76,6 @@ IsShown manner name program c answer = ⊥
 
 -- why the instances of a program are not shown
 abbrev pub IsUnshown : Program → Answer → Type 0
-IsUnshown program (Answer.Limit which) = (which ≡ Cap.Turns) × HasManyInstances program
+IsUnshown program (Answer.Limit which) = (which ≡ Cap.Turns) × LeavesNoTurn program
 IsUnshown program Answer.Memory = ⊤
 IsUnshown program answer = ⊥

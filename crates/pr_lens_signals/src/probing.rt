@@ -1,4 +1,4 @@
-//! A program that shows its instances.
+//! A program whose instances are shown.
 
 ghost use Rattle.std.specs.Prelude.{◌≤◌, length, IfErr, IfOk};
 ghost use Rattle.pr_flat.specs.Widths.{AreWidths};
@@ -13,14 +13,14 @@ use pr_tool_answers::Answer;
 use pr_width::Widths;
 use std::alloc::Global;
 
-/// A program with an output more for each of its instances, and the widths of its equations.
+/// A program, its equations with an output more for each of its instances, and their widths.
 #[derive(Drop)]
 pub struct Showing {
     pub probed: Probed,
     pub widths: Widths,
 }
 
-/// The program with an output more for each of its instances.
+/// The equations of a program with an output more for each of its instances.
 pub fn showing_of(alloc: Global, front: Front) -> Result<Showing, Answer>
     requires few { length (equations_of front.scoped.program).equations ≤ 16384 }
     requires widths { AreWidths (equations_of front.scoped.program).equations front.widths }

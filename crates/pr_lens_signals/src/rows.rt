@@ -9,7 +9,7 @@ ghost use Rattle.pr_samples.specs.Feed.{name_of, SameFile};
 ghost use Rattle.pr_source.specs.Standing.{Stands};
 ghost use Rattle.pr_tool_modes.specs.Programs.{inputs_of};
 ghost use Rattle.pr_lens_tracks.specs.Texts.{HasWritten, rows_text, text_behind};
-ghost use Rattle.pr_lens_signals.specs.Reading.{HasBegun, HasEnded, front_of, IsLongFeed, IsPen, IsReady, IsWriteCause};
+ghost use Rattle.pr_lens_signals.specs.Reading.{HasBegun, HasEnded, IsLongFeed, IsPen, IsReady, IsWriteCause};
 
 use crate::probing::Showing;
 use pr_base::Num;
@@ -83,7 +83,7 @@ pub fn put_rows<S: Shelf, K: Sink>(
     requires row { length row.old ≡ vec_len showing.now.probed.flat.outputs }
     ensures ended { IfOk result
         (λ end. end ≢ Got.ReadFault
-        → HasEnded (S.told shelf.old) showing.now.probed.scoped.program (front_of showing.now)
+        → HasEnded (S.told shelf.old) showing.now
         work.old.feed work.new.feed end (λ rows. Appends (K.told out.old) (K.told out.new)
         (rows_text work.old.pen.form work.old.pen.tracks.items rows))) }
     ensures there { IfOk result
@@ -93,11 +93,11 @@ pub fn put_rows<S: Shelf, K: Sink>(
         → HasReadCause (S.told shelf.old) (name_of work.old.feed) (S.faults shelf.old) (S.faults shelf.new)) }
     ensures begun { IfOk result
         (λ end. end ≡ Got.ReadFault
-        → HasBegun (S.told shelf.old) showing.now.probed.scoped.program (front_of showing.now)
+        → HasBegun (S.told shelf.old) showing.now
         work.old.feed work.new.feed (λ rows. Appends (K.told out.old) (K.told out.new)
         (rows_text work.old.pen.form work.old.pen.tracks.items rows))) }
     ensures cut { OnErr result
-        (HasBegun (S.told shelf.old) showing.now.probed.scoped.program (front_of showing.now)
+        (HasBegun (S.told shelf.old) showing.now
         work.old.feed work.new.feed (λ rows. AppendsFront (K.told out.old) (K.told out.new)
         (rows_text work.old.pen.form work.old.pen.tracks.items rows))) }
     ensures cause { IfErr result (IsWriteCause (K.faults out.old) (K.faults out.new)) }

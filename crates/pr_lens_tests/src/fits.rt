@@ -29,7 +29,7 @@ rec s:64 = 1 by (s@1 ^ x) & s@1;
 output y = s;
 = 5
 p:2:1: no fit: unit 3
-...takes 24 columns, where a stage has 16.
+...takes 24 columns, where a stage has 16, and one of the wide fabric 32.
 Declare a smaller width, put together what does not read the recurrence, as in `s@1 + (a + b)`...
 $ pipelens why p
 input a:128;
@@ -69,7 +69,17 @@ output y = s;
 p:2:1: no fit: unit 3
   2 | rec s:128 = 1 by (s@1 ^ x) & s@1;
     | ^^^
-Columns ran out: what the recurrence goes on from is made within one stage, and takes 48 columns, where a stage has 16.
+Columns ran out: what the recurrence goes on from is made within one stage, and takes 48 columns, where a stage has 16, and one of the wide fabric 32.
+Declare a smaller width, put together what does not read the recurrence, as in `s@1 + (a + b)`, or, where no bit looks at another, make it two of half the width.
+$ pipelens why p --fabric wide
+input x:128;
+rec s:128 = 1 by (s@1 ^ x) & s@1;
+output y = s;
+= 5
+p:2:1: no fit: unit 3
+  2 | rec s:128 = 1 by (s@1 ^ x) & s@1;
+    | ^^^
+Columns ran out: what the recurrence goes on from is made within one stage, and takes 48 columns, where a stage has 32.
 Declare a smaller width, put together what does not read the recurrence, as in `s@1 + (a + b)`, or, where no bit looks at another, make it two of half the width.
 ";
 

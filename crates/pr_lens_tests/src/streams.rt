@@ -277,6 +277,73 @@ fn signed(rt: HostRuntime) -> Result<(), AllocError> {
     check_calls(&rt, rt.alloc(), "", SIGNED)
 }
 
+/// Programs that leave less room than all of their names take. The first leaves two turns for four names, and the second one
+/// turn. The third has equations for two kinds left, and the last has none.
+const PARTS: &str = "\
+$ pipelens signals p s --csv
+input x:8;
+fn f(a:8) { for i in 0..32763 { let b[i] = a; } return b[7]; }
+let d = signed(x);
+let e = f(x);
+output y = d;
+---
+200
+7
+= 0
+x,d,e,y
+200,-56,200,-56
+7,7,7,7
+$ pipelens signals p s --csv
+input x:8;
+const three = 3;
+fn f(a:8) { for i in 0..32763 { let b[i] = a; } return b[7]; }
+let d = signed(x);
+let e = f(x);
+output y = d;
+---
+200
+= 0
+x,d,e,y
+200,-56,200,-56
+$ pipelens signals p s --csv
+input x:8;
+fn f(a:8) { for i in 0..32764 { let b[i] = a; } return b[7]; }
+let d = signed(x);
+let e = f(x);
+output y = d;
+---
+200
+= 6
+! limit: turns 65536
+$ pipelens signals p s --csv
+input x:8;
+fn f(a) { let b[0] = a; for i in 1..16380 { let b[i] = b[i-1] ^ a; } return b[16379]; }
+let d = signed(x);
+let e = f(x);
+output y = d;
+---
+200
+= 0
+x,d,e,y
+200,-56,0,-56
+$ pipelens signals p s --csv
+input x:8;
+fn f(a) { let b[0] = a; for i in 1..16383 { let b[i] = b[i-1] ^ a; } return b[16382]; }
+let d = signed(x);
+let e = f(x);
+output y = d;
+---
+200
+= 0
+x,d,e,y
+200,200,200,200
+";
+
+#[test]
+fn parts(rt: HostRuntime) -> Result<(), AllocError> {
+    check_calls(&rt, rt.alloc(), "", PARTS)
+}
+
 /// Calls that end otherwise than with the samples' end.
 const ENDINGS: &str = "\
 $ pipelens signals p s --csv

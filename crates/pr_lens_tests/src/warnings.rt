@@ -60,6 +60,69 @@ fn signed_constants(rt: HostRuntime) -> Result<(), AllocError> {
     check_calls(&rt, rt.alloc(), "", SIGNED)
 }
 
+/// Constants that functions read by `signed`.
+const ARGUMENTS: &str = "\
+$ pipelens why p
+input x:8;
+fn tap(a, k) { return signed(a) * signed(k); }
+output y = tap(x, 12);
+= 0
+accepted
+p:3:12: warning: signed-constant
+  3 | output y = tap(x, 12);
+    |            ^^^
+Argument 2 is 12, which has the width 4. `tap` of line 2 reads it by `signed`, so it is -4 there.
+Declare a width for the parameter, as in `k:8`: the highest bit of this width is the sign.
+$ pipelens why p
+input x:8;
+const c = [0, 3, 253];
+fn scale(k, a) {
+    let m = a + 1;
+    return m + signed(((k)));
+}
+fn twice(a, n) { return (cat(a, scale(n, a)) + 1){3..0}; }
+for i in 0..3 { let s[i] = x > 3 ? x : twice(x, c[i]); }
+output y = s[0] + s[1] + s[2] + (x < 300);
+= 0
+accepted
+p:8:40: warning: signed-constant
+  8 | for i in 0..3 { let s[i] = x > 3 ? x : twice(x, c[i]); }
+    |                                        ^^^^^
+Argument 2 is 3, which has the width 2. `twice` of line 7 reads it by `signed`, so it is -1 there.
+Declare a width for the parameter, as in `k:8`: the highest bit of this width is the sign.
+p:9:36: warning: constant-comparison
+  9 | output y = s[0] + s[1] + s[2] + (x < 300);
+    |                                    ^
+This is always 1: on the left is an unsigned stream of width 8, and on the right the number 300.
+Compare with a number in reach, or take the comparison out. `signed(s)` reads the highest bit of `s` as its sign.
+$ pipelens why p
+input x:8;
+const low = 0x80;
+fn f(k) { for i in 0..1 { let t[i] = signed(k) + i; } return t[0]; }
+fn g(k) { return f(low) + k; }
+output y = g(x) + f(3 + 4);
+= 0
+accepted
+p:4:18: warning: signed-constant
+...Argument 1 is 128, which has the width 8. `f` of line 3 reads it by `signed`, so it is -128 there.
+...
+$ pipelens why p
+input x:8;
+const c = [0, 253];
+fn f(k:9) { return signed(k); }
+fn g(k) { return k + f(k) + signed(k + 0) + signed(cat(0, k)); }
+fn h(k, j) { return signed(j) - k; }
+let m = 12;
+output y = f(c[1]) + g(12) + h(12, x) + h(12, 0) + h(x, m) + h(x, 4 + 3) + h(x, c[0]);
+= 0
+accepted
+";
+
+#[test]
+fn signed_arguments(rt: HostRuntime) -> Result<(), AllocError> {
+    check_calls(&rt, rt.alloc(), "", ARGUMENTS)
+}
+
 /// Differences of constants.
 const DIFFERENCES: &str = "\
 $ pipelens why p
@@ -372,6 +435,309 @@ fn constant_comparisons(rt: HostRuntime) -> Result<(), AllocError> {
 #[test]
 fn open_comparisons(rt: HostRuntime) -> Result<(), AllocError> {
     check_calls(&rt, rt.alloc(), "", OPEN)
+}
+
+/// Declared widths that cut bits off.
+const CUTS: &str = "\
+$ pipelens why p
+input x:8;
+let s:8 = x + x;
+output y = s;
+= 0
+accepted
+p:2:7: warning: cut-bits
+  2 | let s:8 = x + x;
+    |       ^
+By what is known of the operands, the values here go from 0 to 510, and the width 8 holds those from 0 to 255: the bits above are cut off.
+Declare a greater width, of at most 128. Where these bits are not wanted, a slice says so: `(..){7..0}`, and `signed` of it where the stream is signed.
+$ pipelens why p
+input x:8;
+output y:9 = ((x * 3));
+= 0
+accepted
+p:2:10: warning: cut-bits
+...By what is known of the operands, the values here go from 0 to 765, and the width 9 holds those from 0 to 511: the bits above are cut off.
+Declare a greater width, of at most 128. Where these bits are not wanted, a slice says so: `(..){8..0}`, and `signed` of it where the stream is signed.
+...
+$ pipelens why p
+input x:8;
+output y:8 = signed(x) - signed(x@1);
+= 0
+accepted
+p:2:10: warning: cut-bits
+...By what is known of the operands, the values here go from -255 to 255, and the width 8 holds those from -128 to 127: ...
+$ pipelens why p
+input a:8;
+input b:8;
+output y:16 = signed(a) * signed(b) + signed(b) * signed(a);
+= 0
+accepted
+p:3:10: warning: cut-bits
+...By what is known of the operands, the values here go from -32512 to 32768, and the width 16 holds those from -32768 to 32767: ...
+$ pipelens why p
+input x:8;
+let k:8 = 252;
+output y:10 = signed(x) * signed(k);
+= 0
+accepted
+p:3:10: warning: cut-bits
+...By what is known of the operands, the values here go from -508 to 512, and the width 10 holds those from -512 to 511: ...
+$ pipelens why p
+input x:4;
+let low = (x & 3) + (x < 3 ? x >> 1 : 2);
+output y:3 = low + 0;
+= 0
+accepted
+p:3:10: warning: cut-bits
+...By what is known of the operands, the values here go from 0 to 10, and the width 3 holds those from 0 to 7: ...
+$ pipelens why p
+input x:128;
+output y:8 = x + x;
+= 0
+accepted
+p:2:10: warning: cut-bits
+...By what is known of the operands, the values here go beyond 128 bits, and the width 8 holds those from 0 to 255: ...
+$ pipelens why p
+input x:128;
+output y:1 = signed(x) * 1;
+= 0
+accepted
+p:2:10: warning: cut-bits
+...By what is known of the operands, the values here go from -170141183460469231731687303715884105728 to 170141183460469231731687303715884105727, and the width 1 holds those from -1 to 0: ...
+$ pipelens why p
+input x:8;
+let s[0]:8 = x;
+for i in 1..5 { let s[i]:9 = s[i-1] + x; }
+output y = s[4];
+= 0
+accepted
+p:3:26: warning: cut-bits
+...By what is known of the operands, the values here go from 0 to 765, ...
+$ pipelens why p
+input x:8;
+fn f(a) { let t:4 = 9 + 8; return t + a; }
+output y = f(x);
+= 0
+accepted
+p:2:17: warning: cut-bits
+...
+$ pipelens why p
+input x:8;
+rec n:4 = 0 by n@1 == 20 ? 0 : n@1 + 1;
+let s:8 = (x < 300) + x + n;
+let t:8 = x > 300 ? 1 : 8;
+output y:4 = s * t;
+= 0
+accepted
+p:2:20: warning: constant-comparison
+  2 | rec n:4 = 0 by n@1 == 20 ? 0 : n@1 + 1;
+    |                    ^^
+This is always 0: on the left is an unsigned stream of width 4, and on the right the number 20.
+Compare with a number in reach, or take the comparison out. `signed(s)` reads the highest bit of `s` as its sign.
+p:3:7: warning: cut-bits
+  3 | let s:8 = (x < 300) + x + n;
+    |       ^
+By what is known of the operands, the values here go from 0 to 271, and the width 8 holds those from 0 to 255: the bits above are cut off.
+Declare a greater width, of at most 128. Where these bits are not wanted, a slice says so: `(..){7..0}`, and `signed` of it where the stream is signed.
+p:3:14: warning: constant-comparison
+  3 | let s:8 = (x < 300) + x + n;
+    |              ^
+This is always 1: on the left is an unsigned stream of width 8, and on the right the number 300.
+Compare with a number in reach, or take the comparison out. `signed(s)` reads the highest bit of `s` as its sign.
+p:4:13: warning: constant-comparison
+  4 | let t:8 = x > 300 ? 1 : 8;
+    |             ^
+This is always 0: on the left is an unsigned stream of width 8, and on the right the number 300.
+Compare with a number in reach, or take the comparison out. `signed(s)` reads the highest bit of `s` as its sign.
+p:5:10: warning: cut-bits
+  5 | output y:4 = s * t;
+    |          ^
+By what is known of the operands, the values here go from 0 to 2040, and the width 4 holds those from 0 to 15: the bits above are cut off.
+Declare a greater width, of at most 128. Where these bits are not wanted, a slice says so: `(..){3..0}`, and `signed` of it where the stream is signed.
+";
+
+/// Declared widths that hold all values, or that are meant to cut bits off.
+const WIDE_ENOUGH: &str = "\
+$ pipelens why p
+input x:8;
+output a:10 = (x << 1) + (x << 1);
+output b:11 = (x << 2) + x + (x << 1);
+output c:8 = (x + x){7..0};
+output d:8 = (x + x) >> 1;
+output e:8 = x - x@1;
+output f:8 = x > 3 ? x + x : x;
+output g:8 = ~(x + x);
+output h:8 = x << 4;
+output i:4 = x;
+output j:9 = x - x@1;
+output k:8 = (x << 4 & 240) + (x >> 4);
+= 0
+accepted
+$ pipelens why p
+input a:8;
+input b:8;
+output y:16 = signed(a) * signed(b) - signed(b) * signed(a@1);
+output z:9 = signed(cat(0, a)) - b;
+output v:10 = signed(cat(253)) * signed(a);
+let k:8 = 252;
+output w:11 = signed(a) * signed(k);
+= 0
+accepted
+$ pipelens why p
+input x:4;
+output y:8 = (x << 4) + x;
+= 0
+accepted
+$ pipelens why p
+input x:8;
+input z:4;
+let s[0]:24 = x * z;
+for i in 1..16 { let s[i]:24 = s[i-1] + x@i * z; }
+output y:16 = s[15] + 0;
+= 0
+accepted
+$ pipelens why p
+input x:8;
+rec s:8 = 0 by s@1 + x;
+rec n = 0 by (n@1 + x){7..0};
+let t:4 = n + x;
+output y = s + t;
+= 0
+accepted
+$ pipelens why p
+input x:8;
+fn f(a, b:4):8 { let s:4 = a + b; return s * a; }
+let t:8 = f(x, x + x) + x;
+output y = t;
+= 0
+accepted
+$ pipelens why p
+input x:128;
+output y:128 = x{126..0} + x{126..0};
+= 0
+accepted
+";
+
+#[test]
+fn cut_bits(rt: HostRuntime) -> Result<(), AllocError> {
+    check_calls(&rt, rt.alloc(), "", CUTS)
+}
+
+#[test]
+fn widths_that_hold(rt: HostRuntime) -> Result<(), AllocError> {
+    check_calls(&rt, rt.alloc(), "", WIDE_ENOUGH)
+}
+
+/// Delay lines that are longer than what reads them.
+const DELAYS: &str = "\
+$ pipelens why p
+input x:8;
+let d[0] = x;
+for i in 1..9 { let d[i] = d[i-1]@1; }
+output y = d[0] + d[1] + d[2] + d[3];
+= 0
+accepted
+p:3:21: warning: long-delay
+  3 | for i in 1..9 { let d[i] = d[i-1]@1; }
+    |                     ^
+No output needs `d` with the indices 4 to 8 in the order of assignment: the delay line is longer than what the outputs need.
+Let it end before, with what reads its end, or see whether an output should read on.
+$ pipelens why p
+input x:8;
+let d[0]:6 = x;
+for i in 1..4 { let d[i]:6 = d[i-1]@1; }
+output y = d[0] + d[2];
+= 0
+accepted
+p:3:21: warning: long-delay
+...No output needs `d` with the index 3: the delay line is longer than what the outputs need.
+...
+$ pipelens why p
+input x:8;
+let a[0] = x;
+let b[0] = x;
+for i in 1..5 { let a[i] = a[i-1]@1; let b[i] = b[i-1]@2; }
+output y = a[4] + b[1];
+= 0
+accepted
+p:4:42: warning: long-delay
+...No output needs `b` with the indices 3 to 4 in the order of assignment: ...
+$ pipelens why p
+input x:8;
+let d[1] = x@1;
+let d[2] = x@2;
+let d[3] = x@3;
+output y = d[1] + x;
+= 0
+accepted
+p:4:5: warning: long-delay
+...with the indices 2 to 3 in the order of assignment: ...
+$ pipelens why p
+input x:8;
+let d[0] = x;
+let d[1] = d[0]@1;
+fn f(a) { let d = a + 1; return d; }
+output y = f(d[0]);
+= 0
+accepted
+p:3:5: warning: long-delay
+...with the index 1: ...
+$ pipelens why p
+input x:8;
+let d[0] = x;
+for i in 1..3 { let d[i] = d[i-1]@1; }
+output y = x;
+= 0
+accepted
+p:2:5: warning: unneeded
+  2 | let d[0] = x;
+    |     ^
+No result needs `d`: neither an output nor what a function returns is made of it.
+Take it out, or see whether it should stand in the place of another name.
+p:3:21: warning: unneeded
+...
+";
+
+/// Delay lines that are read to their ends, and ends of other lines.
+const READ: &str = "\
+$ pipelens why p
+input x:8;
+let d[0] = x;
+for i in 1..9 { let d[i] = d[i-1]@1; }
+output y = d[0] + d[8];
+= 0
+accepted
+$ pipelens why p
+input x:8;
+let d[0] = x;
+for i in 1..9 { let d[i] = d[i-1]@1; }
+output y = d[3];
+output z = x@8;
+= 0
+accepted
+$ pipelens why p
+input x:8;
+let c[0] = x{0..0};
+for i in 0..8 { let c[i+1] = c[i] ^ x{i..i}; }
+output y = c[7];
+= 0
+accepted
+$ pipelens why p
+input x:8;
+fn f(a) { let d[0] = a; for i in 1..9 { let d[i] = d[i-1]@1; } return d[3]; }
+output y = f(x);
+= 0
+accepted
+";
+
+#[test]
+fn long_delays(rt: HostRuntime) -> Result<(), AllocError> {
+    check_calls(&rt, rt.alloc(), "", DELAYS)
+}
+
+#[test]
+fn delays_that_are_read(rt: HostRuntime) -> Result<(), AllocError> {
+    check_calls(&rt, rt.alloc(), "", READ)
 }
 
 /// Warnings that are left out, and warnings as JSON.

@@ -2,16 +2,17 @@
 use Rattle.std.proofs.Common.{◌≡◌, ◌∙◌, true, List, [], ◌∷◌, map, None, refl, sym, ap, subst, inl, inr, String, Global, string_bytes}
 use Rattle.clap.specs.Walk.{rows_of}
 use Rattle.clap.specs.Simple.{App, HasMatchesOf, is_simple, matches_of}
-use Rattle.clap.specs.Kinds.{HasKind, Kinds}
+use Rattle.clap.specs.Kinds.{HasKind, IsAmong, Kinds}
 use Rattle.clap.specs.Faults.{fault_of, is_simple_and_free}
 use Rattle.clap.specs.Values.{kind_of}
 use Rattle.clap.specs.Matches.{found_of}
 use Rattle.clap.specs.declared.error.Error.{Error}
+use Rattle.clap.specs.declared.error.kind.ErrorKind.{ErrorKind}
 use Rattle.clap.specs.declared.error.kind.ErrorKind.TheVariants as kind
 use Rattle.clap.specs.declared.parser.matches.ArgMatches.{ArgMatches}
 use Rattle.clap.specs.declared.parser.matches.Found.{Found}
 use Rattle.clap.proofs.WalkLemmas.{first_value-rows}
-use Rattle.pr_lens_tool.specs.Orders.{app, asked_by, asked_from, asked_of, asked_rows, asked_without, asked_words}
+use Rattle.pr_lens_tool.specs.Orders.{AskForHelp, MayAskForHelp, app, asked_by, asked_from, asked_of, asked_rows, asked_without, asked_words, faults_in}
 
 simple_app : is_simple app ≡ true
 unfolding app
@@ -36,6 +37,34 @@ asked-refused a words e is kinds other =
       | inr among ↦ absurd among
     ]
     go (k ∷ ks) has = refl
+
+-- then its error is one of those of the words
+pub fault-among : (a : App) (words : List (String Global)) (e : Error) → a ≡ app → (is_simple_and_free a ≡ true → HasKind (fault_of a (map string_bytes words)) e)
+    → (kind_of e ≡ kind.OutOfMemory → ⊥) → IsAmong (kind_of e) (faults_in words)
+unfolding faults_in
+fault-among a words e is kinds other =
+    let has : HasKind (faults_in words) e = subst (λ (x : App). HasKind (fault_of x (map string_bytes words)) e) is (kinds (ap is_simple_and_free is ∙ free_app)) in
+    elim has [
+      | inl memory ↦ absurd (other memory)
+      | inr among ↦ among
+    ]
+
+pub asks-for-help : (words : List (String Global)) (k : ErrorKind) → IsAmong k (faults_in words) → k ≡ kind.DisplayHelp → MayAskForHelp words
+asks-for-help words k among is = subst (λ (x : ErrorKind). IsAmong x (faults_in words)) is among
+
+pub asks-for-more : (words : List (String Global)) (k : ErrorKind) → IsAmong k (faults_in words) → (k ≡ kind.DisplayHelp → ⊥) → AskForHelp words → ⊥
+asks-for-more words k among other is = elim (subst (λ (ks : Kinds). IsAmong k ks) is among) [
+  | inl same ↦ other same
+  | inr none ↦ none
+]
+
+-- the parser takes the words, so nothing is wrong with them
+pub faults-none : (a : App) (words : List (String Global)) → a ≡ app → (is_simple_and_free a ≡ true → fault_of a (map string_bytes words) ≡ []) → AskForHelp words → ⊥
+unfolding faults_in
+faults-none a words is free asks =
+    let none : faults_in words ≡ [] = ap (λ (x : App). fault_of x (map string_bytes words)) (sym is) ∙ free (ap is_simple_and_free is ∙ free_app) in
+    let clash : kind.DisplayHelp ∷ [] ≡ [] = sym asks ∙ none in
+    cc
 
 -- the parser takes the words
 pub asked-taken : (a : App) (words : List (String Global)) (m : ArgMatches) → a ≡ app → (is_simple_and_free a ≡ true → fault_of a (map string_bytes words) ≡ [])

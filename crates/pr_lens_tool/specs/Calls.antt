@@ -1,5 +1,6 @@
 -- What a call reads and writes, and what it comes to.
-use Rattle.std.specs.Prelude.{◌≡◌, ◌⊎◌, ℕ, List, Option, Some, None}
+use Rattle.std.specs.Prelude.{◌≡◌, ◌⊎◌, ℕ, List, Option, Some, None, String}
+use Rattle.std.specs.declared.alloc.Global.{Global}
 use Rattle.pr_edge.specs.Files.{Told}
 use Rattle.pr_tool_answers.specs.declared.answers.Answer.{Answer}
 use Rattle.pr_lens_signals.specs.Calls.{Call}
@@ -11,6 +12,7 @@ use Rattle.pr_lens_tool.specs.Programs.{IsToldOf, IsUntold}
 use Rattle.pr_lens_tool.specs.Logs.{IsDrawing, IsUndrawn}
 use Rattle.pr_lens_tool.specs.Streams.{TellsStreams}
 use Rattle.pr_lens_tool.specs.Benches.{IsBenchOf, IsNoBenchOf}
+use Rattle.pr_lens_tool.specs.Orders.{AskForHelp, MayAskForHelp, asked_by}
 
 -- ---- a text that is made whole
 abbrev pub IsMade : AskedProduct → Told → AskedTarget → Outcome → List ℕ → Type 0
@@ -58,6 +60,15 @@ pub record EndsWith (outcome : Outcome) (c : Call) (result : Outcome) : Type 0 w
 abbrev pub Helps : Call → Outcome → Type 0
 Helps c result = IsWritten c.old c.new c.writes_before c.writes_now help_text (Plain Answer.Ok) result
 
-abbrev pub IsCalled : Option Asked → Call → Outcome → Type 0
-IsCalled (Some order) c result = IsFollowed order c result ⊎ EndsWith (Plain Answer.Memory) c result
-IsCalled None c result = Helps c result ⊎ (EndsWith Usage c result ⊎ EndsWith (Plain Answer.Memory) c result)
+-- words that are no order may ask for the help, and get it; or they do not just ask for it, and are refused; or memory was wanting
+abbrev pub IsOther : List (String Global) → Call → Outcome → Type 0
+IsOther words c result =
+    (MayAskForHelp words × Helps c result) ⊎ (((AskForHelp words → ⊥) × EndsWith Usage c result) ⊎ EndsWith (Plain Answer.Memory) c result)
+
+-- what the words ask for is followed, where they are an order
+abbrev pub IsCalledBy : Option Asked → List (String Global) → Call → Outcome → Type 0
+IsCalledBy (Some order) words c result = IsFollowed order c result ⊎ EndsWith (Plain Answer.Memory) c result
+IsCalledBy None words c result = IsOther words c result
+
+abbrev pub IsCalled : List (String Global) → Call → Outcome → Type 0
+IsCalled words c result = IsCalledBy (asked_by words) words c result

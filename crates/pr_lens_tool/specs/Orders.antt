@@ -1,9 +1,10 @@
 -- What the words of a command line ask for.
-use Rattle.std.specs.Prelude.{ℕ, not, List, [], ◌∷◌, Option, None, codes, map, string_bytes, true, false, String, option_map, option_and_then}
+use Rattle.std.specs.Prelude.{◌≡◌, ℕ, not, List, [], ◌∷◌, Option, None, codes, map, string_bytes, true, false, String, option_map, option_and_then}
 use Rattle.std.specs.declared.alloc.Global.{Global}
 use Rattle.clap.specs.Words.{App, first_of, first_value, matches_of, new_app, with_rule}
 use Rattle.clap.specs.Faults.{fault_of}
-use Rattle.clap.specs.Kinds.{Kinds}
+use Rattle.clap.specs.Kinds.{IsAmong, Kinds}
+use Rattle.clap.specs.declared.error.kind.ErrorKind.TheVariants.{DisplayHelp}
 use Rattle.clap.specs.Walk.{Row}
 use Rattle.clap.specs.declared.parser.matches.Found.{Found}
 use Rattle.pr_tool_words.specs.Lawful.{Text, fabric_named, is_true, number_in}
@@ -66,3 +67,15 @@ asked_words words = asked_without (fault_of app words) (asked_rows (matches_of a
 
 abbrev pub asked_by : List (String Global) → Option Asked
 asked_by words = asked_words (map string_bytes words)
+
+-- ---- what may be wrong with the words; that they ask for the help counts as a fault, and the first one decides
+unfoldable pub faults_in : List (String Global) → Kinds
+faults_in words = fault_of app (map string_bytes words)
+
+-- they may ask for the help
+abbrev pub MayAskForHelp : List (String Global) → Type 0
+MayAskForHelp words = IsAmong DisplayHelp (faults_in words)
+
+-- they do
+abbrev pub AskForHelp : List (String Global) → Type 0
+AskForHelp words = faults_in words ≡ DisplayHelp ∷ []

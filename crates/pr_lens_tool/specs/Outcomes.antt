@@ -1,5 +1,6 @@
 -- What a call comes to.
-use Rattle.std.specs.Prelude.{◌≡◌, ◌⊎◌, ℕ, List, [], ◌++◌, codes, decimal, Option, Some, None, Vec}
+use Rattle.std.specs.Prelude.{◌≡◌, ◌⊎◌, ℕ, List, [], ◌++◌, codes, decimal, Option, Some, None, Result, Ok, Err, Vec}
+use Rattle.std.specs.declared.alloc.AllocError.{AllocError}
 use Rattle.std.specs.declared.alloc.Global.{Global}
 use Rattle.pr_edge.specs.Count.{Rose}
 use Rattle.pr_edge.specs.Tape.{Tape, Appends, AppendsFront}
@@ -24,6 +25,10 @@ status_of LongModule = 6
 status_of LongBench = 6
 status_of (NoStream place) = 2
 
+-- no failed read is kept quiet: the outcome is a read fault, or the shelf's count of faults is as it was
+abbrev pub Shows : ℕ → ℕ → Outcome → Type 0
+Shows before now outcome = (outcome ≡ Plain Answer.ReadFault) ⊎ (now ≡ before)
+
 -- ---- the line that is told beside what is written
 abbrev pub bad_log_line : ℕ → List ℕ
 bad_log_line line = codes "bad log: line " ++ decimal line ++ codes "\n"
@@ -47,10 +52,11 @@ line_by reply (NoStream place) = codes "no stream\n"
 abbrev pub own_line : Reply → List ℕ
 own_line reply = line_by reply reply.outcome
 
--- the line in its place, where there is one
-abbrev pub line_or : List ℕ → Option (Vec ℕ Global) → List ℕ
-line_or own None = own
-line_or own (Some line) = line.items
+-- the line in its place, where there is one and memory was not wanting for it
+abbrev pub line_or : List ℕ → Result (Option (Vec ℕ Global)) AllocError → List ℕ
+line_or own (Ok None) = own
+line_or own (Ok (Some line)) = line.items
+line_or own (Err e) = own
 
 abbrev pub line_of : Reply → List ℕ
 line_of reply = line_or (own_line reply) reply.line

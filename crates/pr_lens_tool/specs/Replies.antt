@@ -1,5 +1,5 @@
 -- What is told of an answer to an order, with the name of the file.
-use Rattle.std.specs.Prelude.{◌≡◌, ℕ, Bool, List, [], ◌++◌, codes, if◌then◌else◌, Option, Some, None, option_and_then, option_map, IfSome, slice_get}
+use Rattle.std.specs.Prelude.{◌≡◌, ⊤, ℕ, Bool, List, [], ◌++◌, codes, if◌then◌else◌, Option, Some, None, option_and_then, option_map, IfOk, slice_get}
 use Rattle.pr_base.specs.declared.caps.Cap.{Cap}
 use Rattle.pr_base.specs.declared.fabrics.Fabric.{Fabric}
 use Rattle.pr_tool_answers.specs.declared.answers.Answer.{Answer}
@@ -36,6 +36,11 @@ samples_of (Signals samples manner) = Some samples
 samples_of (Whole (Bench samples name seed)) = Some samples
 samples_of task = None
 
+-- what is asked for has none
+abbrev pub ReadsNoSamples : Option Asked → Type 0
+ReadsNoSamples None = ⊤
+ReadsNoSamples (Some order) = samples_of order.task ≡ None
+
 -- ---- a name that no stream has
 abbrev pub stream_line : List ℕ → List ℕ
 stream_line name = codes "no stream: " ++ name ++ codes "\n"
@@ -45,8 +50,12 @@ abbrev pub signed_of : AskedTask → Option (List ℕ)
 signed_of (Signals samples manner) = manner.signed
 signed_of (Whole product) = None
 
+-- the one at a place
+abbrev pub signed_at : AskedTask → ℕ → Option (List ℕ)
+signed_at task place = option_and_then (λ list. slice_get (names_in list) place) (signed_of task)
+
 abbrev pub foreign_line : AskedTask → ℕ → Option (List ℕ)
-foreign_line task place = option_map stream_line (option_and_then (λ list. slice_get (names_in list) place) (signed_of task))
+foreign_line task place = option_map stream_line (signed_at task place)
 
 -- ---- either; other answers have their own line
 abbrev pub answer_line : AskedTarget → Answer → Option (List ℕ)
@@ -65,6 +74,7 @@ line_for asked (Streamed Answer.ReadFault) = option_map fault_line (samples_of a
 line_for asked (NoStream place) = foreign_line asked.task place
 line_for asked outcome = None
 
--- a line that a reply has in place of the outcome's own is the one for what was asked
+-- the line that a reply has in place of the outcome's own, where there is one, is the one for what was asked; it is left out for
+-- want of memory alone
 abbrev pub HasLine : Option Asked → Reply → Type 0
-HasLine asked reply = IfSome reply.line (λ line. option_and_then (λ a. line_for a reply.outcome) asked ≡ Some line.items)
+HasLine asked reply = IfOk reply.line (λ line. option_map (λ v. v.items) line ≡ option_and_then (λ a. line_for a reply.outcome) asked)

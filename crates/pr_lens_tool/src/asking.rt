@@ -9,7 +9,7 @@ ghost use Rattle.pr_tool_words.specs.Lawful.{fabric_named, is_true, number_in};
 ghost use Rattle.pr_tool_words.specs.Shape.{place, option, option_or, flag};
 ghost use Rattle.pr_lens_tool.specs.Asked.{asked_in, product_in, task_in};
 ghost use Rattle.pr_lens_tool.specs.Tasks.{are_name_bytes, form_of, is_module_name, is_name_byte, module_named, one_file, said_in, task_of, two_files};
-ghost use Rattle.pr_lens_tool.specs.Orders.{app, asked_of, asked_by, said_of};
+ghost use Rattle.pr_lens_tool.specs.Orders.{AskForHelp, MayAskForHelp, app, asked_of, asked_by, said_of};
 
 use crate::orders::{Drawing, Order, Product, Question, Target, Task};
 use clap::error::ErrorKind;
@@ -311,6 +311,8 @@ pub fn read_order<'a>(alloc: Global, words: &'a [String]) -> Result<Order<'a>, O
     ensures order { IfOk result (λ o. asked_by words.entry.now ≡ Some (asked_in o)) }
     ensures usage { IsErrOf result OrderFault.Usage → asked_by words.entry.now ≡ None }
     ensures help { IsErrOf result OrderFault.Help → asked_by words.entry.now ≡ None }
+    ensures unasked { IsErrOf result OrderFault.Usage → AskForHelp words.entry.now → ⊥ }
+    ensures asks { IsErrOf result OrderFault.Help → MayAskForHelp words.entry.now }
     ensures unparsed { (e : Error) → IsErrOf result (OrderFault.Unparsed e) → kind_of e ≡ OutOfMemory }
 {
     let command = command(alloc)?;

@@ -1,9 +1,10 @@
 //! What is made of logs.
 
-ghost use Rattle.std.specs.Prelude.{◌≡◌, ◌≤◌, ◌-◌, IfOk, IfErr, length};
+ghost use Rattle.std.specs.Prelude.{◌≡◌, ◌≤◌, ◌-◌, IfOk, IfErr, OnOk, length};
 ghost use Rattle.pr_tool_answers.specs.declared.answers.Answer.{Answer};
 ghost use Rattle.pr_tool_modes.specs.Files.{IsText};
 ghost use Rattle.pr_lens_tool.specs.declared.outcomes.Outcome.TheVariants.{Plain, Unshown};
+ghost use Rattle.pr_lens_tool.specs.Outcomes.{Shows};
 ghost use Rattle.pr_lens_tool.specs.Logs.{HasLog, IsDrawing, IsNoLog, IsUndrawn, drawn_text, most_log_bytes};
 ghost use Rattle.pr_lens_log.specs.Windows.{time_at};
 
@@ -25,6 +26,8 @@ fn log_text<S: Shelf>(alloc: Global, shelf: &mut S, name: &str) -> Result<Vec<u8
     ensures short { IfOk result (λ v. length v.items ≤ most_log_bytes) }
     ensures refused { IfErr result
         (IsNoLog (S.told shelf.old) name.now (S.faults shelf.old) (S.faults shelf.new)) }
+    ensures steady { OnOk result (S.faults shelf.new ≡ S.faults shelf.old) }
+    ensures shown { IfErr result (Shows (S.faults shelf.old) (S.faults shelf.new)) }
     ensures later { S.faults shelf.old ≤ S.faults shelf.new }
     ensures same { S.told shelf.new ≡ S.told shelf.old }
 {
@@ -42,6 +45,8 @@ fn log_of<S: Shelf>(alloc: Global, shelf: &mut S, name: &str) -> Result<Log, Out
     ensures read { IfOk result (HasLog (S.told shelf.old) name.now) }
     ensures refused { IfErr result
         (IsNoLog (S.told shelf.old) name.now (S.faults shelf.old) (S.faults shelf.new)) }
+    ensures steady { OnOk result (S.faults shelf.new ≡ S.faults shelf.old) }
+    ensures shown { IfErr result (Shows (S.faults shelf.old) (S.faults shelf.new)) }
     ensures later { S.faults shelf.old ≤ S.faults shelf.new }
     ensures same { S.told shelf.new ≡ S.told shelf.old }
 {
@@ -90,6 +95,11 @@ pub fn of_log<S: Shelf>(
     ensures drawn { IfOk result (λ o. IsDrawing drawing window (S.told shelf.old) name.now o.text.items) }
     ensures refused { IfErr result
         (IsUndrawn window (S.told shelf.old) name.now (S.faults shelf.old) (S.faults shelf.new)) }
+
+    // A read that fails is not tried again: it ends with ReadFault.
+    ensures steady { OnOk result (S.faults shelf.new ≡ S.faults shelf.old) }
+    ensures shown { IfErr result (Shows (S.faults shelf.old) (S.faults shelf.new)) }
+
     ensures later { S.faults shelf.old ≤ S.faults shelf.new }
     ensures same { S.told shelf.new ≡ S.told shelf.old }
 {

@@ -50,8 +50,8 @@ pub struct Reply {
     pub outcome: Outcome,
     /// The limits that an answer's own line tells.
     pub bounds: Bounds,
-    /// The line in place of an answer's own, where it tells more.
-    pub line: Option<Vec<u8>>,
+    /// The line in place of an answer's own, where it tells more; or memory was wanting for it, and the own line is told.
+    pub line: Result<Option<Vec<u8>>, AllocError>,
 }
 
 /// The line for words that are no lawful command line.
@@ -132,8 +132,8 @@ impl Reply {
         ensures later { E.faults note.old ≤ E.faults note.new }
     {
         match &self.line {
-            Some(line) => put_bytes(note, line),
-            None => self.put_own(note),
+            Ok(Some(line)) => put_bytes(note, line),
+            Ok(None) | Err(_) => self.put_own(note),
         }
     }
 

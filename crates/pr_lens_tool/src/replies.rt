@@ -1,8 +1,8 @@
 //! What is replied, with the name of the file where that tells more.
 
-ghost use Rattle.std.specs.Prelude.{◌≡◌, ◌++◌, Some, None, option_map, IfOk, IfSome, OnOk};
+ghost use Rattle.std.specs.Prelude.{◌≡◌, ◌++◌, Ok, None, option_map, IfOk, OnOk};
 ghost use Rattle.pr_lens_tool.specs.Asked.{asked_in, target_in, task_in};
-ghost use Rattle.pr_lens_tool.specs.Replies.{answer_line, fabric_words, fault_line, foreign_line, line_for, narrow_words, refused_line, samples_of, signed_of, stream_line, why_line};
+ghost use Rattle.pr_lens_tool.specs.Replies.{answer_line, fabric_words, fault_line, foreign_line, line_for, narrow_words, refused_line, samples_of, signed_at, signed_of, stream_line, why_line};
 
 use crate::orders::{Order, Product, Target, Task};
 use crate::outcomes::{Outcome, Reply};
@@ -84,14 +84,20 @@ fn signed_of<'a>(task: Task<'a>) -> Option<&'a str>
     }
 }
 
-/// The line for a name that no stream has, where memory does not want.
-fn foreign_line(alloc: Global, task: Task, place: usize) -> Option<Vec<u8>>
-    ensures { IfSome result (λ line. foreign_line (task_in task.entry) place ≡ Some line.items) }
+/// The name at a place of those that a task shows as two's complement.
+fn signed_at<'a>(task: Task<'a>, place: usize) -> Option<&'a str>
+    ensures { option_map (λ s. s.now) result ≡ signed_at (task_in task.entry) place }
 {
-    let name = name_at(signed_of(task)?, place)?;
-    match stream_line(alloc, name) {
-        Ok(line) => Some(line),
-        Err(_) => None,
+    name_at(signed_of(task)?, place)
+}
+
+/// The line for a name that no stream has.
+fn foreign_line(alloc: Global, task: Task, place: usize) -> Result<Option<Vec<u8>>, AllocError>
+    ensures { IfOk result (λ line. option_map (λ v. v.items) line ≡ foreign_line (task_in task.entry) place) }
+{
+    match signed_at(task, place) {
+        None => Ok(None),
+        Some(name) => Ok(Some(stream_line(alloc, name)?)),
     }
 }
 
@@ -140,35 +146,34 @@ fn samples_of<'a>(task: Task<'a>) -> Option<&'a str>
     }
 }
 
-/// The line for samples that cannot be read, where there are some and memory does not want.
-fn samples_line(alloc: Global, task: Task) -> Option<Vec<u8>>
-    ensures { IfSome result (λ line. option_map fault_line (samples_of (task_in task.entry)) ≡ Some line.items) }
+/// The line for samples that cannot be read, where there are some.
+fn samples_line(alloc: Global, task: Task) -> Result<Option<Vec<u8>>, AllocError>
+    ensures { IfOk result
+        (λ line. option_map (λ v. v.items) line ≡ option_map fault_line (samples_of (task_in task.entry))) }
 {
-    match fault_line(alloc, samples_of(task)?) {
-        Ok(line) => Some(line),
-        Err(_) => None,
+    match samples_of(task) {
+        None => Ok(None),
+        Some(samples) => Ok(Some(fault_line(alloc, samples)?)),
     }
 }
 
-/// The line of an outcome, where it tells more than the outcome's own and memory does not want.
-fn line_for(alloc: Global, order: &Order, outcome: Outcome) -> Option<Vec<u8>>
-    ensures { IfSome result (λ line. line_for (asked_in order.now) outcome ≡ Some line.items) }
+/// The line of an outcome, where it tells more than the outcome's own.
+fn line_for(alloc: Global, order: &Order, outcome: Outcome) -> Result<Option<Vec<u8>>, AllocError>
+    ensures { IfOk result (λ line. option_map (λ v. v.items) line ≡ line_for (asked_in order.now) outcome) }
 {
     match outcome {
-        Outcome::Plain(answer) => match answer_line(alloc, &order.target, answer) {
-            Ok(line) => line,
-            Err(_) => None,
-        },
+        Outcome::Plain(answer) => answer_line(alloc, &order.target, answer),
         Outcome::Streamed(Answer::ReadFault) => samples_line(alloc, order.task),
         Outcome::NoStream { place } => foreign_line(alloc, order.task, place),
-        _ => None,
+        _ => Ok(None),
     }
 }
 
 /// The reply to an order.
 pub fn reply_of(alloc: Global, order: &Order, outcome: Outcome) -> Reply
     ensures outcome { result.outcome ≡ outcome }
-    ensures line { IfSome result.line (λ line. line_for (asked_in order.now) outcome ≡ Some line.items) }
+    ensures line { IfOk result.line
+        (λ line. option_map (λ v. v.items) line ≡ line_for (asked_in order.now) outcome) }
 {
     Reply {
         outcome,
@@ -180,11 +185,11 @@ pub fn reply_of(alloc: Global, order: &Order, outcome: Outcome) -> Reply
 /// The reply where there is no order.
 pub fn bare(outcome: Outcome) -> Reply
     ensures outcome { result.outcome ≡ outcome }
-    ensures line { result.line ≡ None }
+    ensures line { result.line ≡ Ok None }
 {
     Reply {
         outcome,
         bounds: Bounds::BASE,
-        line: None,
+        line: Ok(None),
     }
 }

@@ -1,30 +1,56 @@
--- Comparisons that are settled, by their signs in the text.
-use Rattle.std.specs.Prelude.{ℕ, ◌+◌, ◌≡◌, ◌≢◌, slice_index_or, List, [], ◌∷◌, Option, None, Some, MatchOption, if◌then◌else◌}
+-- Comparisons that are settled, declared widths that cut bits off, and arguments that are read by `signed`, by their tokens.
+use Rattle.std.specs.Prelude.{ℕ, zero, suc, ◌+◌, ◌-◌, ◌&&◌, ◌||◌, ◌≡◌, ◌≢◌, Bool, not, length, unwrap_or, slice_index_or, List, [], ◌∷◌, Option, None, Some, MatchOption, if◌then◌else◌}
 use Rattle.pr_lang.specs.declared.tokens.Token.{Token}
 use Rattle.pr_lang.specs.declared.trees.Program.{Program}
 use Rattle.pr_lang.specs.Shape.{program_shape}
 use Rattle.pr_lang.specs.Syntax.{IsProgram, refusal_of}
+use Rattle.pr_lens_source.specs.declared.sources.Span.{Span}
+use Rattle.pr_lens_source.specs.Introduced.{introduced_before, is_fn, is_name, is_open_round}
+use Rattle.pr_lens_source.specs.Tokens.{kind_of}
 use Rattle.pr_lens_extents.specs.declared.verdicts.Verdict.{Verdict}
-use Rattle.pr_lens_extents.specs.declared.verdicts.Verdict.TheVariants.{Unseen, Always, Varies}
+use Rattle.pr_lens_extents.specs.declared.verdicts.Verdict.TheVariants.{Unseen, Always, Varies, Cut, Negative}
 use Rattle.pr_lens_extents.specs.Programs.{program_verdicts}
 use Rattle.pr_lens_warn.specs.declared.remarks.Remark.{Remark}
-use Rattle.pr_lens_warn.specs.declared.remarks.Remark.TheVariants.{Settled}
-use Rattle.pr_lens_warn.specs.Kinds.{is_comparison}
+use Rattle.pr_lens_warn.specs.declared.remarks.Remark.TheVariants.{Settled, Narrow, Argument}
+use Rattle.pr_lens_warn.specs.Kinds.{is_assign, is_colon, is_comparison, is_number}
 
--- a verdict for each token, where the first comparison among them has the one of this number
-abbrev pub verdicts_from : ℕ → List Token → List Verdict → List Verdict
-verdicts_from n [] verdicts = []
-verdicts_from n (t ∷ ts) verdicts =
-    if is_comparison t.kind then slice_index_or verdicts n Unseen ∷ verdicts_from (n + 1) ts verdicts else Unseen ∷ verdicts_from n ts verdicts
+-- a declared width behind a name that is assigned: that of a parameter, a function or an input stands before other symbols
+abbrev pub is_declared : List Token → ℕ → Bool
+is_declared tokens at =
+    is_number (kind_of tokens at) && (is_colon (kind_of tokens (at - 1)) && is_assign (kind_of tokens (at + 1)))
 
--- the first comparison has the first verdict, the second one the second, and so on
+-- the name of a function that is called
+abbrev pub is_call : List Token → ℕ → Bool
+is_call tokens at =
+    is_name (kind_of tokens at) && (is_open_round (kind_of tokens (at + 1)) && not (is_fn (kind_of tokens (at - 1))))
+
+-- a token that has a verdict
+unfoldable pub is_judged : List Token → ℕ → Bool
+is_judged tokens at = is_comparison (kind_of tokens at) || (is_declared tokens at || is_call tokens at)
+
+-- a verdict for each of so many tokens from one on, where the first token among them that has a verdict has the one of this number
+abbrev pub verdicts_from : List Token → List Verdict → ℕ → ℕ → ℕ → List Verdict
+verdicts_from tokens verdicts zero at n = []
+verdicts_from tokens verdicts (suc k) at n =
+    if is_judged tokens at then slice_index_or verdicts n Unseen ∷ verdicts_from tokens verdicts k (at + 1) (n + 1)
+    else Unseen ∷ verdicts_from tokens verdicts k (at + 1) n
+
+-- the first such token has the first verdict, the second one the second, and so on
 abbrev pub by_tokens : List Token → List Verdict → List Verdict
-by_tokens tokens verdicts = verdicts_from 0 tokens verdicts
+by_tokens tokens verdicts = verdicts_from tokens verdicts (length tokens) 0 0
 
-abbrev pub settled : Verdict → Option Remark
-settled Unseen = None
-settled Varies = None
-settled (Always answer left right) = Some (Settled answer left right)
+-- the token at which the name of a token is introduced
+abbrev pub introduction_of : List ℕ → List Token → List Span → ℕ → ℕ
+introduction_of text tokens spans at = unwrap_or (introduced_before text tokens spans at) at
+
+-- what is pointed out of a token with this verdict
+abbrev pub settled : List ℕ → List Token → List Span → ℕ → Verdict → Option Remark
+settled text tokens spans at Unseen = None
+settled text tokens spans at Varies = None
+settled text tokens spans at (Always answer left right) = Some (Settled answer left right)
+settled text tokens spans at (Cut form reach) = Some (Narrow form reach)
+settled text tokens spans at (Negative argument number width below) =
+    Some (Argument argument number width below (introduction_of text tokens spans at))
 
 abbrev pub verdicts_in : Option Program → List Verdict
 verdicts_in None = []

@@ -2,7 +2,7 @@
 use Rattle.std.specs.Prelude.{Bool, true, false}
 use Rattle.pr_lang.specs.declared.tokens.Keyword.TheVariants as keyword
 use Rattle.pr_lang.specs.declared.tokens.Kind.{Kind}
-use Rattle.pr_lang.specs.declared.tokens.Kind.TheVariants.{Word, Mark}
+use Rattle.pr_lang.specs.declared.tokens.Kind.TheVariants.{Number, Word, Mark}
 use Rattle.pr_lang.specs.declared.tokens.Symbol.{Symbol}
 use Rattle.pr_lang.specs.declared.tokens.Symbol.TheVariants as symbol
 
@@ -89,3 +89,15 @@ abbrev pub binds_closer : Kind → Bool
 binds_closer (Mark symbol.Star) = true
 binds_closer (Mark symbol.OpenCurly) = true
 binds_closer _ = false
+
+abbrev pub is_number : Kind → Bool
+is_number (Number number) = true
+is_number _ = false
+
+abbrev pub is_colon : Kind → Bool
+is_colon (Mark symbol.Colon) = true
+is_colon _ = false
+
+abbrev pub is_assign : Kind → Bool
+is_assign (Mark symbol.Assign) = true
+is_assign _ = false

@@ -1,14 +1,16 @@
-//! Comparisons that are settled, by their signs in the text.
+//! Comparisons that are settled, declared widths that cut bits off, and arguments that are read by `signed`, by their
+//! tokens.
 
-ghost use Rattle.std.specs.Prelude.{◌≡◌, ◌≤◌, IfOk, length, slice_index_or};
+ghost use Rattle.std.specs.Prelude.{◌≡◌, ◌<◌, ◌≤◌, IfOk, length, slice_index_or};
 ghost use Rattle.pr_lang.specs.Tokens.{tokens_of};
 ghost use Rattle.pr_lens_extents.specs.declared.verdicts.Verdict.TheVariants.{Unseen};
-ghost use Rattle.pr_lens_warn.specs.Comparisons.{AreVerdicts, by_tokens, settled};
+ghost use Rattle.pr_lens_warn.specs.Comparisons.{AreVerdicts, by_tokens, introduction_of, is_call, is_declared, is_judged, settled};
 
-use crate::kinds::is_comparison;
+use crate::kinds::{is_assign, is_colon, is_comparison, is_fn, is_name, is_number, is_open_round};
 use crate::remarks::Remark;
 use pr_lang::Token;
 use pr_lens_extents::{Verdict, verdicts_of};
+use pr_lens_source::{Source, introduced_before};
 use pr_parse::{ParseFault, parse};
 use std::alloc::{AllocError, Global};
 
@@ -35,19 +37,48 @@ fn verdict_at(verdicts: &[Verdict], number: usize) -> Verdict
     }
 }
 
-/// A verdict for each token: the comparisons have theirs, one after the other.
+/// Whether a token is a declared width behind a name that is assigned.
+fn is_declared(source: &Source, at: usize) -> bool
+    requires { at < length source.now.tokens.now }
+    ensures { result ≡ is_declared source.now.tokens.now at }
+{
+    is_number(source.kind(at))
+        && is_colon(source.kind(at.saturating_sub(1)))
+        && is_assign(source.kind(at + 1))
+}
+
+/// Whether a token is the name of a function that is called.
+fn is_call(source: &Source, at: usize) -> bool
+    requires { at < length source.now.tokens.now }
+    ensures { result ≡ is_call source.now.tokens.now at }
+{
+    is_name(source.kind(at))
+        && is_open_round(source.kind(at + 1))
+        && !is_fn(source.kind(at.saturating_sub(1)))
+}
+
+/// Whether a token has a verdict.
+#[tactic(auto, unfolding(crate::specs::Comparisons::is_judged))]
+fn is_judged(source: &Source, at: usize) -> bool
+    requires { at < length source.now.tokens.now }
+    ensures { result ≡ is_judged source.now.tokens.now at }
+{
+    is_comparison(source.kind(at)) || is_declared(source, at) || is_call(source, at)
+}
+
+/// A verdict for each token: those that are judged have theirs, one after the other.
 pub fn by_tokens(
     alloc: Global,
-    tokens: &[Token],
+    source: &Source,
     verdicts: &[Verdict],
 ) -> Result<Vec<Verdict>, AllocError>
-    ensures count { IfOk result (λ all. length all.items ≡ length tokens.now) }
-    ensures each { IfOk result (λ all. all.items ≡ by_tokens tokens.now verdicts.now) }
+    ensures count { IfOk result (λ all. length all.items ≡ length source.now.tokens.now) }
+    ensures each { IfOk result (λ all. all.items ≡ by_tokens source.now.tokens.now verdicts.now) }
 {
     let mut all = Vec::new(alloc);
     let mut next = 0;
-    for token in tokens {
-        if is_comparison(token.kind) {
+    for at in 0..source.tokens.len() {
+        if is_judged(source, at) {
             all.push(verdict_at(verdicts, next))?;
             next += 1;
         } else {
@@ -57,9 +88,18 @@ pub fn by_tokens(
     Ok(all)
 }
 
-/// What is pointed out of a comparison with this verdict.
-pub fn settled(verdict: Verdict) -> Option<Remark>
-    ensures { result ≡ settled verdict }
+/// The token at which the name of a token is introduced.
+fn introduction_of(source: &Source, at: usize) -> usize
+    ensures { result
+        ≡ introduction_of source.now.text.now source.now.tokens.now source.now.spans.now at }
+{
+    introduced_before(source, at).unwrap_or(at)
+}
+
+/// What is pointed out of a token with this verdict.
+pub fn settled(source: &Source, at: usize, verdict: Verdict) -> Option<Remark>
+    ensures { result
+        ≡ settled source.now.text.now source.now.tokens.now source.now.spans.now at verdict }
 {
     match verdict {
         Verdict::Unseen | Verdict::Varies => None,
@@ -71,6 +111,19 @@ pub fn settled(verdict: Verdict) -> Option<Remark>
             answer,
             left,
             right,
+        }),
+        Verdict::Cut { form, reach } => Some(Remark::Narrow { form, reach }),
+        Verdict::Negative {
+            argument,
+            number,
+            width,
+            below,
+        } => Some(Remark::Argument {
+            argument,
+            number,
+            width,
+            below,
+            function: introduction_of(source, at),
         }),
     }
 }

@@ -3,7 +3,7 @@
 ghost use Rattle.std.specs.Prelude.{◌≡◌};
 ghost use Rattle.pr_lens_source.specs.Introduced.{is_fn, is_name, is_open_round};
 ghost use Rattle.pr_lens_source.specs.Items.{is_semi};
-ghost use Rattle.pr_lens_warn.specs.Kinds.{assigns, begins_behind, begins_sum, binds_closer, goes_on, is_close_round, is_comparison, is_const, is_let, is_minus, is_shift, yields};
+ghost use Rattle.pr_lens_warn.specs.Kinds.{assigns, begins_behind, begins_sum, binds_closer, goes_on, is_assign, is_close_round, is_colon, is_comparison, is_const, is_let, is_minus, is_number, is_shift, yields};
 
 use pr_lang::{Keyword, Kind, Symbol};
 
@@ -155,4 +155,22 @@ pub fn binds_closer(kind: Kind) -> bool
         kind,
         Kind::Mark(Symbol::Star) | Kind::Mark(Symbol::OpenCurly)
     )
+}
+
+pub fn is_number(kind: Kind) -> bool
+    ensures { result ≡ is_number kind }
+{
+    matches!(kind, Kind::Number(_))
+}
+
+pub fn is_colon(kind: Kind) -> bool
+    ensures { result ≡ is_colon kind }
+{
+    matches!(kind, Kind::Mark(Symbol::Colon))
+}
+
+pub fn is_assign(kind: Kind) -> bool
+    ensures { result ≡ is_assign kind }
+{
+    matches!(kind, Kind::Mark(Symbol::Assign))
 }

@@ -1,6 +1,7 @@
 //! Remarks on a program.
 
-use pr_lens_extents::Extent;
+use pr_flat::Form;
+use pr_lens_reach::{Extent, Reach};
 
 /// What is pointed out.
 #[derive(Clone, Copy, PartialEq, Eq, Debug)]
@@ -22,6 +23,13 @@ pub enum Remark {
     },
     /// No result needs a name.
     Unneeded,
+    /// No output needs the last instances of a name, which are delays.
+    Long {
+        /// The index of the first of them.
+        first: u64,
+        /// That of the last.
+        last: u64,
+    },
     /// The amount of a shift is a stream, and always this number.
     Amount {
         number: u64,
@@ -31,6 +39,24 @@ pub enum Remark {
         answer: bool,
         left: Extent,
         right: Extent,
+    },
+    /// A declared width cuts bits off, as it does not have all these values.
+    Narrow {
+        /// The kind of what is assigned, and the declared width.
+        form: Form,
+        /// None where the values are beyond 128 bits.
+        reach: Option<Reach>,
+    },
+    /// A constant is an argument that a function reads by `signed`, and is negative there.
+    Argument {
+        /// Its place among the arguments, from 0.
+        argument: u64,
+        number: u64,
+        width: u16,
+        /// How far it is below 0.
+        below: u128,
+        /// The token that introduces the function.
+        function: usize,
     },
 }
 

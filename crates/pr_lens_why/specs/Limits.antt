@@ -1,5 +1,5 @@
 -- What is told of a limit, and of a group that fits in no stripe.
-use Rattle.std.specs.Prelude.{ℕ, ◌-◌, ◌*◌, ◌^◌, ◌==◌, List, ◌++◌, codes, decimal, min, nat_lt, if◌then◌else◌}
+use Rattle.std.specs.Prelude.{ℕ, ◌-◌, ◌*◌, ◌^◌, ◌==◌, List, [], ◌++◌, codes, decimal, min, nat_lt, if◌then◌else◌}
 use Rattle.pr_base.specs.declared.caps.Cap.{Cap}
 use Rattle.pr_base.specs.declared.caps.Cap.TheVariants.{Nesting, Turns, Equations, InputBytes, Outputs}
 use Rattle.pr_lens_fits.specs.declared.groups.Unfit.{Unfit}
@@ -18,9 +18,18 @@ limit_text _ = codes "The program has too many units.\nProducts and shifts by st
 unfoldable pub narrower_text : List ℕ
 narrower_text = codes ".\nDeclare a smaller width, put together what does not read the recurrence, as in `s@1 + (a + b)`, or, where no bit looks at another, make it two of half the width.\n"
 
+-- how many columns a stage of the wide fabric has, where one of this fabric has fewer
+abbrev pub wide_text : ℕ → List ℕ
+wide_text columns = if nat_lt columns 32 then codes ", and one of the wide fabric 32" else []
+
 unfoldable pub columns_text : ℕ → ℕ → List ℕ
 columns_text needed columns =
-    codes "Columns ran out: what the recurrence goes on from is made within one stage, and takes " ++ decimal needed ++ codes " columns, where a stage has " ++ decimal columns ++ narrower_text
+    codes "Columns ran out: what the recurrence goes on from is made within one stage, and takes "
+    ++ decimal needed
+    ++ codes " columns, where a stage has "
+    ++ decimal columns
+    ++ wide_text columns
+    ++ narrower_text
 
 -- more bytes are kept than there are registers; the numbers are as far as 64 bits count
 abbrev pub beside_text : ℕ → List ℕ

@@ -1,7 +1,7 @@
 //! Programs that do not fit.
 
 ghost use Rattle.std.specs.Prelude.{◌≡◌, ◌++◌, OnOk};
-ghost use Rattle.pr_lens_why.specs.Limits.{beside_text, columns_text, kept_text, later_text, left_text, narrower_text, registers_text, unfit_text};
+ghost use Rattle.pr_lens_why.specs.Limits.{beside_text, columns_text, kept_text, later_text, left_text, narrower_text, registers_text, unfit_text, wide_text};
 
 use pr_lens_fits::Unfit;
 use pr_lens_text::{put, put_counted};
@@ -18,6 +18,17 @@ fn tell_narrower(message: &mut Vec<u8>) -> Result<(), AllocError>
     )
 }
 
+/// How many columns a stage of the wide fabric has, where one of this fabric has fewer.
+fn wide_text(columns: usize) -> &'static str
+    ensures { result.now ≡ wide_text columns }
+{
+    if columns < 32 {
+        ", and one of the wide fabric 32"
+    } else {
+        ""
+    }
+}
+
 /// Tells that a group has more columns than a stage.
 #[tactic(auto, unfolding(crate::specs::Limits::columns_text))]
 fn tell_columns(message: &mut Vec<u8>, needed: usize, columns: usize) -> Result<(), AllocError>
@@ -29,6 +40,7 @@ fn tell_columns(message: &mut Vec<u8>, needed: usize, columns: usize) -> Result<
         needed,
     )?;
     put_counted(message, " columns, where a stage has ", columns)?;
+    put(message, wide_text(columns))?;
     tell_narrower(message)
 }
 

@@ -12,6 +12,7 @@ ghost use Rattle.std.specs.Prelude.{◌≡◌, ℕ, Bool, true, List, Option, No
 ghost use Rattle.std.specs.List.{range_with_len};
 ghost use Rattle.pr_lang.specs.declared.trees.Program.{Program};
 ghost use Rattle.pr_scope_names.specs.Names.{held};
+ghost use Rattle.pr_scope_names.specs.declared.streams.Instance.{Instance};
 ghost use Rattle.pr_scope.specs.Walk.{World, offence, program_walk};
 ghost use Rattle.pr_lang_meaning.specs.Programs.{has_widths, out};
 ghost use Rattle.pr_expand_spec.specs.Programs.{equations_of};
@@ -49,11 +50,12 @@ pub fn instances_law()
         held (last.streams name) index ≡ true → last.known name ≡ None }
 {}
 
-/// All instances of a program without offence can be probed under fresh names, where its walk has turns enough left.
+/// Some instances of a program without offence can be probed under fresh names, where its walk has turns enough left for
+/// them.
 pub fn probes_law()
-    ensures { (test : List ℕ → Bool) (program : Program) (names : List (List ℕ)) (last : World) →
-        program_walk program ≡ Ok last → CanShow test program names →
-        CanProbe test (probes_of names (instances_of program)) last }
+    ensures { (test : List ℕ → Bool) (program : Program) (some : List Instance) (names : List (List ℕ)) (last : World) →
+        program_walk program ≡ Ok last → CanShow test program some names →
+        CanProbe test (probes_of names some) last }
 {}
 
 /// In the rows of a probed program the numbers of the program's outputs stand first, and then those of the instances.

@@ -11,6 +11,8 @@ mod faults;
 #[cfg(test)]
 mod held;
 #[cfg(test)]
+mod largest;
+#[cfg(test)]
 mod lists;
 #[cfg(test)]
 mod log;

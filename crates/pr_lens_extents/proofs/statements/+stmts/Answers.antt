@@ -1,9 +1,9 @@
 use Rattle.std.proofs.lemmas.Result.{on_ok_weaker}
 use Rattle.std.proofs.Common.{◌≡◌, ◌∙◌, ◌-◌, ◌++◌, List, Some, None, length, sym, ap, ap₂, subst, arith}
 use Rattle.pr_lang.specs.declared.trees.Stmt.{Stmt}
-use Rattle.pr_lens_extents.specs.declared.extents.Extent.{Extent}
+use Rattle.pr_lens_reach.specs.declared.extents.Extent.{Extent}
 use Rattle.pr_lens_extents.specs.declared.verdicts.Verdict.{Verdict}
-use Rattle.pr_lens_extents.specs.Extents.{constant}
+use Rattle.pr_lens_reach.specs.Extents.{constant}
 use Rattle.pr_lens_extents.specs.Scenes.{seen_in, with_stream}
 use Rattle.pr_lens_extents.specs.Verdicts.{all_joined}
 use Rattle.pr_lens_extents.specs.Statements.{IsAdded, all_blank, in_turn, steps_of, turn, turns}

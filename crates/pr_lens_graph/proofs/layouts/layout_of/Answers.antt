@@ -13,9 +13,9 @@ returns-in_err-front-clause-refused g c =
     let p = err_from_is_err_and c.from_residual.result c.from_residual.ensures.1 in
     at_exit g.row.N g.row.P c.args.narrowed c.args.text.now c.from_residual.result _ p (front_answer g.row.N g.row.P c.args.narrowed c.args.text.now _ c.in_err-front.ensures.refused)
 
-pub returns-in_err-layout-clause-refused : goal.returns-in_err-layout-clause-refused
-returns-in_err-layout-clause-refused g c =
+pub returns-in_err-net-clause-refused : goal.returns-in_err-net-clause-refused
+returns-in_err-net-clause-refused g c =
     let front = c.in_ok-front.front in
-    let r = c.from_residual-in_err-layout in
+    let r = c.from_residual-in_err-net in
     let p = err_from_is_err_and r.result r.ensures.1 in
-    at_exit g.row.N g.row.P c.args.narrowed c.args.text.now r.result _ p (net_answer g.row.N g.row.P c.args.narrowed c.args.text.now front.scoped.program front.widths _ c.in_ok-front.ensures.passed.widths c.in_err-layout.ensures.refused)
+    at_exit g.row.N g.row.P c.args.narrowed c.args.text.now r.result _ p (net_answer g.row.N g.row.P c.args.narrowed c.args.text.now front.scoped.program front.widths _ c.in_ok-front.ensures.passed.widths c.in_err-net.ensures.refused)

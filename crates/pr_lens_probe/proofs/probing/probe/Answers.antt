@@ -1,44 +1,52 @@
-use Rattle.std.proofs.Common.{◌≡◌, ◌∙◌, ◌≤◌, ◌++◌, List, length, map, sym, ap, subst, arith}
-use Rattle.pr_lang.specs.declared.trees.Item.{Item}
-use Rattle.pr_lang.specs.declared.trees.Program.{Program}
+use Rattle.std.proofs.Common.{◌≡◌, ◌∙◌, ◌++◌, List, sym, ap₂, subst, arith}
+use Rattle.pr_scope_names.specs.declared.streams.Instance.{Instance}
 use Rattle.pr_flat.specs.declared.equations.Operand.{Operand}
+use Rattle.pr_flat.specs.Facts.{IsFlat}
 use Rattle.pr_flat.specs.Shape.{EquationShape}
-use Rattle.pr_lang_meaning.specs.Programs.{out}
 use Rattle.pr_expand_spec.specs.Programs.{equations_of}
 use Rattle.pr_probe.specs.Instances.{instances_of}
-use Rattle.pr_probe.specs.Probes.{IsProbed, probe_item}
-use Rattle.pr_lens_probe.specs.Fresh.{probes_from}
+use Rattle.pr_probe.specs.Probes.{AreNamed, HaveNames}
+use Rattle.pr_lens_probe.specs.Fresh.{is_within}
+use Rattle.pr_lens_probe.specs.Given.{AreGiven, AreLawful, HaveKinds}
 use Rattle.pr_lens_probe.specs.Shown.{HasColumns}
-use Rattle.pr_lens_probe.proofs.Shown.{showing}
+use Rattle.pr_lens_probe.proofs.Shown.{columns}
 use Rattle.pr_lens_probe.proofs.probing.probe.Goals as goal
 
-pub checked-requires : goal.checked-requires
-checked-requires c =
-    let s = showing c.args.scoped.program c.longest-most.result c.in_ok-probed.probed c.deref.result.now c.in_ok-instances.instances.items c.deref-2.result.now c.deref-4.result.now c.args.scoped.lawful c.requires.widths (omega (arith, c.if-turns-len-gt-MOST_TURNS.false, c.len.ensures, c.args.scoped.walked)) c.in_ok-instances.ensures
-    c.deref.ensures.value c.deref-2.ensures.value c.deref-4.ensures.value c.longest-most.ensures.statics c.longest-most.ensures.instances (c.in_ok-probed.ensures ∙ ap (λ (l : List Item). l ++ map probe_item (probes_from c.longest-most.result 0 c.deref-4.result.now)) c.in_ok-told.ensures.items) in
-    s.lawful
+pub show_all-requires-clause-able : goal.show_all-requires-clause-able
+show_all-requires-clause-able c = record {
+  lawful = c.args.scoped.lawful;
+  widths = c.requires.widths;
+  few = c.requires.few;
+  some = c.part_size-size.ensures.some;
+  turns = omega (arith, c.part_size-size.ensures.turns, c.args.scoped.walked);
+  all = c.deref-3.ensures.value ∙ c.in_ok-instances.ensures;
+  named = subst (AreNamed (is_within c.longest-most.result)) (c.deref-2.ensures.value ∙ sym c.deref-3.ensures.value) c.longest-most.ensures.instances;
+  statics = subst (HaveNames (is_within c.longest-most.result)) c.deref.ensures.value c.longest-most.ensures.statics;
+}
 
-pub expanded-requires : goal.expanded-requires
-expanded-requires c =
-    let s = showing c.args.scoped.program c.longest-most.result c.in_ok-probed.probed c.deref.result.now c.in_ok-instances.instances.items c.deref-2.result.now c.deref-4.result.now c.args.scoped.lawful c.requires.widths (omega (arith, c.if-turns-len-gt-MOST_TURNS.false, c.len.ensures, c.args.scoped.walked)) c.in_ok-instances.ensures
-    c.deref.ensures.value c.deref-2.ensures.value c.deref-4.ensures.value c.longest-most.ensures.statics c.longest-most.ensures.instances (c.in_ok-probed.ensures ∙ ap (λ (l : List Item). l ++ map probe_item (probes_from c.longest-most.result 0 c.deref-4.result.now)) c.in_ok-told.ensures.items) in
-    subst (λ (es : List EquationShape). length es ≤ 16384) (sym (ap (λ (p : Program). (equations_of p).equations) c.in_ok-scoped.ensures ∙ s.same)) c.requires.few
+pub with_outputs-requires : goal.with_outputs-requires
+with_outputs-requires c =
+    subst (λ (es : List EquationShape). AreLawful es c.deref-4.result.now) (sym c.in_ok-flat.ensures.equations)
+    (subst (AreLawful (equations_of c.args.scoped.program).equations) (sym c.deref-4.ensures.value) c.in_ok-shown.ensures.given.lawful)
 
 pub returns-clause-shows : goal.returns-clause-shows
 returns-clause-shows c =
-    let s = showing c.args.scoped.program c.longest-most.result c.in_ok-probed.probed c.deref.result.now c.in_ok-instances.instances.items c.deref-2.result.now c.deref-4.result.now c.args.scoped.lawful c.requires.widths (omega (arith, c.if-turns-len-gt-MOST_TURNS.false, c.len.ensures, c.args.scoped.walked)) c.in_ok-instances.ensures
-    c.deref.ensures.value c.deref-2.ensures.value c.deref-4.ensures.value c.longest-most.ensures.statics c.longest-most.ensures.instances (c.in_ok-probed.ensures ∙ ap (λ (l : List Item). l ++ map probe_item (probes_from c.longest-most.result 0 c.deref-4.result.now)) c.in_ok-told.ensures.items) in
-    let program = c.args.scoped.program in
+    let p = c.args.scoped.program in
     let flat = c.in_ok-flat.flat in
-    let probed = c.in_ok-probed.probed in
-    let operands : flat.outputs.items ≡ (equations_of probed).outputs = c.in_ok-flat.ensures.outputs ∙ ap (λ (p : Program). (equations_of p).outputs) c.in_ok-scoped.ensures in
+    let operands = c.in_ok-shown.shown.operands.items in
+    let es = c.in_ok-flat.ensures.equations in
+    let os = c.in_ok-flat.ensures.outputs in
+    let all : c.deref-3.result.now ≡ instances_of p = c.deref-3.ensures.value ∙ c.in_ok-instances.ensures in
+    let lawful : IsFlat (equations_of p).equations (equations_of p).outputs =
+    subst (λ (l : List Operand). IsFlat (equations_of p).equations l) os (subst (λ (l : List EquationShape). IsFlat l flat.outputs.items) es flat.lawful) in
+    let whole : c.in_ok-flat-2.flat.outputs.items ≡ (equations_of p).outputs ++ operands =
+    c.in_ok-flat-2.ensures.outputs ∙ ap₂ (λ (k l : List Operand). k ++ l) os c.deref-4.ensures.value in
     record {
+      items = c.in_ok-shown.ensures.items;
       instances = c.in_ok-instances.ensures;
-      most = c.longest-most.result;
-      probed = subst (λ (p : Program). IsProbed program (probes_from c.longest-most.result 0 (instances_of program)) p) (sym c.in_ok-scoped.ensures) s.is;
-      same = ap (λ (p : Program). (equations_of p).equations) c.in_ok-scoped.ensures ∙ s.same;
-      equations = c.in_ok-flat.ensures.equations;
-      outputs = c.in_ok-flat.ensures.outputs;
-      columns = λ xs. subst (λ (p : Program). HasColumns program flat.outputs.items xs (out p xs)) (sym c.in_ok-scoped.ensures) (subst (λ (os : List Operand). HasColumns program os xs (out probed xs)) (sym operands) (s.columns xs));
-      kinds = c.in_ok-told.ensures.kinds;
+      equations = c.in_ok-flat-2.ensures.equations ∙ es;
+      columns = λ xs.
+          subst (λ (l : List Operand). HasColumns p l xs) (sym whole)
+          (columns p operands c.args.scoped.lawful c.requires.widths lawful (subst (λ (l : List Instance). AreGiven p l operands) all c.in_ok-shown.ensures.given) xs);
+      kinds = subst (λ (l : List Instance). HaveKinds p l c.in_ok-shown.shown.kinds.items) all c.in_ok-shown.ensures.kinds;
     }

@@ -17,7 +17,7 @@ use Rattle.std.specs.Prelude.{Vec}
 use Rattle.std.specs.declared.alloc.Global.{Global}
 use Rattle.pr_lens_tracks.specs.declared.looks.Track.{Track}
 use Rattle.pr_lens_tracks.specs.Texts.{HasWritten, rows_text}
-use Rattle.pr_lens_signals.proofs.RowLemmas.{given-mean, put-less, put_broken, put_ended, put_faulted, put_more, put_nothing, row-appended, row-front, row-rest, rows_shown}
+use Rattle.pr_lens_signals.proofs.RowLemmas.{put-less, put_broken, put_ended, put_faulted, put_more, put_nothing, row-appended, row-front, row-rest, rows_shown}
 use Rattle.pr_lens_signals.proofs.rows.put_rows.Goals as goal
 
 pub samples-init : goal.samples-init
@@ -47,7 +47,7 @@ next-requires g c =
     omega (arith, c.samples.invariant.sample, scoped.inputs.ok.0, ap length scoped.declared, ap length (c.samples.invariant.file.widths ∙ c.requires.feed.inputs))
 
 pub next-requires-in-Sample-clause-widths : goal.next-requires-in-Sample-clause-widths
-next-requires-in-Sample-clause-widths g c = subst (λ (es : List EquationShape). AreWidths es c.args.showing.now.widths) (sym c.requires.ready.flat.equations) c.requires.ready.widths
+next-requires-in-Sample-clause-widths g c = subst (λ (es : List EquationShape). AreWidths es c.args.showing.now.widths) (sym c.requires.ready.equations) c.requires.ready.widths
 
 -- the sample is that of some file
 pub next-requires-in-Sample-clause-sample : goal.next-requires-in-Sample-clause-sample
@@ -60,7 +60,7 @@ next-requires-in-Sample-clause-sample g c =
     let seen = subst (λ (t : Told). (bytes : List ℕ) → IsSeen t bytes f → ReadsOn t bytes f f' (λ file. StandsFor f file → IsGiven f' (given_of f) c.next.new.into file)) c.samples.invariant.same c.in-Sample.ensures.seen in
     let inputs : widths_of f' ≡ input_widths equations =
     c.next.ensures.file.widths ∙ (c.samples.invariant.file.widths ∙ (c.requires.feed.inputs
-    ∙ (sym scoped.declared ∙ (inputs-scoped scoped ∙ (sym (inputs-of-equations scoped.program scoped.lawful) ∙ sym (ap input_widths c.requires.ready.flat.equations)))))) in
+    ∙ (sym scoped.declared ∙ (inputs-scoped scoped ∙ (sym (inputs-of-equations scoped.program scoped.lawful) ∙ sym (ap input_widths c.requires.ready.equations)))))) in
     lawful_next (g.S.Shelf.told c.args.shelf.now) (input_widths equations) c.args.work.now.feed f f' taken.samples c.next.new.into taken.reads seen inputs
 
 pub next-requires-in-Sample-clause-stands : goal.next-requires-in-Sample-clause-stands
@@ -122,8 +122,7 @@ returns-in_default-clause-ended g c = λ no_fault.
     let flat = showing.probed.flat in
     let same = same_later c.args.work.now.feed f f' c.samples.invariant.file c.next.ensures.file in
     let seen = subst (λ (t : Told). (bytes : List ℕ) → IsSeen t bytes f → ReadsOn t bytes f f' (λ file. StandsFor f file → Gives c.next.result (given_of f) f' c.next.new.into file)) c.samples.invariant.same c.next.ensures.seen in
-    let means = given-mean scoped flat showing.widths put.taken.samples _ c.requires.ready.flat c.requires.ready.widths put.taken.stands in
-    put_ended (g.S.Shelf.told c.args.shelf.now) scoped.program (shapes_of flat.equations.items) flat.outputs.items showing.widths (front_of showing) c.args.work.now.feed f c.samples.work.evaluator _ put means f' c.next.new.into c.next.result same
+    put_ended (g.S.Shelf.told c.args.shelf.now) showing c.args.work.now.feed f c.samples.work.evaluator _ put f' c.next.new.into c.next.result same
     c.next.ensures.given seen c.in_default.not-Sample no_fault
 
 pub returns-in_default-clause-begun : goal.returns-in_default-clause-begun
@@ -137,8 +136,7 @@ returns-in_default-clause-begun g c = λ fault.
     let scoped = showing.probed.scoped in
     let flat = showing.probed.flat in
     let seen = subst (λ (t : Told). (bytes : List ℕ) → IsSeen t bytes f → ReadsOn t bytes f f' (λ file. StandsFor f file → Gives c.next.result (given_of f) f' c.next.new.into file)) c.samples.invariant.same c.next.ensures.seen in
-    let means = given-mean scoped flat showing.widths put.taken.samples _ c.requires.ready.flat c.requires.ready.widths put.taken.stands in
-    put_faulted (g.S.Shelf.told c.args.shelf.now) scoped.program (shapes_of flat.equations.items) flat.outputs.items showing.widths (front_of showing) c.args.work.now.feed f c.samples.work.evaluator _ put means f' _ seen
+    put_faulted (g.S.Shelf.told c.args.shelf.now) showing c.args.work.now.feed f c.samples.work.evaluator _ put f' _ seen
 
 pub returns-in_default-clause-there : goal.returns-in_default-clause-there
 returns-in_default-clause-there g c = λ no_fault missing. no_fault (c.next.ensures.missing (rw (← c.samples.invariant.file.name, ← c.samples.invariant.same) at missing) (c.samples.invariant.there missing))
@@ -171,5 +169,4 @@ returns-in-Err-clause-cut g c =
     c.in-Sample.ensures.given seen (c.next-in-Sample.ensures.stands put.taken.samples put.taken.stands) (c.next-in-Sample.ensures.given put.taken.samples put.taken.stands)
     (λ h. row-front first.form pen.form first.tracks.items pen.tracks.items rows (drop front row) _ c.samples.invariant.form (ap (λ (v : Vec Track Global). v.items) c.samples.invariant.tracks) rest old
     (g.K.Sink.told c.samples.out) new h.0 (c.in-Err.ensures.front rows h.1)) in
-    let means = given-mean scoped flat showing.widths broken.taken.samples _ c.requires.ready.flat c.requires.ready.widths broken.taken.stands in
-    put_broken told scoped.program (shapes_of flat.equations.items) flat.outputs.items showing.widths (front_of showing) c.args.work.now.feed f' _ _ broken means
+    put_broken told showing c.args.work.now.feed f' _ _ broken

@@ -1,7 +1,0 @@
-use Rattle.pr_lens_probe.specs.Fresh.{probes_from}
-use Rattle.pr_lens_probe.proofs.Pushing.{pushed-all}
-use Rattle.pr_lens_probe.proofs.kinds.push_kinds.Goals as goal
-
-pub returns : goal.returns
-returns c =
-    pushed-all c.args.most c.loop-instance.instance-index c.args.instances.now c.args.items.items c.loop-instance.items.items (probes_from c.args.most 0 c.args.instances.now) c.loop-instance-test.false c.loop-instance.invariant.rest
