@@ -1,14 +1,16 @@
 //! The changes of signals.
 
-ghost use Rattle.std.specs.Prelude.{◌≡◌, ◌≤◌, ◌++◌, ℕ, List, IfOk, OnOk, Some, length, replicate, None, slice_get, unwrap_or};
-ghost use Rattle.pr_lens_log.specs.Boards.{after_turn};
-ghost use Rattle.pr_lens_log.specs.Windows.{part_in};
+ghost use Rattle.std.specs.Prelude.{◌≡◌, ◌≤◌, ◌++◌, [], ℕ, List, IfErr, IfOk, OnErr, OnOk, Some, replicate};
+ghost use Rattle.pr_edge.specs.Tape.{Appends, AppendsFront};
 ghost use Rattle.pr_lens_wave.specs.Waves.{twice_and};
-ghost use Rattle.pr_lens_wave.specs.Scenes.{bit_number, stripes_shown, cycle_shown, count_after, time_text, scene_of, after_cycle, after_cycles, cycles_text, passed_cycles};
+ghost use Rattle.pr_lens_wave.specs.Scenes.{after_cycle, after_cycles, bit_number, changes_text, cycle_shown, scene_of, start_scene, stripes_shown, time_text};
+ghost use Rattle.pr_lens_wave.specs.Writing.{IsWaveCause};
 
+use crate::faults::WaveFault;
 use crate::head::Signal;
 use crate::values::{put_bit_change, put_number_change};
-use pr_lens_log::{Board, Log, Logged, Part};
+use pr_edge::{Sink, write_all};
+use pr_lens_log::{Board, Logged, Past};
 use pr_lens_text::{put, put_counted};
 use std::alloc::{AllocError, Global};
 
@@ -86,23 +88,6 @@ fn bit_number(bit: bool) -> u64
     u64::from(bit)
 }
 
-/// How many samples entered, and how many results left.
-#[derive(Clone, Copy)]
-struct Counts {
-    entered: u64,
-    left: u64,
-}
-
-/// The count behind a cycle in which this sample entered, or this result left.
-fn counted(count: u64, number: Option<u64>) -> u64
-    ensures { result ≡ count_after count number }
-{
-    match number {
-        None => count,
-        Some(number) => number.saturating_add(1),
-    }
-}
-
 /// A stage as the value of a signal.
 fn stage_value(stage: Option<u32>) -> Option<u64>
     ensures { result ≡ stage }
@@ -142,20 +127,20 @@ fn show_cycle(
     text: &mut Vec<u8>,
     screen: &mut Screen,
     logged: &Logged,
-    counts: Counts,
+    past: &Past,
     written: u64,
 ) -> Result<(), AllocError>
     ensures { OnOk result (record { text = text.new.items; told = screen.new.values.items }
-        ≡ cycle_shown logged.now counts.entered counts.left written
+        ≡ cycle_shown logged.now past.now.entered past.now.left written
         (record { text = text.old.items; told = screen.old.values.items })) }
 {
     screen.show(alloc, text, Signal::Cycle, Some(logged.time))?;
     screen.show_bit(text, Signal::Stalled, !logged.turn.advanced)?;
     screen.show(alloc, text, Signal::Sample, logged.turn.entered)?;
     screen.show(alloc, text, Signal::Result, logged.turn.left)?;
-    let under_way = counts.entered.saturating_sub(counts.left);
+    let under_way = past.entered.saturating_sub(past.left);
     screen.show(alloc, text, Signal::UnderWay, Some(under_way))?;
-    let waiting = counts.left.saturating_sub(written);
+    let waiting = past.left.saturating_sub(written);
     screen.show(alloc, text, Signal::Waiting, Some(waiting))
 }
 
@@ -184,125 +169,120 @@ fn put_time(text: &mut Vec<u8>, number: usize) -> Result<(), AllocError>
 
 /// What tells the cycles of a waveform, one after the other.
 #[derive(Drop)]
-struct Teller {
+pub struct Teller {
     screen: Screen,
-    board: Board,
-    counts: Counts,
+    /// What the cycles so far left behind.
+    past: Past,
+    stripes: usize,
+    /// The text of a cycle.
+    text: Vec<u8>,
 }
 
-/// A teller for so many stripes, who told nothing yet.
-fn teller_of(alloc: Global, stripes: usize) -> Result<Teller, AllocError>
-    ensures screen { IfOk result (λ teller. teller.screen.values.items
-        ≡ replicate (twice_and stripes 6) (Some 18446744073709551615)) }
-    ensures board { IfOk result (λ teller. teller.board.stages.items ≡ replicate stripes None) }
-    ensures entered { IfOk result (λ teller. teller.counts.entered ≡ 0) }
-    ensures left { IfOk result (λ teller. teller.counts.left ≡ 0) }
-{
-    let screen = screen_of(alloc, stripes)?;
-    let board = Board::make(alloc, stripes)?;
-    let counts = Counts {
-        entered: 0,
-        left: 0,
-    };
-    Ok(Teller {
-        screen,
-        board,
-        counts,
-    })
-}
-
-/// A cycle goes by.
-fn pass(teller: &mut Teller, logged: &Logged)
-    ensures screen { teller.new.screen ≡ teller.old.screen }
-    ensures board { teller.new.board.stages.items
-        ≡ after_turn teller.old.board.stages.items logged.now.turn.configured }
-    ensures entered { teller.new.counts.entered ≡ count_after teller.old.counts.entered logged.now.turn.entered }
-    ensures left { teller.new.counts.left ≡ count_after teller.old.counts.left logged.now.turn.left }
-{
-    teller.board.step(&logged.turn);
-    teller.counts = Counts {
-        entered: counted(teller.counts.entered, logged.turn.entered),
-        left: counted(teller.counts.left, logged.turn.left),
-    };
-}
-
-/// These cycles go by, and nothing is told of them.
-fn pass_all(teller: &mut Teller, cycles: &[Logged])
-    ensures { (text : List ℕ) → scene_of text teller.new ≡ passed_cycles cycles.now (scene_of text teller.old) }
-{
-    for logged in cycles {
-        pass(teller, logged);
+impl Teller {
+    /// A teller who told nothing yet, on so many stripes, after cycles that left this behind.
+    pub fn make(alloc: Global, stripes: usize, past: Past) -> Result<Teller, AllocError>
+        ensures scene { (text : List ℕ) → IfOk result (λ t. scene_of text t ≡ start_scene stripes past text) }
+        ensures stripes { IfOk result (λ t. t.stripes ≡ stripes) }
+    {
+        Ok(Teller {
+            screen: screen_of(alloc, stripes)?,
+            past,
+            stripes,
+            text: Vec::new(alloc),
+        })
     }
 }
 
-/// Adds the changes of the cycle of this number.
+/// Adds the changes of the cycle of this number, before which so many results were written.
 #[tactic(auto, unfolding(crate::specs::Scenes::after_cycle))]
 fn put_cycle(
     alloc: Global,
-    text: &mut Vec<u8>,
     teller: &mut Teller,
-    log: &Log,
     number: usize,
+    written: usize,
     logged: &Logged,
 ) -> Result<(), AllocError>
-    ensures { OnOk result (scene_of text.new.items teller.new ≡ after_cycle log.now.stripes number logged.now
-        (unwrap_or (slice_get log.now.written.items number) 0) (scene_of text.old.items teller.old)) }
+    ensures cycle { OnOk result (scene_of teller.new.text.items teller.new
+        ≡ after_cycle teller.old.stripes number logged.now written (scene_of teller.old.text.items teller.old)) }
+    ensures stripes { teller.new.stripes ≡ teller.old.stripes }
 {
-    put_time(text, number)?;
-    pass(teller, logged);
-    let counts = teller.counts;
-    let written = log.written.get(number).copied().unwrap_or(0);
+    put_time(&mut teller.text, number)?;
+    teller.past.step(&logged.turn);
     show_stripes(
         alloc,
-        text,
+        &mut teller.text,
         &mut teller.screen,
-        &teller.board,
+        &teller.past.board,
         logged,
-        log.stripes,
+        teller.stripes,
     )?;
     show_cycle(
         alloc,
-        text,
+        &mut teller.text,
         &mut teller.screen,
         logged,
-        counts,
+        &teller.past,
         written as u64,
     )
 }
 
-/// Adds the changes of the cycles from a place on that stand before another.
-fn put_part(
+/// Writes the changes of the cycle of this number, before which so many results were written.
+fn write_cycle<K: Sink>(
     alloc: Global,
-    text: &mut Vec<u8>,
+    out: &mut K,
     teller: &mut Teller,
-    log: &Log,
-    part: Part,
-) -> Result<(), AllocError>
-    requires order { part.start ≤ part.end }
-    requires within { part.end ≤ length log.now.cycles.items }
-    ensures { OnOk result (scene_of text.new.items teller.new ≡ after_cycles log.now.stripes part.start
-        (part_in part log.now.cycles.items) log.now.written.items (scene_of text.old.items teller.old)) }
+    number: usize,
+    written: usize,
+    logged: &Logged,
+) -> Result<(), WaveFault>
+    ensures all { OnOk result (Appends (K.told out.old) (K.told out.new)
+        (changes_text teller.old.stripes number logged.now written (scene_of [] teller.old))) }
+    ensures front { OnErr result (AppendsFront (K.told out.old) (K.told out.new)
+        (changes_text teller.old.stripes number logged.now written (scene_of [] teller.old))) }
+    ensures scene { OnOk result (scene_of (changes_text teller.old.stripes number logged.now written (scene_of [] teller.old)) teller.new
+        ≡ after_cycle teller.old.stripes number logged.now written (scene_of [] teller.old)) }
+    ensures stripes { teller.new.stripes ≡ teller.old.stripes }
+    ensures cause { IfErr result (IsWaveCause (K.faults out.old) (K.faults out.new)) }
+    ensures later { K.faults out.old ≤ K.faults out.new }
 {
-    for (index, logged) in log.cycles[part.start..part.end].iter().enumerate() {
-        put_cycle(alloc, text, teller, log, part.start + index, logged)?;
+    teller.text.clear();
+    put_cycle(alloc, teller, number, written, logged)?;
+    write_all(out, &teller.text)?;
+    Ok(())
+}
+
+/// Writes the changes of these cycles, of which the first has this number, and before each of which so many results were written.
+pub fn write_cycles<K: Sink>(
+    alloc: Global,
+    out: &mut K,
+    teller: &mut Teller,
+    first: usize,
+    cycles: &[Logged],
+    written: &[usize],
+) -> Result<(), WaveFault>
+    ensures all { OnOk result (Appends (K.told out.old) (K.told out.new)
+        (after_cycles teller.old.stripes first cycles.now written.now (scene_of [] teller.old)).page.text) }
+    ensures front { OnErr result (AppendsFront (K.told out.old) (K.told out.new)
+        (after_cycles teller.old.stripes first cycles.now written.now (scene_of [] teller.old)).page.text) }
+    ensures cause { IfErr result (IsWaveCause (K.faults out.old) (K.faults out.new)) }
+    ensures later { K.faults out.old ≤ K.faults out.new }
+{
+    for index in 0..cycles.len().min(written.len()) {
+        let number = first.saturating_add(index);
+        write_cycle(alloc, out, teller, number, written[index], &cycles[index])?;
     }
     Ok(())
 }
 
-/// Adds the changes of these cycles, and the time at which the last of them ends.
-pub fn put_cycles(
-    alloc: Global,
-    text: &mut Vec<u8>,
-    log: &Log,
-    part: Part,
-) -> Result<(), AllocError>
-    requires order { part.start ≤ part.end }
-    requires within { part.end ≤ length log.now.cycles.items }
-    ensures { OnOk result (text.new.items
-        ≡ cycles_text part log.now.stripes log.now.cycles.items log.now.written.items text.old.items) }
+/// Writes the time at which the cycle of this number begins.
+pub fn write_time<K: Sink>(alloc: Global, out: &mut K, number: usize) -> Result<(), WaveFault>
+    ensures all { OnOk result (Appends (K.told out.old) (K.told out.new) (time_text number)) }
+    ensures front { OnErr result (AppendsFront (K.told out.old) (K.told out.new) (time_text number)) }
+    ensures cause { IfErr result (IsWaveCause (K.faults out.old) (K.faults out.new)) }
+    ensures later { K.faults out.old ≤ K.faults out.new }
 {
-    let mut teller = teller_of(alloc, log.stripes)?;
-    pass_all(&mut teller, &log.cycles[..part.start]);
-    put_part(alloc, text, &mut teller, log, part)?;
-    put_time(text, part.end)
+    let mut text = Vec::new(alloc);
+    put_time(&mut text, number)?;
+    write_all(out, &text)?;
+    Ok(())
 }

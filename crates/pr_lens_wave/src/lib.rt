@@ -2,8 +2,10 @@
 #![tactic(auto)]
 
 mod changes;
+mod faults;
 mod head;
 mod values;
 mod waves;
 
+pub use faults::WaveFault;
 pub use waves::wave;

@@ -1,11 +1,8 @@
 use Rattle.std.proofs.lemmas.Result.{IfOk-from_err}
-use Rattle.pr_lens_chart.proofs.charts.chart.Goals as goal
-
-pub returns-in_err-board : goal.returns-in_err-board
-returns-in_err-board c = IfOk-from_err _ _ c.from_residual.ensures.0
+use Rattle.pr_lens_chart.proofs.charts.picture.Goals as goal
 
 pub returns-in_err-put_head : goal.returns-in_err-put_head
-returns-in_err-put_head c = IfOk-from_err _ _ c.from_residual-in_err-put_head.ensures.0
+returns-in_err-put_head c = IfOk-from_err _ _ c.from_residual.ensures.0
 
 pub returns-in_err-put_names : goal.returns-in_err-put_names
 returns-in_err-put_names c = IfOk-from_err _ _ c.from_residual-in_err-put_names.ensures.0
