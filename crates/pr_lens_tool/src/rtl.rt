@@ -3,14 +3,26 @@
 ghost use Rattle.std.specs.Prelude.{◌≡◌, ◌≤◌, ◌⊎◌, length, IfOk, IfErr};
 ghost use Rattle.pr_tool_answers.specs.declared.answers.Answer.{Answer};
 ghost use Rattle.pr_tool_modes.specs.Programs.{IsUncompiled};
+ghost use Rattle.pr_lens_rtl_text.specs.Notes.{AreBare};
 ghost use Rattle.pr_lens_tool.specs.Modules.{IsModuleOrLong};
 
 use crate::compiling::compilation_of;
 use crate::outcomes::{Outcome, Output};
 use crate::programs::answer_of;
-use pr_lens_rtl_text::{NoText, rtl};
+use pr_lens_rtl_text::{NoText, Notes, rtl};
 use pr_tool::Answer;
 use std::alloc::Global;
+
+/// No comments.
+fn bare(alloc: Global) -> Notes
+    ensures { AreBare result }
+{
+    Notes {
+        labels: Vec::new(alloc),
+        columns: 0,
+        owners: Vec::new(alloc),
+    }
+}
 
 /// The module of a program, unless it is too long.
 #[tactic(auto, using(crate::proofs::ModuleLemmas::module_is, crate::proofs::ModuleLemmas::long_is))]
@@ -33,7 +45,8 @@ pub fn rtl_of<const N: usize, const P: usize>(
         Ok(made) => made,
         Err(fault) => return Err(answer_of(&fault)),
     };
-    match rtl::<N, P>(alloc, name, &made.front.scoped.program, &made.conf) {
+    let notes = bare(alloc);
+    match rtl::<N, P>(alloc, name, &made.front.scoped.program, &made.conf, &notes) {
         Ok(text) => Ok(Output {
             text,
             outcome: Outcome::Plain(Answer::Ok),
