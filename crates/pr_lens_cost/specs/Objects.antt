@@ -1,9 +1,11 @@
 -- A cost as an object in JSON, on a line.
-use Rattle.std.specs.Prelude.{ℕ, ◌≡◌, ◌==◌, Bool, true, false, List, [], ◌++◌, length, Option, Some, None, codes, decimal, if◌then◌else◌}
+use Rattle.std.specs.Prelude.{ℕ, ◌≡◌, ◌==◌, Bool, true, false, List, [], ◌++◌, length, Option, Some, None, codes, decimal, get_or, if◌then◌else◌}
 use Rattle.std.specs.List.{enumerate_from, flat_map}
 use Rattle.pr_base.specs.Fabrics.{columns}
 use Rattle.pr_base.specs.declared.fabrics.Fabric.{Fabric}
 use Rattle.pr_lens_tracks.specs.Tables.{index_text}
+use Rattle.pr_lens_origins.specs.declared.spots.Spot.{Spot}
+use Rattle.pr_lens_origins.specs.Origins.{first_spot}
 use Rattle.pr_lens_shares.specs.declared.shares.Share.{Share}
 use Rattle.pr_lens_cost.specs.declared.amounts.Cost.{Cost}
 use Rattle.pr_lens_cost.specs.declared.counts.StageCost.{StageCost}
@@ -50,13 +52,18 @@ other_way (Some other) = way_member other
 unfoldable pub fullest_member : ℕ → ℕ → List ℕ
 fullest_member number cells = member (codes ",\"fullest\":{\"stage\":") number ++ member (codes ",\"columns\":") cells ++ codes "}"
 
--- a stream by its name with its index. A name has no byte that is escaped in JSON
-unfoldable pub stream_object : ℕ × Share → List ℕ
-stream_object (number, share) =
-    comma number ++ codes "{\"stream\":\"" ++ share.name ++ index_text share.index ++ member (codes "\",\"units\":") share.units ++ codes "}"
+-- where a name stands: line, column, and the column behind it
+unfoldable pub spot_members : Spot → List ℕ
+spot_members spot = member (codes ",\"line\":") spot.line ++ member (codes ",\"column\":") spot.column ++ member (codes ",\"end_column\":") spot.end_column
 
-abbrev pub stream_objects : ℕ → List Share → List ℕ
-stream_objects number shares = flat_map stream_object (enumerate_from number shares)
+-- a stream by its name with its index. A name has no byte that is escaped in JSON
+unfoldable pub stream_object : List Spot → ℕ × Share → List ℕ
+stream_object spots (number, share) =
+    comma number ++ codes "{\"stream\":\"" ++ share.name ++ index_text share.index ++ codes "\"" ++ spot_members (get_or spots share.place first_spot)
+    ++ member (codes ",\"units\":") share.units ++ codes "}"
+
+abbrev pub stream_objects : List Spot → ℕ → List Share → List ℕ
+stream_objects spots number shares = flat_map (stream_object spots) (enumerate_from number shares)
 
 unfoldable pub stage_object : ℕ × StageCost → List ℕ
 stage_object (number, stage) =
@@ -78,7 +85,7 @@ run_objects number rows = flat_map run_object (enumerate_from number rows)
 -- ---- the whole object
 unfoldable pub lists_text : Cost → List ℕ
 lists_text cost =
-    codes ",\"streams\":[" ++ stream_objects 0 cost.shares.items ++ codes "],\"stages\":[" ++ stage_objects 0 cost.stages.items ++ codes "]"
+    codes ",\"streams\":[" ++ stream_objects cost.spots.items 0 cost.shares.items ++ codes "],\"stages\":[" ++ stage_objects 0 cost.stages.items ++ codes "]"
 
 -- the run of so many samples
 unfoldable pub run_text : ℕ → List Row → List ℕ

@@ -3,6 +3,7 @@
 ghost use Rattle.std.specs.Prelude.{◌≤◌, vec_len};
 
 use crate::counts::StageCost;
+use pr_lens_origins::Spot;
 use pr_lens_shares::Share;
 
 /// What a program costs.
@@ -12,6 +13,8 @@ pub struct Cost {
     pub units: usize,
     /// The streams for which most units are made.
     pub shares: Vec<Share>,
+    /// Where the name of each stream stands in the text, by their places.
+    pub spots: Vec<Spot>,
     pub stages: Vec<StageCost>,
     pub ghost few: { vec_len stages ≤ 32768 },
 }

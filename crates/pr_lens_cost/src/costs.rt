@@ -8,6 +8,7 @@ use crate::amounts::Cost;
 use crate::counts::stage_costs;
 use pr_compile::{CompileFault, compile_front};
 use pr_compile_front::read_program;
+use pr_lens_origins::spots_of;
 use pr_lens_shares::most_shares;
 use std::alloc::Global;
 
@@ -33,11 +34,13 @@ pub fn cost_of<const N: usize, const P: usize>(
     let compiled = compile_front::<N, P>(alloc, &front, narrowed)?;
     let stages = stage_costs(alloc, &compiled.conf.stages)?;
     let equations = front.flat.equations.len();
+    let spots = spots_of(alloc, text, &front.scoped.program)?;
     let shares = most_shares(alloc, front, narrowed, N, MOST_STREAMS)?;
     Ok(Cost {
         equations,
         units: compiled.units,
         shares,
+        spots,
         stages,
     })
 }

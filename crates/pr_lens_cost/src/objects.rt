@@ -1,13 +1,14 @@
 //! Costs as objects in JSON.
 
 ghost use Rattle.std.specs.Prelude.{◌≡◌, ◌≤◌, ◌^◌, ◌++◌, IfOk, OnOk};
-ghost use Rattle.pr_lens_cost.specs.Objects.{IsCostObject, IsToldAs, comma, fabric_name, fullest_member, lists_text, member, other_way, run_object, run_objects, run_text, setting_text, stage_object, stage_objects, stream_object, stream_objects, sums_text, truth, way_member};
+ghost use Rattle.pr_lens_cost.specs.Objects.{IsCostObject, IsToldAs, comma, fabric_name, fullest_member, lists_text, member, other_way, run_object, run_objects, run_text, setting_text, spot_members, stage_object, stage_objects, stream_object, stream_objects, sums_text, truth, way_member};
 
 use crate::amounts::Cost;
 use crate::counts::StageCost;
 use crate::cycles::{Row, rows_of};
 use crate::tables::{Savings, fullest, put_cost};
 use pr_base::Fabric;
+use pr_lens_origins::{Spot, spot_at};
 use pr_lens_shares::Share;
 use pr_lens_text::{put, put_counted};
 use pr_lens_tracks::put_index;
@@ -101,25 +102,42 @@ fn put_fullest(text: &mut Vec<u8>, number: usize, cells: usize) -> Result<(), Al
     put(text, "}")
 }
 
-/// Adds a stream with its units.
+/// Adds where a name stands.
+#[tactic(auto, unfolding(crate::specs::Objects::spot_members))]
+fn put_spot(text: &mut Vec<u8>, spot: Spot) -> Result<(), AllocError>
+    ensures { OnOk result (text.new.items ≡ text.old.items ++ spot_members spot) }
+{
+    put_member(text, ",\"line\":", spot.line)?;
+    put_member(text, ",\"column\":", spot.column)?;
+    put_member(text, ",\"end_column\":", spot.end_column)
+}
+
+/// Adds a stream with its units, and where its name stands.
 #[tactic(auto, unfolding(crate::specs::Objects::stream_object))]
-fn put_stream(text: &mut Vec<u8>, number: usize, share: &Share) -> Result<(), AllocError>
-    ensures { OnOk result (text.new.items ≡ text.old.items ++ stream_object (number, share.now)) }
+fn put_stream(
+    text: &mut Vec<u8>,
+    spots: &[Spot],
+    number: usize,
+    share: &Share,
+) -> Result<(), AllocError>
+    ensures { OnOk result (text.new.items ≡ text.old.items ++ stream_object spots.now (number, share.now)) }
 {
     put(text, comma(number))?;
     put(text, "{\"stream\":\"")?;
     text.extend_from_slice(share.name.as_bytes())?;
     put_index(text, share.index)?;
-    put_member(text, "\",\"units\":", share.units)?;
+    put(text, "\"")?;
+    put_spot(text, spot_at(spots, share.place))?;
+    put_member(text, ",\"units\":", share.units)?;
     put(text, "}")
 }
 
 /// Adds the streams that take most units.
-fn put_streams(text: &mut Vec<u8>, shares: &[Share]) -> Result<(), AllocError>
-    ensures { OnOk result (text.new.items ≡ text.old.items ++ stream_objects 0 shares.now) }
+fn put_streams(text: &mut Vec<u8>, spots: &[Spot], shares: &[Share]) -> Result<(), AllocError>
+    ensures { OnOk result (text.new.items ≡ text.old.items ++ stream_objects spots.now 0 shares.now) }
 {
     for (number, share) in shares.iter().enumerate() {
-        put_stream(text, number, share)?;
+        put_stream(text, spots, number, share)?;
     }
     Ok(())
 }
@@ -172,7 +190,7 @@ fn put_lists(text: &mut Vec<u8>, cost: &Cost) -> Result<(), AllocError>
     ensures { OnOk result (text.new.items ≡ text.old.items ++ lists_text cost.now) }
 {
     put(text, ",\"streams\":[")?;
-    put_streams(text, &cost.shares)?;
+    put_streams(text, &cost.spots, &cost.shares)?;
     put(text, "],\"stages\":[")?;
     put_stages(text, &cost.stages)?;
     put(text, "]")

@@ -1,9 +1,10 @@
 -- The text of the arrows of a graph.
-use Rattle.std.specs.Prelude.{ℕ, ◌==◌, Bool, false, not, List, ◌++◌, map, filter, codes, decimal}
-use Rattle.std.specs.List.{enumerate_from, flat_map}
+use Rattle.std.specs.Prelude.{ℕ, ◌==◌, Bool, false, not, List, ◌++◌, map, filter, Option, Some, None, codes, decimal}
+use Rattle.std.specs.List.{enumerate_from, flat_map, slice_get}
 use Rattle.pr_net.specs.declared.cells.Cell.{Cell}
 use Rattle.pr_net.specs.declared.cells.Wire.{Wire}
 use Rattle.pr_net.specs.Shape.{OutputShape, wire_of}
+use Rattle.pr_lens_graph.specs.declared.naming.Names.{Names}
 use Rattle.pr_lens_graph.specs.declared.wires.Reader.{Reader}
 use Rattle.pr_lens_graph.specs.Reads.{bytes_of, states_of, unit_wires}
 
@@ -47,14 +48,18 @@ unit_arrows unit = reads_text (Reader.Unit unit.0) (unit_wires unit.1)
 abbrev pub units_arrows : ℕ → List (List Cell) → List ℕ
 units_arrows number units = flat_map unit_arrows (enumerate_from number units)
 
--- the name of an output
-unfoldable pub output_name : ℕ → List ℕ
-output_name number = codes "  y" ++ decimal number ++ codes " [shape=plaintext, label=\"output " ++ decimal number ++ codes "\"];\n"
+-- the name of an output, and its number where names are not told
+abbrev pub output_label : ℕ → Option (List ℕ) → List ℕ
+output_label number None = decimal number
+output_label number (Some name) = name
+
+unfoldable pub output_name : Names → ℕ → List ℕ
+output_name names number = codes "  y" ++ decimal number ++ codes " [shape=plaintext, label=\"output " ++ output_label number (slice_get names.outputs.items number) ++ codes "\"];\n"
 
 -- an output with the arrows to it
-abbrev pub output_text : ℕ × OutputShape → List ℕ
-output_text output = output_name output.0 ++ reads_text (Reader.Output output.0) (map wire_of output.1.slices)
+abbrev pub output_text : Names → ℕ × OutputShape → List ℕ
+output_text names output = output_name names output.0 ++ reads_text (Reader.Output output.0) (map wire_of output.1.slices)
 
 -- outputs, of which the first has this number
-abbrev pub outputs_text : ℕ → List OutputShape → List ℕ
-outputs_text number outputs = flat_map output_text (enumerate_from number outputs)
+abbrev pub outputs_text : Names → ℕ → List OutputShape → List ℕ
+outputs_text names number outputs = flat_map (output_text names) (enumerate_from number outputs)

@@ -1,10 +1,13 @@
 -- The text of the stages of a graph, with the nodes of their units.
-use Rattle.std.specs.Prelude.{ℕ, ◌≡◌, ◌+◌, ◌<◌, ◌==◌, ◌&&◌, Bool, nat_lt, max, List, [], ◌∷◌, ◌++◌, fold, length, map, filter, codes, decimal, slice_index, slice_index_or, if◌then◌else◌}
+use Rattle.std.specs.Prelude.{ℕ, ◌≡◌, ◌+◌, ◌<◌, ◌==◌, ◌&&◌, Bool, nat_lt, max, List, [], ◌∷◌, ◌++◌, fold, length, map, filter, Option, Some, None, codes, decimal, slice_index, slice_index_or, if◌then◌else◌}
 use Rattle.std.specs.Global.{Vec}
 use Rattle.std.specs.List.{enumerate_from, flat_map, range_with_len}
 use Rattle.pr_base.specs.declared.choices.Mode.{Mode}
 use Rattle.pr_base.specs.declared.choices.Next.{Next}
 use Rattle.pr_net.specs.declared.cells.Cell.{Cell}
+use Rattle.pr_lens_origins.specs.declared.streams.Stream.{Stream}
+use Rattle.pr_lens_origins.specs.Origins.{stream_of, stream_text}
+use Rattle.pr_lens_graph.specs.declared.naming.Names.{Names}
 
 -- ---- a unit
 -- what a cell mainly does
@@ -24,11 +27,19 @@ work_of (cell ∷ cells) = work_by cell.next cell.mode
 abbrev pub cells_word : ℕ → List ℕ
 cells_word count = if count == 1 then codes " cell\"];\n" else codes " cells\"];\n"
 
+-- the line for the stream that a unit is made for, where it is told
+unfoldable pub stream_line : Stream → List ℕ
+stream_line stream = codes "\\n" ++ stream_text stream ++ codes ", line " ++ decimal stream.spot.line
+
+abbrev pub line_for : Option Stream → List ℕ
+line_for None = []
+line_for (Some stream) = stream_line stream
+
 -- the node of a unit of this number
-unfoldable pub node_text : ℕ → List Cell → List ℕ
-node_text number cells =
+unfoldable pub node_text : Names → ℕ → List Cell → List ℕ
+node_text names number cells =
     codes "    u" ++ decimal number ++ codes " [label=\"" ++ decimal number ++ codes " " ++ work_of cells
-    ++ codes "\\n" ++ decimal (length cells) ++ cells_word (length cells)
+    ++ line_for (stream_of names.origins number) ++ codes "\\n" ++ decimal (length cells) ++ cells_word (length cells)
 
 -- ---- a stage
 -- whether a unit has a stage, and it is this one
@@ -36,16 +47,16 @@ abbrev pub stands_in : List ℕ → ℕ → ℕ → Bool
 stands_in stages stage unit = nat_lt unit (length stages) && (slice_index stages unit == stage)
 
 -- the node of a unit, where it stands in a stage
-abbrev pub node_in : List ℕ → ℕ → List Cell → ℕ → List ℕ
-node_in stages number cells stage = if stands_in stages stage number then node_text number cells else []
+abbrev pub node_in : Names → List ℕ → ℕ → List Cell → ℕ → List ℕ
+node_in names stages number cells stage = if stands_in stages stage number then node_text names number cells else []
 
-abbrev pub node_of : ℕ × List Cell → List ℕ
-node_of unit = node_text unit.0 unit.1
+abbrev pub node_of : Names → ℕ × List Cell → List ℕ
+node_of names unit = node_text names unit.0 unit.1
 
 -- the nodes of those units that stand in a stage, in the order of units, of which the first has this number
-unfoldable pub nodes_from : ℕ → List (List Cell) → List ℕ → ℕ → List ℕ
-nodes_from number units stages stage =
-    flat_map node_of (filter (λ (unit : ℕ × List Cell). stands_in stages stage unit.0) (enumerate_from number units))
+unfoldable pub nodes_from : Names → ℕ → List (List Cell) → List ℕ → ℕ → List ℕ
+nodes_from names number units stages stage =
+    flat_map (node_of names) (filter (λ (unit : ℕ × List Cell). stands_in stages stage unit.0) (enumerate_from number units))
 
 -- a stage round its nodes
 unfoldable pub stage_text : ℕ → List ℕ → List ℕ
@@ -58,8 +69,8 @@ abbrev pub last_of : List ℕ → ℕ
 last_of stages = fold max 0 stages
 
 -- the nodes of each stage, from 0 to the last one
-abbrev pub nodes_by_stage : List (List Cell) → List ℕ → List (List ℕ)
-nodes_by_stage units stages = map (nodes_from 0 units stages) (range_with_len 0 (last_of stages + 1))
+abbrev pub nodes_by_stage : Names → List (List Cell) → List ℕ → List (List ℕ)
+nodes_by_stage names units stages = map (nodes_from names 0 units stages) (range_with_len 0 (last_of stages + 1))
 
 abbrev pub numbered_stage : ℕ × List ℕ → List ℕ
 numbered_stage stage = stage_text stage.0 stage.1

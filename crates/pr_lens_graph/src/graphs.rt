@@ -27,9 +27,15 @@ pub fn graph(alloc: Global, layout: &Layout) -> Result<Vec<u8>, AllocError>
 {
     let mut text = Vec::new(alloc);
     put_head(&mut text)?;
-    put_stages(alloc, &mut text, &layout.net.units, &layout.stages)?;
+    put_stages(
+        alloc,
+        &mut text,
+        &layout.names,
+        &layout.net.units,
+        &layout.stages,
+    )?;
     put_wires(alloc, &mut text, &layout.net.units)?;
-    put_outputs(alloc, &mut text, &layout.net.outputs)?;
+    put_outputs(alloc, &mut text, &layout.names, &layout.net.outputs)?;
     put(&mut text, "}\n")?;
     Ok(text)
 }

@@ -7,15 +7,17 @@ ghost use Rattle.pr_expand_spec.specs.Programs.{equations_of};
 ghost use Rattle.pr_cut_units.specs.Flats.{flat_net};
 ghost use Rattle.pr_compile_front.specs.Passed.{HasEquations};
 ghost use Rattle.pr_compile.specs.Refusals.{IsNetAnswer, IsFrontAnswer, IsCompileAnswer};
+ghost use Rattle.pr_place.specs.Placements.{shape_of};
 ghost use Rattle.pr_lens_graph.specs.Layouts.{IsLayout, IsLayoutBy, IsLaidOut, stage_of_home};
 
+use crate::naming::{Names, names_of};
 use pr_compile::CompileFault;
 use pr_compile_front::{Front, read_program};
 use pr_cut::cut;
 use pr_flat::Flat;
 use pr_narrow::narrow;
 use pr_net::Net;
-use pr_place::{Home, place};
+use pr_place::{Home, Placement, place};
 use pr_width::Widths;
 use std::alloc::{AllocError, Global};
 
@@ -23,6 +25,15 @@ use std::alloc::{AllocError, Global};
 #[derive(Drop)]
 pub struct Layout {
     pub net: Net,
+    pub stages: Vec<u32>,
+    pub names: Names,
+}
+
+/// Units with where they stand and their stages, before they have names.
+#[derive(Drop)]
+pub struct Placed {
+    pub net: Net,
+    pub placement: Placement,
     pub stages: Vec<u32>,
 }
 
@@ -42,34 +53,40 @@ fn laid_out<const N: usize, const P: usize>(
     alloc: Global,
     flat: &Flat,
     widths: &Widths,
-) -> Result<Layout, CompileFault>
+) -> Result<Placed, CompileFault>
     requires widths { AreWidths (shapes_of flat.now.equations.items) widths.now }
     requires columns { 1 ≤ N }
     requires most_columns { N ≤ 64 }
     requires registers { 2 ≤ P }
     requires most_registers { P ≤ 16 }
-    ensures layout { IfOk result (IsLaidOut N P (flat_net flat.now widths.now)) }
+    ensures layout { IfOk result (λ p.
+        IsLaidOut N P (flat_net flat.now widths.now) p.net (shape_of p.placement) p.stages.items) }
     ensures refused { IfErr result (IsNetAnswer N P (flat_net flat.now widths.now)) }
 {
     let net = cut(alloc, flat, widths, N)?;
     let placement = place::<N, P>(alloc, &net)?;
     let stages = stages_of(alloc, &placement.homes)?;
-    Ok(Layout { net, stages })
+    Ok(Placed {
+        net,
+        placement,
+        stages,
+    })
 }
 
 /// The units of a program, whose equations are narrowed where that is asked for, with their stages; else why it has none.
-fn layout_front<const N: usize, const P: usize>(
+pub fn layout_front<const N: usize, const P: usize>(
     alloc: Global,
     front: &Front,
     narrowed: bool,
-) -> Result<Layout, CompileFault>
+) -> Result<Placed, CompileFault>
     requires equations { HasEquations front.now.scoped.program front.now.flat }
     requires widths { AreWidths (equations_of front.now.scoped.program).equations front.now.widths }
     requires columns { 1 ≤ N }
     requires most_columns { N ≤ 64 }
     requires registers { 2 ≤ P }
     requires most_registers { P ≤ 16 }
-    ensures layout { IfOk result (IsLayoutBy N P narrowed front.now.scoped.program front.now.widths) }
+    ensures layout { IfOk result (λ p.
+        IsLayoutBy N P narrowed front.now.scoped.program front.now.widths p.net (shape_of p.placement) p.stages.items) }
     ensures refused { IfErr result (IsFrontAnswer N P narrowed front.now.scoped.program front.now.widths) }
 {
     if !narrowed {
@@ -80,7 +97,7 @@ fn layout_front<const N: usize, const P: usize>(
 }
 
 /// The units of the program of a text on N columns, with its equations narrowed where that is asked for, and their
-/// stages by the greedy rule with P registers; else why it has none, as the compiler answers.
+/// stages by the greedy rule with P registers, and their names; else why it has none, as the compiler answers.
 pub fn layout_of<const N: usize, const P: usize>(
     alloc: Global,
     text: &[u8],
@@ -95,6 +112,11 @@ pub fn layout_of<const N: usize, const P: usize>(
     ensures refused { IfErr result (IsCompileAnswer N P narrowed text.now) }
 {
     let front = read_program(alloc, text)?;
-    let layout = layout_front::<N, P>(alloc, &front, narrowed)?;
-    Ok(layout)
+    let Placed {
+        net,
+        placement: _,
+        stages,
+    } = layout_front::<N, P>(alloc, &front, narrowed)?;
+    let names = names_of(alloc, front, text, narrowed, N)?;
+    Ok(Layout { net, stages, names })
 }

@@ -1,9 +1,12 @@
 //! The stages with their units.
 
 ghost use Rattle.std.specs.Prelude.{◌≡◌, ◌+◌, ◌++◌, [], IfOk, OnOk, replicate};
-ghost use Rattle.pr_lens_graph.specs.Nodes.{Gain, cells_word, last_of, node_in, node_text, nodes_by_stage, nodes_from, stage_text, stages_with, texts_of, work_by, work_of};
+ghost use Rattle.pr_lens_origins.specs.Origins.{stream_of};
+ghost use Rattle.pr_lens_graph.specs.Nodes.{Gain, cells_word, last_of, line_for, node_in, node_text, nodes_by_stage, nodes_from, stage_text, stages_with, stream_line, texts_of, work_by, work_of};
 
+use crate::naming::Names;
 use pr_base::{Mode, Next};
+use pr_lens_origins::{Stream, put_stream};
 use pr_lens_text::{put, put_counted};
 use pr_net::{Cell, Unit};
 use std::alloc::{AllocError, Global};
@@ -43,15 +46,41 @@ fn cells_word(count: usize) -> &'static str
     }
 }
 
+/// Adds the line for the stream that a unit is made for.
+#[tactic(auto, unfolding(crate::specs::Nodes::stream_line))]
+fn put_stream_line(text: &mut Vec<u8>, stream: &Stream) -> Result<(), AllocError>
+    ensures { OnOk result (text.new.items ≡ text.old.items ++ stream_line stream.now) }
+{
+    put(text, "\\n")?;
+    put_stream(text, stream)?;
+    put_counted(text, ", line ", stream.spot.line)
+}
+
+/// The same, where the stream is told.
+fn put_origin(text: &mut Vec<u8>, names: &Names, number: usize) -> Result<(), AllocError>
+    ensures { OnOk result (text.new.items ≡ text.old.items ++ line_for (stream_of names.now.origins number)) }
+{
+    match names.origins.stream_of(number) {
+        None => Ok(()),
+        Some(stream) => put_stream_line(text, stream),
+    }
+}
+
 /// Adds the node of a unit.
 #[tactic(auto, unfolding(crate::specs::Nodes::node_text))]
-fn put_node(text: &mut Vec<u8>, number: usize, cells: &[Cell]) -> Result<(), AllocError>
-    ensures { OnOk result (text.new.items ≡ text.old.items ++ node_text number cells.now) }
+fn put_node(
+    text: &mut Vec<u8>,
+    names: &Names,
+    number: usize,
+    cells: &[Cell],
+) -> Result<(), AllocError>
+    ensures { OnOk result (text.new.items ≡ text.old.items ++ node_text names.now number cells.now) }
 {
     put_counted(text, "    u", number)?;
     put_counted(text, " [label=\"", number)?;
     put(text, " ")?;
     put(text, work(cells))?;
+    put_origin(text, names, number)?;
     put_counted(text, "\\n", cells.len())?;
     put(text, cells_word(cells.len()))
 }
@@ -82,37 +111,48 @@ fn empty_texts(alloc: Global, count: usize) -> Result<Vec<Vec<u8>>, AllocError>
 /// Adds the node of a unit to the text of its stage, where it has one.
 fn put_unit(
     texts: &mut [Vec<u8>],
+    names: &Names,
     number: usize,
     cells: &[Cell],
     stages: &[u32],
 ) -> Result<(), AllocError>
-    ensures { OnOk result (Gain (node_in stages.now number cells.now) texts.old texts.new) }
+    ensures { OnOk result (Gain (node_in names.now stages.now number cells.now) texts.old texts.new) }
 {
     if number < stages.len() {
         let stage = stages[number] as usize;
         if stage < texts.len() {
-            return put_node(&mut texts[stage], number, cells);
+            return put_node(&mut texts[stage], names, number, cells);
         }
     }
     Ok(())
 }
 
 /// Adds the nodes of units, each to the text of its stage.
-fn put_units(texts: &mut [Vec<u8>], units: &[Unit], stages: &[u32]) -> Result<(), AllocError>
-    ensures { OnOk result (Gain (nodes_from 0 units.now stages.now) texts.old texts.new) }
+fn put_units(
+    texts: &mut [Vec<u8>],
+    names: &Names,
+    units: &[Unit],
+    stages: &[u32],
+) -> Result<(), AllocError>
+    ensures { OnOk result (Gain (nodes_from names.now 0 units.now stages.now) texts.old texts.new) }
 {
     for (number, unit) in units.iter().enumerate() {
-        put_unit(texts, number, &unit.cells, stages)?;
+        put_unit(texts, names, number, &unit.cells, stages)?;
     }
     Ok(())
 }
 
 /// The nodes of each stage.
-fn nodes_of(alloc: Global, units: &[Unit], stages: &[u32]) -> Result<Vec<Vec<u8>>, AllocError>
-    ensures { IfOk result (λ nodes. texts_of nodes.items ≡ nodes_by_stage units.now stages.now) }
+fn nodes_of(
+    alloc: Global,
+    names: &Names,
+    units: &[Unit],
+    stages: &[u32],
+) -> Result<Vec<Vec<u8>>, AllocError>
+    ensures { IfOk result (λ nodes. texts_of nodes.items ≡ nodes_by_stage names.now units.now stages.now) }
 {
     let mut nodes = empty_texts(alloc, last_of(stages) as usize + 1)?;
-    put_units(&mut nodes, units, stages)?;
+    put_units(&mut nodes, names, units, stages)?;
     Ok(nodes)
 }
 
@@ -142,11 +182,12 @@ fn put_each(text: &mut Vec<u8>, nodes: &[Vec<u8>]) -> Result<(), AllocError>
 pub fn put_stages(
     alloc: Global,
     text: &mut Vec<u8>,
+    names: &Names,
     units: &[Unit],
     stages: &[u32],
 ) -> Result<(), AllocError>
-    ensures { OnOk result (text.new.items ≡ text.old.items ++ stages_with 0 (nodes_by_stage units.now stages.now)) }
+    ensures { OnOk result (text.new.items ≡ text.old.items ++ stages_with 0 (nodes_by_stage names.now units.now stages.now)) }
 {
-    let nodes = nodes_of(alloc, units, stages)?;
+    let nodes = nodes_of(alloc, names, units, stages)?;
     put_each(text, &nodes)
 }

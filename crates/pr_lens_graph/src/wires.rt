@@ -1,14 +1,16 @@
 //! The wires between units, and to outputs.
 
 ghost use Rattle.std.specs.Prelude.{◌≡◌, ◌++◌, ◌∷◌, [], List, ℕ, IfOk, OnOk, map, if◌then◌else◌};
+ghost use Rattle.std.specs.List.{slice_get};
 ghost use Rattle.pr_cut_units.specs.Groups.{cell_wires};
 ghost use Rattle.pr_net.specs.declared.cells.Wire.{Wire};
 ghost use Rattle.pr_net.specs.Shape.{wire_of};
 ghost use Rattle.pr_lens_graph.specs.declared.wires.Reader.TheVariants as reader;
 ghost use Rattle.pr_lens_graph.specs.Reads.{AreReads, firsts, unit_wires};
-ghost use Rattle.pr_lens_graph.specs.Arrows.{arrow_text, arrows_from, arrows_text, is_unit, output_name, output_text, outputs_text, reads_text, units_arrows};
+ghost use Rattle.pr_lens_graph.specs.Arrows.{arrow_text, arrows_from, arrows_text, is_unit, output_label, output_name, output_text, outputs_text, reads_text, units_arrows};
 
-use pr_lens_text::{put, put_counted};
+use crate::naming::Names;
+use pr_lens_text::{put, put_counted, put_number};
 use pr_net::{Cell, NetOutput, Slice, Unit, Wire, WireBit};
 use std::alloc::{AllocError, Global};
 
@@ -200,13 +202,25 @@ pub fn put_wires(alloc: Global, text: &mut Vec<u8>, units: &[Unit]) -> Result<()
     Ok(())
 }
 
-/// Adds the name of an output.
+/// Adds the name of an output, or its number where names are not told.
+fn put_label(text: &mut Vec<u8>, names: &Names, number: usize) -> Result<(), AllocError>
+    ensures { OnOk result (text.new.items
+        ≡ text.old.items ++ output_label number (slice_get names.now.outputs.items number)) }
+{
+    match names.outputs.get(number) {
+        None => put_number(text, number),
+        Some(name) => text.extend_from_slice(name.as_bytes()),
+    }
+}
+
+/// Adds the node of an output.
 #[tactic(auto, unfolding(crate::specs::Arrows::output_name))]
-fn put_name(text: &mut Vec<u8>, number: usize) -> Result<(), AllocError>
-    ensures { OnOk result (text.new.items ≡ text.old.items ++ output_name number) }
+fn put_name(text: &mut Vec<u8>, names: &Names, number: usize) -> Result<(), AllocError>
+    ensures { OnOk result (text.new.items ≡ text.old.items ++ output_name names.now number) }
 {
     put_counted(text, "  y", number)?;
-    put_counted(text, " [shape=plaintext, label=\"output ", number)?;
+    put(text, " [shape=plaintext, label=\"output ")?;
+    put_label(text, names, number)?;
     put(text, "\"];\n")
 }
 
@@ -214,12 +228,13 @@ fn put_name(text: &mut Vec<u8>, number: usize) -> Result<(), AllocError>
 fn put_output(
     alloc: Global,
     text: &mut Vec<u8>,
+    names: &Names,
     number: usize,
     output: &NetOutput,
 ) -> Result<(), AllocError>
-    ensures { OnOk result (text.new.items ≡ text.old.items ++ output_text (number, output.now)) }
+    ensures { OnOk result (text.new.items ≡ text.old.items ++ output_text names.now (number, output.now)) }
 {
-    put_name(text, number)?;
+    put_name(text, names, number)?;
     let reads = reads_of_slices(alloc, &output.slices)?;
     put_reads(text, &reads, Reader::Output(number))
 }
@@ -228,12 +243,13 @@ fn put_output(
 pub fn put_outputs(
     alloc: Global,
     text: &mut Vec<u8>,
+    names: &Names,
     outputs: &[NetOutput],
 ) -> Result<(), AllocError>
-    ensures { OnOk result (text.new.items ≡ text.old.items ++ outputs_text 0 outputs.now) }
+    ensures { OnOk result (text.new.items ≡ text.old.items ++ outputs_text names.now 0 outputs.now) }
 {
     for (number, output) in outputs.iter().enumerate() {
-        put_output(alloc, text, number, output)?;
+        put_output(alloc, text, names, number, output)?;
     }
     Ok(())
 }

@@ -4,11 +4,11 @@ use Rattle.pr_flat.specs.declared.equations.Operand.{Operand}
 use Rattle.pr_flat.specs.declared.equations.Operand.TheVariants.{Const, Eq, Past}
 use Rattle.pr_cut_units.specs.Equations.{Plan, first_unit}
 
--- how many equations there are up to that of an operand
+-- how many equations there are up to that of an operand, which is a recurrence's where its past is read
 abbrev pub equations_to : Operand → ℕ
 equations_to (Const number) = 0
 equations_to (Eq equation) = equation + 1
-equations_to (Past rec k) = 0
+equations_to (Past rec k) = rec + 1
 
 -- The units for each stream, where so many equations were made for those before it. Its equations are those behind them, up to its
 -- own: the equations of an expression stand before that of the stream, and behind those of all that the text has before it.

@@ -18,14 +18,14 @@ use pr_lens_fits::first_unit;
 use pr_width::Widths;
 use std::alloc::{AllocError, Global};
 
-/// How many equations there are up to that of an operand.
+/// How many equations there are up to that of an operand, which is a recurrence's where its past is read.
 fn equations_to(operand: Operand) -> usize
     ensures { result ≡ equations_to operand }
 {
     match operand {
         Operand::Const(_) => 0,
         Operand::Eq(equation) => equation as usize + 1,
-        Operand::Past { rec: _, k: _ } => 0,
+        Operand::Past { rec, k: _ } => rec as usize + 1,
     }
 }
 

@@ -6,7 +6,10 @@
 #![tactic(auto)]
 
 mod counts;
+mod owners;
 mod ranks;
 mod shares;
+mod tallies;
 
 pub use shares::{Share, most_shares};
+pub use tallies::{ShareFault, Tally, tally_of, untold};

@@ -37,6 +37,15 @@ $ pipelens graph p
 = 0
 ...  u1 -> u2;
 ...
+$ pipelens graph p
+= 0
+...    u0 [label=\"0 ...\\nx, line 1\\n1 cell\"];
+...    u1 [label=\"1 ...\\na, line 2\\n1 cell\"];
+    u2 [label=\"2 adds\\na, line 2\\n1 cell\"];
+...    u3 [label=\"3 ...\\ny, line 3\\n1 cell\"];
+...  y0 [shape=plaintext, label=\"output y\"];
+  u3 -> y0;
+}
 $ pipelens graph nowhere
 = 3
 ...
@@ -75,6 +84,28 @@ fn streams_by_units(rt: HostRuntime) -> Result<(), AllocError> {
     check_calls(&rt, rt.alloc(), "", STREAMS)
 }
 
+/// Names in functions, in a nested loop without turns, and in two loops with one name; an output that is a recurrence's past.
+const ORIGINS: &str = "\
+$ pipelens graph p
+input x:8;
+fn low(v) { let t = v & 15; return t; }
+for i in 0..2 { for j in 2..2 { let s[j] = x; } let s[i] = low(x) ^ i; let r[i] = s[i] | 64; }
+for i in 2..3 { let s[i] = r[0] & r[1]; } output y = s[2];
+= 0
+...s[0], line 3...r[0], line 3...s[1], line 3...r[1], line 3...s[2], line 4...
+$ pipelens cost p --json
+input x:8;
+fn count(v) { rec c:8 = 0 by c@1 + v; return c@1; }
+let a = count(x); output z = a ^ x; output y = a;
+= 0
+{...\"streams\":[{\"stream\":\"a\",\"line\":3,\"column\":5,\"end_column\":6,...\"stream\":\"z\",...
+";
+
+#[test]
+fn origins_of_units(rt: HostRuntime) -> Result<(), AllocError> {
+    check_calls(&rt, rt.alloc(), "", ORIGINS)
+}
+
 /// Costs as JSON: two inputs of a byte stand in the first stage, and what joins them in the second.
 const OBJECTS: &str = "\
 $ pipelens cost p --json --samples 10
@@ -84,7 +115,7 @@ output y = a ^ b;
 = 0
 {\"fabric\":\"base\",\"narrowed\":false,\"columns\":16,\"equations\":3,\"units\":3,\
 \"other_way\":{\"narrowed\":true,\"units\":3,\"stages\":2},\"fullest\":{\"stage\":0,\"columns\":2},\
-\"streams\":[{\"stream\":\"y\",\"units\":1}],\
+\"streams\":[{\"stream\":\"y\",\"line\":3,\"column\":8,\"end_column\":9,\"units\":1}],\
 \"stages\":[{\"columns\":2,\"registers\":2,\"states\":0},{\"columns\":1,\"registers\":1,\"states\":0}],\
 \"samples\":10,\"runs\":[{\"stripes\":2,\"rate\":{\"samples\":1,\"cycles\":1},\"cycles\":12},\
 {\"stripes\":3,\"rate\":{\"samples\":1,\"cycles\":1},\"cycles\":12},\
@@ -101,7 +132,7 @@ $ pipelens cost p --json --fabric wide --narrow
 {\"fabric\":\"wide\",\"narrowed\":true,\"columns\":32,...\"other_way\":{\"narrowed\":false,\"units\":4,\"stages\":4}...
 $ pipelens cost p --json
 = 0
-{\"fabric\":\"base\",...\"streams\":[{\"stream\":\"a\",\"units\":2},{\"stream\":\"y\",\"units\":1}],\"stages\":[...
+{\"fabric\":\"base\",...\"streams\":[{\"stream\":\"a\",\"line\":2,\"column\":5,\"end_column\":6,\"units\":2},{\"stream\":\"y\",\"line\":3,\"column\":8,\"end_column\":9,\"units\":1}],\"stages\":[...
 $ pipelens cost p --json
 = 0
 {...,\"runs\":[{\"stripes\":2,\"rate\":{\"samples\":1,\"cycles\":4},\"cycles\":4001},{\"stripes\":3,...
@@ -111,7 +142,7 @@ let s[0] = x;
 for i in 1..2 { let s[i] = s[i-1] ^ x; }
 output y = s[1];
 = 0
-{...,\"streams\":[{\"stream\":\"s[1]\",\"units\":1}],\"stages\":[...
+{...,\"streams\":[{\"stream\":\"s[1]\",\"line\":3,\"column\":21,\"end_column\":22,\"units\":1}],\"stages\":[...
 $ pipelens cost p --json --narrow
 input x:64;
 rec s:64 = 1 by (s@1 ^ x) & s@1;

@@ -8,6 +8,7 @@ ghost use Rattle.pr_lens_tool.specs.Modules.{IsModuleOrLong};
 use crate::compiling::compilation_of;
 use crate::outcomes::{Outcome, Output};
 use crate::programs::answer_of;
+use pr_lens_notes::notes_of;
 use pr_lens_rtl_text::{NoText, rtl};
 use pr_tool::Answer;
 use std::alloc::Global;
@@ -33,7 +34,11 @@ pub fn rtl_of<const N: usize, const P: usize>(
         Ok(made) => made,
         Err(fault) => return Err(answer_of(&fault)),
     };
-    match rtl::<N, P>(alloc, name, &made.front.scoped.program, &made.conf) {
+    let notes = match notes_of::<N, P>(alloc, text, narrowed) {
+        Ok(notes) => notes,
+        Err(fault) => return Err(answer_of(&fault)),
+    };
+    match rtl::<N, P>(alloc, name, &made.front.scoped.program, &made.conf, &notes) {
         Ok(text) => Ok(Output {
             text,
             outcome: Outcome::Plain(Answer::Ok),

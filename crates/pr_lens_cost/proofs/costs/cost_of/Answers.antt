@@ -33,4 +33,4 @@ returns-in_err-compiled-clause-refused g c =
 pub returns-clause-cost : goal.returns-clause-cost
 returns-clause-cost g c =
     let compiled = c.in_ok-compiled.compiled in
-    cost_is g.row.N g.row.P c.args.narrowed c.args.text.now c.in_ok-front.front compiled.conf c.deref.result.now _ c.in_ok-front.ensures.passed c.in_ok-compiled.ensures.configured c.in_ok-compiled.ensures.units (search rules) c.in_ok-shares.ensures c.deref.ensures.value c.in_ok-stages.ensures
+    cost_is g.row.N g.row.P c.args.narrowed c.args.text.now c.in_ok-front.front compiled.conf c.deref.result.now _ c.in_ok-front.ensures.passed c.in_ok-compiled.ensures.configured c.in_ok-compiled.ensures.units (search rules) c.in_ok-shares.ensures c.in_ok-spots.ensures c.deref.ensures.value c.in_ok-stages.ensures

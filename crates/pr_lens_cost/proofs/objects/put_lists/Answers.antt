@@ -8,5 +8,5 @@ pub returns : goal.returns
 unfolding lists_text
 returns c =
     let cost = c.args.cost.now in
-    on_ok_weaker c.put-3.result (λ h. five_put c.args.text.now.items (codes ",\"streams\":[") (stream_objects 0 cost.shares.items) (codes "],\"stages\":[") (stage_objects 0 cost.stages.items) (codes "]")
+    on_ok_weaker c.put-3.result (λ h. five_put c.args.text.now.items (codes ",\"streams\":[") (stream_objects cost.spots.items 0 cost.shares.items) (codes "],\"stages\":[") (stage_objects 0 cost.stages.items) (codes "]")
     c.in_ok-put.ensures (rw c.deref.ensures.value at c.in_ok-put_streams.ensures) c.in_ok-put-2.ensures (rw c.deref-2.ensures.value at c.in_ok-put_stages.ensures) h) c.put-3.ensures

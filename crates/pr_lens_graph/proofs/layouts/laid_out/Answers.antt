@@ -14,4 +14,4 @@ returns-in_err-net-clause-refused g c =
 
 pub returns-clause-layout : goal.returns-clause-layout
 returns-clause-layout g c =
-    laid_out_is g.row.N g.row.P _ _ c.in_ok-placement.placement c.deref.result.now c.in_ok-net.ensures.net c.in_ok-net.ensures.within c.in_ok-placement.ensures.greedy c.deref.ensures.value c.in_ok-stages.ensures
+    laid_out_is g.row.N g.row.P _ _ _ c.in_ok-placement.placement c.deref.result.now c.in_ok-net.ensures.net c.in_ok-net.ensures.within c.in_ok-placement.ensures.greedy c.deref.ensures.value c.in_ok-stages.ensures

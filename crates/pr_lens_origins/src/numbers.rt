@@ -1,0 +1,131 @@
+//! For each instance of a program the number of its name.
+
+ghost use Rattle.std.specs.Prelude.{◌≡◌, ◌<◌, ◌++◌, ◌^◌, IfOk, None, OnOk, map, vec_len};
+ghost use Rattle.pr_scope_names.specs.declared.names.Static.TheVariants as static;
+ghost use Rattle.pr_scope_names.specs.Names.{IsOutside, known_in};
+ghost use Rattle.pr_scope.specs.Walk.{offence};
+ghost use Rattle.pr_lang_meaning.specs.Programs.{function_at};
+ghost use Rattle.pr_expand_spec.specs.Making.{constant};
+ghost use Rattle.pr_probe.specs.Instances.{IsFree, known_after};
+ghost use Rattle.pr_lens_origins.specs.Numbers.{item_numbers, item_size, numbers_of};
+
+use crate::walks::{later, number_stmt, size_of, sizes_of, value_of, with_number};
+use pr_lang::{Fixed, Item, Param, Program};
+use pr_scope_names::{Callee, Static, Statics, Table};
+use std::alloc::{AllocError, Global};
+
+/// The entries of a table.
+fn entries_of(alloc: Global, statics: &Statics, values: &[Fixed]) -> Result<Vec<u64>, AllocError>
+    ensures { IfOk result (λ v. v.items ≡ map (λ f. constant f (known_in statics.now)) values.now) }
+{
+    let mut entries = Vec::new(alloc);
+    for value in values {
+        entries.push(value_of(statics, value))?;
+    }
+    Ok(entries)
+}
+
+/// What callers see of a function of so many parameters.
+fn callee(number: u32, params: &[Param]) -> Callee
+    ensures { static.Function result ≡ function_at number params.now }
+{
+    Callee {
+        item: Some(number),
+        params: params.len(),
+        turns: 0,
+        depth: 0,
+        past: false,
+    }
+}
+
+/// How many names of streams an item has.
+fn item_size(item: &Item) -> usize
+    ensures { result ≡ item_size item.now }
+{
+    match item {
+        Item::Input { name: _, width: _ } => 1,
+        Item::Output {
+            name: _,
+            width: _,
+            value: _,
+        } => 1,
+        Item::Const { name: _, value: _ } => 0,
+        Item::Table { name: _, values: _ } => 0,
+        Item::Function {
+            name: _,
+            params: _,
+            width: _,
+            body,
+            result: _,
+        } => sizes_of(body),
+        Item::Step(stmt) => size_of(stmt),
+    }
+}
+
+/// Adds the numbers of an item, the first name of which has this one.
+fn number_item(
+    alloc: Global,
+    statics: &mut Statics,
+    listed: Vec<usize>,
+    at: usize,
+    number: u32,
+    item: &Item,
+) -> Result<Vec<usize>, AllocError>
+    requires outside { IsOutside statics.old }
+    requires free { IsFree item.now (known_in statics.old) }
+    ensures value { IfOk result (λ v. v.items ≡ listed.items ++ item_numbers item.now at (known_in statics.old)) }
+    ensures known { OnOk result (known_in statics.new ≡ known_after number item.now (known_in statics.old)) }
+    ensures outside { OnOk result (IsOutside statics.new) }
+{
+    match item {
+        Item::Input { name: _, width: _ } => with_number(listed, at),
+        Item::Output {
+            name: _,
+            width: _,
+            value: _,
+        } => with_number(listed, at),
+        Item::Const { name, value } => {
+            let amount = value_of(statics, value);
+            statics.set(alloc, name, number, Static::Constant(amount))?;
+            Ok(listed)
+        }
+        Item::Table { name, values } => {
+            let entries = entries_of(alloc, statics, values)?;
+            statics.set(alloc, name, number, Static::Table(Table::new(entries)))?;
+            Ok(listed)
+        }
+        Item::Function {
+            name,
+            params,
+            width: _,
+            body: _,
+            result: _,
+        } => {
+            let what = Static::Function(callee(number, params));
+            statics.set(alloc, name, number, what)?;
+            Ok(listed)
+        }
+        Item::Step(stmt) => {
+            let more = number_stmt(alloc, statics, listed, at, stmt)?;
+            Ok(more)
+        }
+    }
+}
+
+/// For each stream instance of a program that keeps the rules of scope the number of its name.
+pub fn instance_numbers(alloc: Global, program: &Program) -> Result<Vec<usize>, AllocError>
+    requires kept { offence program.now ≡ None }
+    requires few { vec_len program.now.items < 2 ^ 32 }
+    ensures { IfOk result (λ v. v.items ≡ numbers_of program.now) }
+{
+    let mut statics = Statics::new(alloc)?;
+    let mut listed = Vec::new(alloc);
+    let mut number = 0;
+    let mut at = 0;
+    for item in &program.items {
+        listed = number_item(alloc, &mut statics, listed, at, number, item)?;
+        at = later(at, item_size(item));
+        number += 1;
+    }
+    Ok(listed)
+}
