@@ -9,4 +9,4 @@ mod counts;
 mod ranks;
 mod shares;
 
-pub use shares::{Share, most_shares};
+pub use shares::{Share, most_shares, shown_operands};

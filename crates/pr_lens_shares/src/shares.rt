@@ -107,7 +107,7 @@ fn shares_at(
 }
 
 /// What the last outputs give of a program that shows its instances: one for each.
-fn shown_operands(probed: &Probed) -> &[Operand]
+pub fn shown_operands(probed: &Probed) -> &[Operand]
     ensures { result.now ≡ shown_operands probed.now }
 {
     let first = probed

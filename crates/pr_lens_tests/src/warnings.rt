@@ -374,6 +374,118 @@ fn open_comparisons(rt: HostRuntime) -> Result<(), AllocError> {
     check_calls(&rt, rt.alloc(), "", OPEN)
 }
 
+/// Delay lines that are longer than what reads them.
+const DELAYS: &str = "\
+$ pipelens why p
+input x:8;
+let d[0] = x;
+for i in 1..9 { let d[i] = d[i-1]@1; }
+output y = d[0] + d[1] + d[2] + d[3];
+= 0
+accepted
+p:3:21: warning: long-delay
+  3 | for i in 1..9 { let d[i] = d[i-1]@1; }
+    |                     ^
+No output needs `d` with the indices 4 to 8: the delay line is longer than what reads it.
+Let it end before, or see whether what reads it should read on.
+$ pipelens why p
+input x:8;
+let d[0]:6 = x;
+for i in 1..4 { let d[i]:6 = d[i-1]@1; }
+output y = d[0] + d[2];
+= 0
+accepted
+p:3:21: warning: long-delay
+...No output needs `d` with the index 3: the delay line is longer than what reads it.
+...
+$ pipelens why p
+input x:8;
+let a[0] = x;
+let b[0] = x;
+for i in 1..5 { let a[i] = a[i-1]@1; let b[i] = b[i-1]@2; }
+output y = a[4] + b[1];
+= 0
+accepted
+p:4:42: warning: long-delay
+...No output needs `b` with the indices 3 to 4: ...
+$ pipelens why p
+input x:8;
+let d[1] = x@1;
+let d[2] = x@2;
+let d[3] = x@3;
+output y = d[1] + x;
+= 0
+accepted
+p:4:5: warning: long-delay
+...with the indices 2 to 3: ...
+$ pipelens why p
+input x:8;
+let d[0] = x;
+let d[1] = d[0]@1;
+fn f(a) { let d = a + 1; return d; }
+output y = f(d[0]);
+= 0
+accepted
+p:3:5: warning: long-delay
+...with the index 1: ...
+$ pipelens why p
+input x:8;
+let d[0] = x;
+for i in 1..3 { let d[i] = d[i-1]@1; }
+output y = x;
+= 0
+accepted
+p:2:5: warning: unneeded
+  2 | let d[0] = x;
+    |     ^
+No result needs `d`: neither an output nor what a function returns is made of it.
+Take it out, or see whether it should stand in the place of another name.
+p:3:21: warning: unneeded
+...
+";
+
+/// Delay lines that are read to their ends, and ends of other lines.
+const READ: &str = "\
+$ pipelens why p
+input x:8;
+let d[0] = x;
+for i in 1..9 { let d[i] = d[i-1]@1; }
+output y = d[0] + d[8];
+= 0
+accepted
+$ pipelens why p
+input x:8;
+let d[0] = x;
+for i in 1..9 { let d[i] = d[i-1]@1; }
+output y = d[3];
+output z = x@8;
+= 0
+accepted
+$ pipelens why p
+input x:8;
+let c[0] = x{0..0};
+for i in 0..8 { let c[i+1] = c[i] ^ x{i..i}; }
+output y = c[7];
+= 0
+accepted
+$ pipelens why p
+input x:8;
+fn f(a) { let d[0] = a; for i in 1..9 { let d[i] = d[i-1]@1; } return d[3]; }
+output y = f(x);
+= 0
+accepted
+";
+
+#[test]
+fn long_delays(rt: HostRuntime) -> Result<(), AllocError> {
+    check_calls(&rt, rt.alloc(), "", DELAYS)
+}
+
+#[test]
+fn delays_that_are_read(rt: HostRuntime) -> Result<(), AllocError> {
+    check_calls(&rt, rt.alloc(), "", READ)
+}
+
 /// Warnings that are left out, and warnings as JSON.
 const FORMS: &str = "\
 $ pipelens why p --no-warnings

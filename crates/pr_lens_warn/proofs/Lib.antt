@@ -1,4 +1,5 @@
 mod NeedLemmas
+mod LineLemmas
 mod WarningLemmas
 mod FindingLemmas
 mod TextLemmas

@@ -9,6 +9,8 @@ use Rattle.pr_lens_source.specs.declared.sources.Span.{Span}
 use Rattle.pr_lens_source.specs.Items.{AreItems}
 use Rattle.pr_lens_source.specs.Tokens.{start_of, end_of}
 use Rattle.pr_lens_extents.specs.declared.verdicts.Verdict.{Verdict}
+use Rattle.pr_lens_waste.specs.Lines.{Tails}
+use Rattle.pr_lens_waste.specs.Programs.{AreLines}
 use Rattle.pr_lens_warn.specs.declared.remarks.Warning.{Warning}
 use Rattle.pr_lens_warn.specs.Comparisons.{AreVerdicts}
 use Rattle.pr_lens_warn.specs.Texts.{code_of, heading_of, message_of}
@@ -46,6 +48,8 @@ pub record WarnsOf (json : Bool) (name text old new : List ℕ) : Type 0 where
   pub items : AreItems (tokens_of text) 0 spans
   pub verdicts : List Verdict
   pub judged : AreVerdicts text verdicts
+  pub tails : Tails
+  pub lines : AreLines text tails
   pub warnings : List Warning
-  pub are : AreWarnings text (tokens_of text) spans verdicts warnings
+  pub are : AreWarnings text (tokens_of text) spans verdicts tails warnings
   pub told : AreTold json name text (tokens_of text) warnings old new

@@ -1,6 +1,7 @@
 pub mod Kinds
 pub mod Constants
 pub mod Needs
+pub mod Lines
 pub mod Comparisons
 pub mod Shifts
 pub mod Warnings

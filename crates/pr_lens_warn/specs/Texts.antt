@@ -1,11 +1,11 @@
 -- What is told of a remark.
-use Rattle.std.specs.Prelude.{ℕ, Bool, true, false, List, Option, None, Some, ◌++◌, codes, decimal}
+use Rattle.std.specs.Prelude.{ℕ, ◌==◌, Bool, true, false, List, Option, None, Some, ◌++◌, codes, decimal, if◌then◌else◌}
 use Rattle.pr_lang.specs.declared.tokens.Token.{Token}
 use Rattle.pr_flat.specs.declared.forms.Form.{Form}
 use Rattle.pr_lens_extents.specs.declared.extents.Extent.{Extent}
 use Rattle.pr_lens_rules.specs.Pieces.{token_text}
 use Rattle.pr_lens_warn.specs.declared.remarks.Remark.{Remark}
-use Rattle.pr_lens_warn.specs.declared.remarks.Remark.TheVariants.{Negative, Wrapping, Unneeded, Amount, Settled}
+use Rattle.pr_lens_warn.specs.declared.remarks.Remark.TheVariants.{Negative, Wrapping, Unneeded, Long, Amount, Settled}
 use Rattle.pr_lens_warn.specs.declared.remarks.Warning.{Warning}
 
 -- a short word for the kind of a remark, which never changes
@@ -13,6 +13,7 @@ abbrev pub code_of : Remark → List ℕ
 code_of (Negative value width below) = codes "signed-constant"
 code_of (Wrapping by width left) = codes "wrapping-difference"
 code_of Unneeded = codes "unneeded"
+code_of (Long first last) = codes "long-delay"
 code_of (Amount number) = codes "constant-shift"
 code_of (Settled answer left right) = codes "constant-comparison"
 
@@ -20,6 +21,7 @@ abbrev pub heading_of : Remark → List ℕ
 heading_of (Negative value width below) = codes "warning: signed-constant\n"
 heading_of (Wrapping by width left) = codes "warning: wrapping-difference\n"
 heading_of Unneeded = codes "warning: unneeded\n"
+heading_of (Long first last) = codes "warning: long-delay\n"
 heading_of (Amount number) = codes "warning: constant-shift\n"
 heading_of (Settled answer left right) = codes "warning: constant-comparison\n"
 
@@ -46,6 +48,16 @@ unfoldable pub unneeded_text : List ℕ → List Token → ℕ → List ℕ
 unneeded_text text tokens token =
     codes "No result needs " ++ token_text text tokens token
     ++ codes ": neither an output nor what a function returns is made of it.\nTake it out, or see whether it should stand in the place of another name.\n"
+
+abbrev pub indices_text : ℕ → ℕ → List ℕ
+indices_text first last =
+    if first == last then codes " with the index " ++ decimal first
+    else codes " with the indices " ++ decimal first ++ codes " to " ++ decimal last
+
+unfoldable pub long_text : List ℕ → List Token → ℕ → ℕ → ℕ → List ℕ
+long_text text tokens token first last =
+    codes "No output needs " ++ token_text text tokens token ++ indices_text first last
+    ++ codes ": the delay line is longer than what reads it.\nLet it end before, or see whether what reads it should read on.\n"
 
 unfoldable pub amount_text : List ℕ → List Token → ℕ → ℕ → List ℕ
 amount_text text tokens token number =
@@ -80,6 +92,7 @@ abbrev pub remark_text : List ℕ → List Token → ℕ → Remark → List ℕ
 remark_text text tokens token (Negative value width below) = sign_text value width below ++ unsigned_text value
 remark_text text tokens token (Wrapping by width left) = wrap_text by width left ++ minus_text by
 remark_text text tokens token Unneeded = unneeded_text text tokens token
+remark_text text tokens token (Long first last) = long_text text tokens token first last
 remark_text text tokens token (Amount number) = amount_text text tokens token number
 remark_text text tokens token (Settled answer left right) = settled_text answer left right
 

@@ -5,11 +5,14 @@ use Rattle.pr_lang.specs.declared.tokens.Token.{Token}
 use Rattle.pr_lens_source.specs.declared.sources.Span.{Span}
 use Rattle.pr_lens_extents.specs.declared.verdicts.Verdict.{Verdict}
 use Rattle.pr_lens_extents.specs.declared.verdicts.Verdict.TheVariants.{Unseen}
+use Rattle.pr_lens_waste.specs.declared.lines.Tail.{Tail}
+use Rattle.pr_lens_waste.specs.Lines.{Tails}
 use Rattle.pr_lens_warn.specs.declared.remarks.Remark.{Remark}
 use Rattle.pr_lens_warn.specs.declared.remarks.Remark.TheVariants.{Unneeded}
 use Rattle.pr_lens_warn.specs.declared.remarks.Warning.{Warning}
 use Rattle.pr_lens_warn.specs.Constants.{constant_at, is_difference, is_signed_token, negative_of, wrapping_of}
 use Rattle.pr_lens_warn.specs.Comparisons.{by_tokens, settled}
+use Rattle.pr_lens_warn.specs.Lines.{long, token_tails}
 use Rattle.pr_lens_warn.specs.Shifts.{amount_remark, is_amount}
 use Rattle.pr_lens_warn.specs.Needs.{AreNeeded, is_assigned, is_marked}
 
@@ -30,6 +33,17 @@ difference_warning text tokens spans at =
 abbrev pub name_warning : List Token → List Bool → ℕ → Option Warning
 name_warning tokens needed at = if is_assigned tokens at && not (is_marked needed at) then Some (warning at at Unneeded) else None
 
+-- on a name whose last instances no output needs
+abbrev pub line_warning : List (Option Tail) → ℕ → Option Warning
+line_warning tails at = option_map (λ tail. warning at at (long tail)) (slice_index_or tails at None)
+
+abbrev pub else_line : Option Warning → List (Option Tail) → ℕ → Option Warning
+else_line (Some w) tails at = Some w
+else_line None tails at = line_warning tails at
+
+abbrev pub assigned_warning : List Token → List Bool → List (Option Tail) → ℕ → Option Warning
+assigned_warning tokens needed tails at = else_line (name_warning tokens needed at) tails at
+
 -- on a comparison, by its sign
 abbrev pub comparison_warning : List Verdict → ℕ → Option Warning
 comparison_warning verdicts at = option_map (warning at at) (settled (slice_index_or verdicts at Unseen))
@@ -38,19 +52,19 @@ comparison_warning verdicts at = option_map (warning at at) (settled (slice_inde
 abbrev pub amount_warning : List ℕ → List Token → List Span → ℕ → Option Warning
 amount_warning text tokens spans at = option_map (warning at at) (amount_remark text tokens spans at)
 
-abbrev pub last_warning : List Token → List Bool → List Verdict → ℕ → Option Warning
-last_warning tokens needed verdicts at = if is_assigned tokens at then name_warning tokens needed at else comparison_warning verdicts at
+abbrev pub last_warning : List Token → List Bool → List Verdict → List (Option Tail) → ℕ → Option Warning
+last_warning tokens needed verdicts tails at = if is_assigned tokens at then assigned_warning tokens needed tails at else comparison_warning verdicts at
 
--- where these are the marks of needed statements, and the verdicts by tokens
-unfoldable pub warning_at : List ℕ → List Token → List Span → List Bool → List Verdict → ℕ → Option Warning
-warning_at text tokens spans needed verdicts at =
+-- where these are the marks of needed statements, and the verdicts and the ends of delay lines by tokens
+unfoldable pub warning_at : List ℕ → List Token → List Span → List Bool → List Verdict → List (Option Tail) → ℕ → Option Warning
+warning_at text tokens spans needed verdicts tails at =
     if is_signed_token text tokens at then signed_warning text tokens spans at
     else if is_difference tokens at then difference_warning text tokens spans at
     else if is_amount tokens at then amount_warning text tokens spans at
-    else last_warning tokens needed verdicts at
+    else last_warning tokens needed verdicts tails at
 
 -- in the order of the text
-pub record AreWarnings (text : List ℕ) (tokens : List Token) (spans : List Span) (verdicts : List Verdict) (warnings : List Warning) : Type 0 where
+pub record AreWarnings (text : List ℕ) (tokens : List Token) (spans : List Span) (verdicts : List Verdict) (tails : Tails) (warnings : List Warning) : Type 0 where
   pub needed : List Bool
   pub are_needed : AreNeeded text tokens spans needed
-  pub is : warnings ≡ filter_map (warning_at text tokens spans needed (by_tokens tokens verdicts)) (range_with_len 0 (length tokens))
+  pub is : warnings ≡ filter_map (warning_at text tokens spans needed (by_tokens tokens verdicts) (token_tails text tokens spans tails)) (range_with_len 0 (length tokens))

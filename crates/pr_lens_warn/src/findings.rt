@@ -9,6 +9,7 @@ use crate::telling::{code_of, heading_of, put_message};
 use crate::warnings::warnings_of;
 use pr_lens_show::{Finding, Severity, put_as};
 use pr_lens_source::{Source, spans_of};
+use pr_lens_waste::lines_of;
 use pr_parse::tokens;
 use std::alloc::{AllocError, Global};
 
@@ -75,6 +76,7 @@ pub fn put_warnings(
         spans: &spans,
     };
     let verdicts = verdicts_in(alloc, text, &found)?;
-    let warnings = warnings_of(alloc, &source, &verdicts)?;
+    let lines = lines_of(alloc, text)?;
+    let warnings = warnings_of(alloc, &source, &verdicts, &lines)?;
     put_all(alloc, told, json, name, &source, &warnings)
 }

@@ -1,13 +1,14 @@
 //! What a careful reader points out in a program that is accepted all the same.
 //!
 //! What is pointed out is decided on the tokens of the text and its names, and of comparisons by what `pr_lens_extents`
-//! knows of their sides.
+//! knows of their sides, and of delay lines by what `pr_lens_waste` knows of the instances of names.
 #![tactic(auto)]
 
 mod comparisons;
 mod constants;
 mod findings;
 mod kinds;
+mod lines;
 mod needs;
 mod remarks;
 mod shifts;

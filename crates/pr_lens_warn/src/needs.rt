@@ -19,7 +19,7 @@ pub fn is_assigned(source: &Source, at: usize) -> bool
 }
 
 /// The first token of the function in which a token stands, and the number of tokens outside of all.
-fn scope_of(source: &Source, at: usize) -> usize
+pub fn scope_of(source: &Source, at: usize) -> usize
     ensures { result ≡ scope_of source.now.tokens.now source.now.spans.now at }
 {
     let first = source.first(source.item_at(at));
@@ -40,7 +40,7 @@ fn is_same_name(source: &Source, at: usize, other: usize) -> bool
 
 /// Whether a token is the name that is assigned at another one.
 #[tactic(auto, unfolding(crate::specs::Needs::is_use))]
-fn is_use(source: &Source, assigned: usize, at: usize) -> bool
+pub fn is_use(source: &Source, assigned: usize, at: usize) -> bool
     ensures { result
         ≡ is_use source.now.text.now source.now.tokens.now source.now.spans.now assigned at }
 {

@@ -22,6 +22,13 @@ pub enum Remark {
     },
     /// No result needs a name.
     Unneeded,
+    /// No output needs the last instances of a name, which are delays.
+    Long {
+        /// The index of the first of them.
+        first: u64,
+        /// That of the last.
+        last: u64,
+    },
     /// The amount of a shift is a stream, and always this number.
     Amount {
         number: u64,

@@ -1,7 +1,7 @@
 //! What is told of a warning.
 
 ghost use Rattle.std.specs.Prelude.{◌≡◌, ◌++◌, OnOk};
-ghost use Rattle.pr_lens_warn.specs.Texts.{amount_text, answer_text, code_of, heading_of, message_of, minus_text, settled_text, side_text, sides_text, unneeded_text, sign_text, unsigned_text, wrap_text};
+ghost use Rattle.pr_lens_warn.specs.Texts.{amount_text, answer_text, code_of, heading_of, indices_text, long_text, message_of, minus_text, settled_text, side_text, sides_text, unneeded_text, sign_text, unsigned_text, wrap_text};
 
 use crate::remarks::{Remark, Warning};
 use pr_lens_extents::Extent;
@@ -18,6 +18,7 @@ pub fn code_of(remark: &Remark) -> &'static [u8]
         Remark::Negative { .. } => b"signed-constant",
         Remark::Wrapping { .. } => b"wrapping-difference",
         Remark::Unneeded => b"unneeded",
+        Remark::Long { .. } => b"long-delay",
         Remark::Amount { .. } => b"constant-shift",
         Remark::Settled { .. } => b"constant-comparison",
     }
@@ -31,6 +32,7 @@ pub fn heading_of(remark: &Remark) -> &'static [u8]
         Remark::Negative { .. } => b"warning: signed-constant\n",
         Remark::Wrapping { .. } => b"warning: wrapping-difference\n",
         Remark::Unneeded => b"warning: unneeded\n",
+        Remark::Long { .. } => b"warning: long-delay\n",
         Remark::Amount { .. } => b"warning: constant-shift\n",
         Remark::Settled { .. } => b"warning: constant-comparison\n",
     }
@@ -96,6 +98,38 @@ fn put_unneeded(message: &mut Vec<u8>, source: &Source, token: usize) -> Result<
     put(
         message,
         ": neither an output nor what a function returns is made of it.\nTake it out, or see whether it should stand in the place of another name.\n",
+    )
+}
+
+/// Tells indices.
+fn put_indices(message: &mut Vec<u8>, first: u64, last: u64) -> Result<(), AllocError>
+    ensures { OnOk result (message.new.items ≡ message.old.items ++ indices_text first last) }
+{
+    if first == last {
+        return put_counted(message, " with the index ", first as usize);
+    }
+    put_counted(message, " with the indices ", first as usize)?;
+    put_counted(message, " to ", last as usize)
+}
+
+/// Tells that no output needs the last instances of a name.
+#[tactic(auto, unfolding(crate::specs::Texts::long_text))]
+fn put_long(
+    message: &mut Vec<u8>,
+    source: &Source,
+    token: usize,
+    first: u64,
+    last: u64,
+) -> Result<(), AllocError>
+    ensures { OnOk result (message.new.items ≡ message.old.items
+        ++ long_text source.now.text.now source.now.tokens.now token first last) }
+{
+    put(message, "No output needs ")?;
+    put_quoted(message, source, token)?;
+    put_indices(message, first, last)?;
+    put(
+        message,
+        ": the delay line is longer than what reads it.\nLet it end before, or see whether what reads it should read on.\n",
     )
 }
 
@@ -203,6 +237,7 @@ pub fn put_message(
             put_minus(message, by)
         }
         Remark::Unneeded => put_unneeded(message, source, warning.first),
+        Remark::Long { first, last } => put_long(message, source, warning.first, first, last),
         Remark::Amount { number } => put_amount(message, source, warning.first, number),
         Remark::Settled {
             answer,

@@ -2,15 +2,18 @@
 
 ghost use Rattle.std.specs.Prelude.{◌≡◌, ◌<◌, IfOk, filter_map, length};
 ghost use Rattle.std.specs.List.{range_with_len};
-ghost use Rattle.pr_lens_warn.specs.Warnings.{AreWarnings, amount_warning, comparison_warning, difference_warning, last_warning, name_warning, signed_warning, warning_at};
+ghost use Rattle.pr_lens_waste.specs.Lines.{lines_in};
+ghost use Rattle.pr_lens_warn.specs.Warnings.{AreWarnings, amount_warning, assigned_warning, comparison_warning, difference_warning, last_warning, line_warning, name_warning, signed_warning, warning_at};
 
 use crate::comparisons::{by_tokens, settled};
 use crate::constants::{constant_at, is_difference, is_signed_token, negative_of, wrapping_of};
+use crate::lines::{long, token_tails};
 use crate::needs::{is_assigned, needed};
 use crate::remarks::{Remark, Warning};
 use crate::shifts::{amount_remark, is_amount};
 use pr_lens_extents::Verdict;
 use pr_lens_source::Source;
+use pr_lens_waste::{Lines, Tail};
 use std::alloc::{AllocError, Global};
 
 /// The warning at `signed` of a token.
@@ -56,6 +59,36 @@ fn name_warning(source: &Source, needed: &[bool], at: usize) -> Option<Warning>
     })
 }
 
+/// The warning at a name whose last instances no output needs.
+fn line_warning(tails: &[Option<Tail>], at: usize) -> Option<Warning>
+    requires { at < length tails.now }
+    ensures { result ≡ line_warning tails.now at }
+{
+    let tail = tails[at]?;
+    Some(Warning {
+        remark: long(tail),
+        first: at,
+        last: at,
+    })
+}
+
+/// The warning at a name that is assigned: that no result needs it, or else its last instances.
+fn assigned_warning(
+    source: &Source,
+    needed: &[bool],
+    tails: &[Option<Tail>],
+    at: usize,
+) -> Option<Warning>
+    requires mark { at < length needed.now }
+    requires tail { at < length tails.now }
+    ensures { result ≡ assigned_warning source.now.tokens.now needed.now tails.now at }
+{
+    match name_warning(source, needed, at) {
+        Some(warning) => Some(warning),
+        None => line_warning(tails, at),
+    }
+}
+
 /// The warning at a name that a shift has for its amount.
 fn amount_warning(source: &Source, at: usize) -> Option<Warning>
     requires { at < length source.now.tokens.now }
@@ -87,26 +120,35 @@ fn last_warning(
     source: &Source,
     needed: &[bool],
     verdicts: &[Verdict],
+    tails: &[Option<Tail>],
     at: usize,
 ) -> Option<Warning>
     requires mark { at < length needed.now }
     requires verdict { at < length verdicts.now }
-    ensures { result ≡ last_warning source.now.tokens.now needed.now verdicts.now at }
+    requires tail { at < length tails.now }
+    ensures { result ≡ last_warning source.now.tokens.now needed.now verdicts.now tails.now at }
 {
     if is_assigned(source, at) {
-        return name_warning(source, needed, at);
+        return assigned_warning(source, needed, tails, at);
     }
     comparison_warning(verdicts, at)
 }
 
 /// The warning at a token.
 #[tactic(auto, unfolding(crate::specs::Warnings::warning_at))]
-fn warning_at(source: &Source, needed: &[bool], verdicts: &[Verdict], at: usize) -> Option<Warning>
+fn warning_at(
+    source: &Source,
+    needed: &[bool],
+    verdicts: &[Verdict],
+    tails: &[Option<Tail>],
+    at: usize,
+) -> Option<Warning>
     requires token { at < length source.now.tokens.now }
     requires mark { at < length needed.now }
     requires verdict { at < length verdicts.now }
-    ensures { result
-        ≡ warning_at source.now.text.now source.now.tokens.now source.now.spans.now needed.now verdicts.now at }
+    requires tail { at < length tails.now }
+    ensures { let source = source.now in result
+        ≡ warning_at source.text.now source.tokens.now source.spans.now needed.now verdicts.now tails.now at }
 {
     if is_signed_token(source, at) {
         return signed_warning(source, at);
@@ -117,43 +159,49 @@ fn warning_at(source: &Source, needed: &[bool], verdicts: &[Verdict], at: usize)
     if is_amount(source, at) {
         return amount_warning(source, at);
     }
-    last_warning(source, needed, verdicts, at)
+    last_warning(source, needed, verdicts, tails, at)
 }
 
-/// The warnings at all tokens, where these marks are those of needed statements, and these verdicts stand by tokens.
+/// The warnings at all tokens, where these marks are those of needed statements, and these verdicts and ends of delay lines
+/// stand by tokens.
 fn warnings_by(
     alloc: Global,
     source: &Source,
     needed: &[bool],
     verdicts: &[Verdict],
+    tails: &[Option<Tail>],
 ) -> Result<Vec<Warning>, AllocError>
     requires marks { length needed.now ≡ length source.now.tokens.now }
     requires verdicts { length verdicts.now ≡ length source.now.tokens.now }
+    requires tails { length tails.now ≡ length source.now.tokens.now }
     ensures { let source = source.now in IfOk result (λ found. found.items ≡ filter_map
-        (warning_at source.text.now source.tokens.now source.spans.now needed.now verdicts.now)
+        (warning_at source.text.now source.tokens.now source.spans.now needed.now verdicts.now tails.now)
         (range_with_len 0 (length source.tokens.now))) }
 {
     let mut found = Vec::new(alloc);
     for at in 0..needed.len() {
-        if let Some(warning) = warning_at(source, needed, verdicts, at) {
+        if let Some(warning) = warning_at(source, needed, verdicts, tails, at) {
             found.push(warning)?;
         }
     }
     Ok(found)
 }
 
-/// What is pointed out in a program, in the order of its text: `signed` of a constant whose highest bit is 1, a
-/// difference of constants that wraps around, a name that no result needs, a shift by a stream that is one number, and a comparison whose verdict is that it gives
-/// always the same. The verdicts are those on the comparisons of the text, one after the other.
+/// What is pointed out in a program, in the order of its text: `signed` of a constant whose highest bit is 1, a difference
+/// of constants that wraps around, a name that no result needs, the last instances of another one, where they are delays
+/// that no output needs, a shift by a stream that is one number, and a comparison whose verdict is that it always gives the
+/// same. The verdicts are those on the comparisons of the text, one after the other; the lines are those of its names.
 pub fn warnings_of(
     alloc: Global,
     source: &Source,
     verdicts: &[Verdict],
+    lines: &Lines,
 ) -> Result<Vec<Warning>, AllocError>
     ensures { let source = source.now in IfOk result (λ found.
-        AreWarnings source.text.now source.tokens.now source.spans.now verdicts.now found.items) }
+        AreWarnings source.text.now source.tokens.now source.spans.now verdicts.now (lines_in lines.now) found.items) }
 {
     let needed = needed(alloc, source)?;
     let by_tokens = by_tokens(alloc, source.tokens, verdicts)?;
-    warnings_by(alloc, source, &needed, &by_tokens)
+    let tails = token_tails(alloc, source, lines)?;
+    warnings_by(alloc, source, &needed, &by_tokens, &tails)
 }

@@ -7,7 +7,7 @@ use Rattle.pr_lens_warn.proofs.warnings.warnings_by.Goals.{in-Some+in_ok-push, i
 pub loop-at-preserved : goal.loop-at-preserved
 loop-at-preserved c =
     let source = c.args.source.now in
-    let h = warning_at source.text.now source.tokens.now source.spans.now c.args.needed.now c.args.verdicts.now in
+    let h = warning_at source.text.now source.tokens.now source.spans.now c.args.needed.now c.args.verdicts.now c.args.tails.now in
     let n = length c.args.needed.now in
     let at = c.loop-at in
     elim c.match-warning_at.branch [

@@ -1,0 +1,5 @@
+pub mod Bits
+pub mod Shifts
+pub mod Units
+pub mod Kinds
+pub mod Factors
