@@ -11,6 +11,7 @@ mod expected;
 mod fronts;
 mod halves;
 mod offences;
+mod sites;
 mod walks;
 mod widths;
 
@@ -18,5 +19,6 @@ pub use equations::equations_item;
 pub use expected::{Expected, expected_at};
 pub use halves::{Question, item_with};
 pub use offences::find_offence;
+pub use sites::{Site, site_of};
 pub use walks::turns_item;
 pub use widths::{Extent, Missing, find_missing};

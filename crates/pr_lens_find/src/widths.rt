@@ -37,7 +37,7 @@ fn first_without(alloc: Global, flat: &Flat) -> Result<Option<u32>, AllocError>
 }
 
 /// The equations with so many points of the item's expressions, where there are any.
-fn flat_with(alloc: Global, part: &Part, count: usize) -> Result<Option<Flat>, AllocError>
+pub fn flat_with(alloc: Global, part: &Part, count: usize) -> Result<Option<Flat>, AllocError>
     requires { length part.now.source.text.now ≤ 1048576 }
     ensures { let spot = spot_of part.now in
         IfOk result (λ found. MatchOption found (HasNoFlatWith spot count) (HasFlatWith spot count)) }
@@ -125,7 +125,7 @@ fn unknown(alloc: Global, token: usize) -> Missing
 }
 
 /// Whether two operations are the same.
-fn is_same_op(one: Op, other: Op) -> bool
+pub fn is_same_op(one: Op, other: Op) -> bool
     ensures { IsTrue result ↔ (one ≡ other) }
 {
     one == other

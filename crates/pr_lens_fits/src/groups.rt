@@ -14,7 +14,7 @@ ghost use Rattle.pr_lens_fits.specs.Unfits.{cell_count, ends_with, group_ending,
 
 use crate::kept::kept_before;
 use crate::makers::unit_equation;
-use crate::ready::ready;
+use crate::ready::ready_in;
 use pr_cut::cut;
 use pr_cut_plan::{CutFault, plan_of};
 use pr_flat::Flat;
@@ -25,10 +25,10 @@ use pr_width::Widths;
 use std::alloc::{AllocError, Global};
 
 /// How many cells a unit has.
-fn cells_of(net: &Net, unit: u32) -> usize
+pub fn cells_of(net: &Net, unit: usize) -> usize
     ensures { result ≡ length (cells_of (shape_of net.now) unit) }
 {
-    match net.units.get(unit as usize) {
+    match net.units.get(unit) {
         None => 0,
         Some(found) => found.cells.len(),
     }
@@ -40,7 +40,7 @@ fn cells_in(net: &Net, units: &[u32]) -> usize
 {
     let mut cells: usize = 0;
     for unit in units {
-        cells = cells.saturating_add(cells_of(net, *unit));
+        cells = cells.saturating_add(cells_of(net, *unit as usize));
     }
     cells
 }
@@ -55,16 +55,23 @@ fn ends_with(units: &[u32], unit: u32) -> bool
     }
 }
 
-/// How many columns the group has whose last unit this is; 0 where there is none.
-fn group_columns(net: &Net, unit: u32) -> usize
-    ensures { result ≡ cell_count (shape_of net.now) (group_ending (shape_of net.now) unit) }
+/// The units of the first group whose last unit this is; none where there is no such group.
+pub fn group_ending(net: &Net, unit: u32) -> &[u32]
+    ensures { result.now ≡ group_ending (shape_of net.now) unit }
 {
     for group in &net.groups {
         if ends_with(&group.units, unit) {
-            return cells_in(net, &group.units);
+            return &group.units;
         }
     }
-    0
+    &[]
+}
+
+/// How many columns the group has whose last unit this is; 0 where there is none.
+pub fn group_columns(net: &Net, unit: u32) -> usize
+    ensures { result ≡ cell_count (shape_of net.now) (group_ending (shape_of net.now) unit) }
+{
+    cells_in(net, group_ending(net, unit))
 }
 
 /// A group of units that fits in no stripe.
@@ -124,7 +131,7 @@ pub fn find_unfit(
         columns: 0,
         kept: 0,
     };
-    let Some((flat, widths)) = ready(alloc, source.text, narrowed)? else {
+    let Some((flat, widths)) = ready_in(alloc, source.text, narrowed)? else {
         return Ok(nothing);
     };
     match group_of(alloc, &flat, &widths, columns, unit) {

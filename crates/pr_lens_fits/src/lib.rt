@@ -11,7 +11,7 @@ mod targets;
 mod units;
 
 pub use ends::{input_item, output_item};
-pub use groups::{Unfit, find_unfit};
-pub use makers::first_unit;
-pub use ready::ready_of;
+pub use groups::{Unfit, cells_of, find_unfit, group_columns, group_ending};
+pub use makers::{first_unit, unit_equation, width_at};
+pub use ready::{ready_in, ready_of, refused};
 pub use units::units_item;

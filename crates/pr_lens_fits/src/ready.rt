@@ -35,7 +35,7 @@ pub fn ready_of(
 }
 
 /// Passes want of memory on.
-fn refused(fault: FrontFault) -> Result<(), AllocError>
+pub fn refused(fault: FrontFault) -> Result<(), AllocError>
     ensures { (text : List ℕ) → IsAnswer text fault → OnOk result (IsRefusal text fault) }
 {
     match fault {
@@ -58,7 +58,7 @@ fn refused(fault: FrontFault) -> Result<(), AllocError>
 }
 
 /// The same of the program of a text; none where it is refused before it has widths.
-pub fn ready(
+pub fn ready_in(
     alloc: Global,
     text: &[u8],
     narrowed: bool,

@@ -1,5 +1,5 @@
 -- What is told of names that are introduced again, used before they are assigned, or stand for something else.
-use Rattle.std.specs.Prelude.{ℕ, ◌+◌, ◌-◌, ◌==◌, ◌&&◌, Bool, true, false, not, List, ◌++◌, Option, None, Some, codes, is_some, length, nat_eq, option_map, if◌then◌else◌}
+use Rattle.std.specs.Prelude.{ℕ, ◌+◌, ◌-◌, ◌==◌, ◌&&◌, ◌||◌, Bool, true, false, not, List, ◌++◌, Option, None, Some, codes, length, nat_eq, option_map, if◌then◌else◌}
 use Rattle.std.specs.Cmp.Lexicographic.{pointwise}
 use Rattle.pr_lang.specs.declared.tokens.Keyword.TheVariants as keyword
 use Rattle.pr_lang.specs.declared.tokens.Kind.{Kind}
@@ -17,7 +17,7 @@ use Rattle.pr_lens_rules.specs.declared.names.Sort.TheVariants.{Constant, Table,
 use Rattle.pr_lens_rules.specs.Brackets.{square_around}
 use Rattle.pr_lens_rules.specs.Instances.{first_turn_text, instance_text, is_assigned_at, is_same_instance, is_target, target_around}
 use Rattle.pr_lens_rules.specs.Names.{introduction_of, introduction_text}
-use Rattle.pr_lens_rules.specs.Pieces.{token_text}
+use Rattle.pr_lens_rules.specs.Pieces.{place_text, token_text}
 
 -- ---- introduced again
 abbrev pub apart_text : Bool → List ℕ
@@ -73,31 +73,49 @@ abbrev pub is_at : Kind → Bool
 is_at (Mark At) = true
 is_at _ = false
 
--- a recurrence begins with a token, and its name is that of another token
-unfoldable pub is_recurrence_of : List ℕ → List Token → ℕ → ℕ → Bool
-is_recurrence_of text tokens token first = is_rec (kind_of tokens first) && pointwise nat_eq (bytes_of text tokens (first + 1)) (bytes_of text tokens token)
+-- one of two tokens stands in a function, and the other outside
+unfoldable pub is_apart : List Token → List Span → ℕ → ℕ → Bool
+is_apart tokens spans one other = is_outside tokens spans one other || is_outside tokens spans other one
+
+-- a recurrence begins with a token, its name is that of another token, and no function parts them
+unfoldable pub is_recurrence_of : List ℕ → List Token → List Span → ℕ → ℕ → Bool
+is_recurrence_of text tokens spans token first =
+    is_rec (kind_of tokens first) && (pointwise nat_eq (bytes_of text tokens (first + 1)) (bytes_of text tokens token) && not (is_apart tokens spans first token))
 
 -- the first such recurrence behind the token
-unfoldable pub recurrence_behind : List ℕ → List Token → ℕ → Option ℕ
-recurrence_behind text tokens token = first_between (is_recurrence_of text tokens token) token (length tokens)
+unfoldable pub recurrence_behind : List ℕ → List Token → List Span → ℕ → Option ℕ
+recurrence_behind text tokens spans token = first_between (is_recurrence_of text tokens spans token) token (length tokens)
 
 abbrev pub stands_in_rec : List Token → Option ℕ → Bool
 stands_in_rec tokens None = false
 stands_in_rec tokens (Some own) = is_rec (kind_of tokens (own - 1))
 
--- a token before `@` in a recurrence names one behind it
-unfoldable pub is_crossed : List ℕ → List Token → ℕ → Option ℕ → Bool
-is_crossed text tokens token target = stands_in_rec tokens target && (is_at (kind_of tokens (token + 1)) && is_some (recurrence_behind text tokens token))
+-- a token before `@` in a recurrence
+abbrev pub is_crossed : List Token → ℕ → Option ℕ → Bool
+is_crossed tokens token target = stands_in_rec tokens target && is_at (kind_of tokens (token + 1))
 
-abbrev pub crossed_text : Bool → List ℕ
-crossed_text true = codes "A `rec` reads its own past and what stands before it. Two that read each other are one of two halves, as in `rec s:16 = 0 by cat(s@1{7..0} ^ a, s@1{15..8} ^ b);` with `s{15..8}` and `s{7..0}`.\n"
-crossed_text false = assign_text
+unfoldable pub halves_text : List ℕ
+halves_text = codes "A `rec` reads its own past and what stands before it. Two that read each other are one of two halves, as in `rec s:16 = 0 by cat(s@1{7..0} ^ a, s@1{15..8} ^ b);` with `s{15..8}` and `s{7..0}`.\n"
+
+-- what is read is assigned behind, by the recurrence that begins with a token
+unfoldable pub behind_text : List ℕ → List Token → ℕ → List ℕ
+behind_text text tokens first =
+    codes "The `rec` at " ++ place_text text tokens first ++ codes " assigns it. Move this behind it, or, where that `rec` needs it, write it into its body.\n"
+
+-- by whether a recurrence behind assigns it
+abbrev pub unknown_by : List ℕ → List Token → ℕ → Option ℕ → Option ℕ → List ℕ
+unknown_by text tokens token target None = assign_text
+unknown_by text tokens token target (Some first) = if is_crossed tokens token target then halves_text else behind_text text tokens first
+
+-- the statement itself assigns another instance of it
+unfoldable pub instance_of_own_text : List ℕ
+instance_of_own_text = codes "This statement assigns another instance of it. Assign this one in an item before, or see whether another index is meant.\n"
 
 -- where it is introduced, but by the target of its own statement
 abbrev pub unassigned_by : List ℕ → List Token → List Span → ℕ → Option ℕ → Option Introduction → List ℕ
-unassigned_by text tokens spans token target None = crossed_text (is_crossed text tokens token target)
+unassigned_by text tokens spans token target None = unknown_by text tokens token target (recurrence_behind text tokens spans token)
 unassigned_by text tokens spans token target (Some introduction) =
-    if is_target target introduction.token then assign_text else other_text text tokens spans token introduction
+    if is_target target introduction.token then instance_of_own_text else other_text text tokens spans token introduction
 
 unfoldable pub unassigned_text : List ℕ → List Token → List Span → ℕ → Option ℕ → List ℕ
 unassigned_text text tokens spans token target = unassigned_by text tokens spans token target (introduction_of text tokens spans token)

@@ -8,5 +8,5 @@ mod pieces;
 mod rules;
 mod uses;
 
-pub use pieces::{put_in_quotes, put_quoted};
+pub use pieces::{put_in_quotes, put_place, put_quoted};
 pub use rules::tell;

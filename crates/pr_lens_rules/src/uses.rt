@@ -2,14 +2,14 @@
 
 ghost use Rattle.std.specs.Prelude.{◌≡◌, ◌<◌, ◌++◌, OnOk, length};
 ghost use Rattle.pr_lens_source.specs.Introduced.{is_fn};
-ghost use Rattle.pr_lens_rules.specs.Uses.{again_behind, again_text, alone_text, another_kind_text, apart_text, assign_text, called_text, crossed_text, early_behind, early_text, is_at, is_crossed, is_outside, is_rec, is_recurrence_of, is_signed, is_table_index, is_table_sort, known_text, other_text, outside_text, own_text, recurrence_behind, sort_in, stands_in_rec, stream_text, unassigned_by, unassigned_text, unknown_text, usage_before, usage_text};
+ghost use Rattle.pr_lens_rules.specs.Uses.{again_behind, again_text, alone_text, another_kind_text, apart_text, assign_text, behind_text, called_text, early_behind, early_text, halves_text, instance_of_own_text, is_apart, is_at, is_crossed, is_outside, is_rec, is_recurrence_of, is_signed, is_table_index, is_table_sort, known_text, other_text, outside_text, own_text, recurrence_behind, sort_in, stands_in_rec, stream_text, unassigned_by, unassigned_text, unknown_by, unknown_text, usage_before, usage_text};
 
 use crate::brackets::{kind_behind, square_around};
 use crate::instances::{
     is_assigned_at, is_same_instance, is_target, put_first_turn, put_instance, target_around,
 };
 use crate::names::{Introduction, Sort, introduction_of, put_introduction};
-use crate::pieces::put_quoted;
+use crate::pieces::{put_place, put_quoted};
 use pr_lang::{Keyword, Kind, Symbol};
 use pr_lens_source::Source;
 use pr_lens_text::put;
@@ -157,18 +157,28 @@ fn is_at(kind: Kind) -> bool
     matches!(kind, Kind::Mark(Symbol::At))
 }
 
-/// Whether a recurrence begins with a token, and its name is that of another token.
+/// Whether one of two tokens stands in a function, and the other outside.
+#[tactic(auto, unfolding(crate::specs::Uses::is_apart))]
+fn is_apart(source: &Source, one: usize, other: usize) -> bool
+    ensures { result ≡ is_apart source.now.tokens.now source.now.spans.now one other }
+{
+    is_outside(source, one, other) || is_outside(source, other, one)
+}
+
+/// Whether a recurrence begins with a token, its name is that of another token, and no function parts them.
 #[tactic(auto, unfolding(crate::specs::Uses::is_recurrence_of))]
 fn is_recurrence_of(source: &Source, token: usize, first: usize) -> bool
     requires { first < length source.now.tokens.now }
-    ensures { result ≡ is_recurrence_of source.now.text.now source.now.tokens.now token first }
+    ensures { result ≡ is_recurrence_of source.now.text.now source.now.tokens.now source.now.spans.now token first }
 {
-    is_rec(source.kind(first)) && source.bytes(first + 1) == source.bytes(token)
+    is_rec(source.kind(first))
+        && source.bytes(first + 1) == source.bytes(token)
+        && !is_apart(source, first, token)
 }
 
-/// The first recurrence of the name of a token behind it.
+/// The first recurrence of the name of a token behind it, where no function parts them.
 fn recurrence_behind(source: &Source, token: usize) -> Option<usize>
-    ensures { result ≡ recurrence_behind source.now.text.now source.now.tokens.now token }
+    ensures { result ≡ recurrence_behind source.now.text.now source.now.tokens.now source.now.spans.now token }
 {
     for first in token..source.tokens.len() {
         if is_recurrence_of(source, token, first) {
@@ -188,25 +198,65 @@ fn stands_in_rec(source: &Source, target: Option<usize>) -> bool
     }
 }
 
-/// Whether a token before `@` in a recurrence names one behind it.
-#[tactic(auto, unfolding(crate::specs::Uses::is_crossed))]
+/// Whether a token stands before `@` in a recurrence, which has this target.
 fn is_crossed(source: &Source, token: usize, target: Option<usize>) -> bool
-    ensures { result ≡ is_crossed source.now.text.now source.now.tokens.now token target }
+    ensures { result ≡ is_crossed source.now.tokens.now token target }
 {
-    stands_in_rec(source, target)
-        && is_at(kind_behind(source, token, 1))
-        && recurrence_behind(source, token).is_some()
+    stands_in_rec(source, target) && is_at(kind_behind(source, token, 1))
 }
 
-/// What to do about a name that is not introduced before, in a recurrence that one behind it reads, or elsewhere.
-fn crossed_text(crossed: bool) -> &'static str
-    ensures { result.now ≡ crossed_text crossed }
+/// What to do where two recurrences read each other.
+#[tactic(auto, unfolding(crate::specs::Uses::halves_text))]
+fn halves_text() -> &'static str
+    ensures { result.now ≡ halves_text }
 {
-    if crossed {
-        "A `rec` reads its own past and what stands before it. Two that read each other are one of two halves, as in `rec s:16 = 0 by cat(s@1{7..0} ^ a, s@1{15..8} ^ b);` with `s{15..8}` and `s{7..0}`.\n"
-    } else {
-        assign_text()
+    "A `rec` reads its own past and what stands before it. Two that read each other are one of two halves, as in `rec s:16 = 0 by cat(s@1{7..0} ^ a, s@1{15..8} ^ b);` with `s{15..8}` and `s{7..0}`.\n"
+}
+
+/// Tells that the recurrence that begins with a token assigns what is read before it.
+#[tactic(auto, unfolding(crate::specs::Uses::behind_text))]
+fn tell_behind(message: &mut Vec<u8>, source: &Source, first: usize) -> Result<(), AllocError>
+    ensures { OnOk result (message.new.items
+        ≡ message.old.items ++ behind_text source.now.text.now source.now.tokens.now first) }
+{
+    put(message, "The `rec` at ")?;
+    put_place(message, source, first)?;
+    put(
+        message,
+        " assigns it. Move this behind it, or, where that `rec` needs it, write it into its body.\n",
+    )
+}
+
+/// Tells what to do about a name that is not introduced before, and perhaps by a recurrence behind it.
+fn tell_unknown_by(
+    message: &mut Vec<u8>,
+    source: &Source,
+    token: usize,
+    target: Option<usize>,
+    behind: Option<usize>,
+) -> Result<(), AllocError>
+    ensures { OnOk result (message.new.items ≡ message.old.items
+        ++ unknown_by source.now.text.now source.now.tokens.now token target behind) }
+{
+    match behind {
+        None => {
+            return put(message, assign_text());
+        }
+        Some(first) => {
+            if is_crossed(source, token, target) {
+                return put(message, halves_text());
+            }
+            return tell_behind(message, source, first);
+        }
     }
+}
+
+/// What to do about an instance of a name in a statement that assigns another instance of it.
+#[tactic(auto, unfolding(crate::specs::Uses::instance_of_own_text))]
+fn instance_of_own_text() -> &'static str
+    ensures { result.now ≡ instance_of_own_text }
+{
+    "This statement assigns another instance of it. Assign this one in an item before, or see whether another index is meant.\n"
 }
 
 /// Tells what to do about an instance that is not assigned, in a statement with this target.
@@ -222,11 +272,12 @@ fn tell_by(
 {
     match introduced {
         None => {
-            return put(message, crossed_text(is_crossed(source, token, target)));
+            let behind = recurrence_behind(source, token);
+            return tell_unknown_by(message, source, token, target, behind);
         }
         Some(introduction) => {
             if is_target(target, introduction.token) {
-                return put(message, assign_text());
+                return put(message, instance_of_own_text());
             }
             return tell_other(message, source, token, introduction);
         }

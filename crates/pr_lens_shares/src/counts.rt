@@ -37,7 +37,13 @@ fn at_least(from: usize, operand: Operand) -> usize
 }
 
 /// How many units there are before those of an equation, and of all equations where it is behind them.
-fn units_before(flat: &Flat, widths: &Widths, plan: &Plan, units: usize, equation: usize) -> usize
+pub fn units_before(
+    flat: &Flat,
+    widths: &Widths,
+    plan: &Plan,
+    units: usize,
+    equation: usize,
+) -> usize
     requires plan { IsPlanOf plan.now (equations_of flat.now) widths.now flat.now.outputs.items }
     requires units { units ≡ all_units (flat_plan flat.now widths.now) }
     ensures { result ≡ first_unit (flat_plan flat.now widths.now) equation }

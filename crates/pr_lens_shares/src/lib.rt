@@ -9,4 +9,6 @@ mod counts;
 mod ranks;
 mod shares;
 
+pub use counts::units_before;
+pub use ranks::greatest;
 pub use shares::{Share, most_shares};

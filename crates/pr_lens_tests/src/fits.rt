@@ -11,7 +11,9 @@ rec s:64 = 1 by (s@1 ^ x) & s@1;
 output y = s{31..0};
 = 5
 p:2:1: no fit: unit 3
-...With `--narrow` the program fits.
+...With `--narrow` it takes 12 columns.
+Declare a smaller width, put together what does not read the recurrence, as in `s@1 + (a + b)`, or, where no bit looks at another, make it two of half the width.
+With `--narrow` the program fits.
 On `--fabric wide` the program fits.
 ...
 $ pipelens why p
@@ -29,7 +31,15 @@ rec s:64 = 1 by (s@1 ^ x) & s@1;
 output y = s;
 = 5
 p:2:1: no fit: unit 3
-...takes 24 columns, where a stage has 16.
+...takes 24 columns, where a stage has 16 and one of the wide fabric 32.
+What reads the recurrence, and what it keeps, the widest first:
+- `^` at line 2 column 22: 8 columns
+- `&` at line 2 column 27: 8 columns
+- what it keeps for the next sample: 8 columns
+With 56 bits it takes 22 columns.
+With 48 bits it takes 20 columns.
+With 40 bits it takes 18 columns.
+With `--narrow` it takes no fewer.
 Declare a smaller width, put together what does not read the recurrence, as in `s@1 + (a + b)`...
 $ pipelens why p
 input a:128;
@@ -69,11 +79,111 @@ output y = s;
 p:2:1: no fit: unit 3
   2 | rec s:128 = 1 by (s@1 ^ x) & s@1;
     | ^^^
-Columns ran out: what the recurrence goes on from is made within one stage, and takes 48 columns, where a stage has 16.
+Columns ran out: what the recurrence goes on from is made within one stage, and takes 48 columns, where a stage has 16 and one of the wide fabric 32.
+What reads the recurrence, and what it keeps, the widest first:
+- `^` at line 2 column 23: 16 columns
+- `&` at line 2 column 28: 16 columns
+- what it keeps for the next sample: 16 columns
+With 120 bits it takes 46 columns.
+With 112 bits it takes 44 columns.
+With 104 bits it takes 42 columns.
+With `--narrow` it takes no fewer.
 Declare a smaller width, put together what does not read the recurrence, as in `s@1 + (a + b)`, or, where no bit looks at another, make it two of half the width.
 ";
 
 #[test]
 fn where_nothing_helps(rt: HostRuntime) -> Result<(), AllocError> {
     check_calls(&rt, rt.alloc(), "", HELPLESS)
+}
+
+/// Recurrences that need more columns than a stage has, part by part. The sum has the declared width, 64 bits, and takes a
+/// column for each of its eight bytes, and one for the carry from four bytes to the next: nine.
+const PARTS: &str = "\
+$ pipelens why p
+input x:8;
+rec s:64 = 0 by s@1 + x;
+output y = s;
+= 5
+p:2:1: no fit: unit 3
+...takes 17 columns, where a stage has 16 and one of the wide fabric 32.
+What reads the recurrence, and what it keeps, the widest first:
+- `+` at line 2 column 21: 9 columns
+- what it keeps for the next sample: 8 columns
+With 56 bits it takes 15 columns.
+With 48 bits it takes 13 columns.
+With 40 bits it takes 11 columns.
+With `--narrow` it takes no fewer.
+Declare a smaller width...
+$ pipelens why p --fabric wide
+input x:128;
+rec s:128 = 1 by (s@1 ^ x) & s@1;
+output y = s;
+= 5
+p:2:1: no fit: unit 3
+...takes 48 columns, where a stage has 32.
+What reads the recurrence...
+$ pipelens why p --narrow
+input x:64;
+rec s:64 = 1 by (s@1 ^ x) & s@1;
+output y = s;
+= 5
+p:2:1: no fit: unit 3
+...With 40 bits it takes 15 columns.
+Declare a smaller width...
+$ pipelens why p
+input x:64;
+rec s:64 = 9223372036854775808 by (s@1 ^ x) & s@1;
+output y = s;
+= 5
+p:2:1: no fit: unit 3
+...- what it keeps for the next sample: 8 columns
+With `--narrow` it takes no fewer.
+Put together what does not read the recurrence...
+";
+
+#[test]
+fn what_a_recurrence_needs(rt: HostRuntime) -> Result<(), AllocError> {
+    check_calls(&rt, rt.alloc(), "", PARTS)
+}
+
+/// Operators inside a function, in a loop, and an equality, which takes a column for each byte, one for the carry from four
+/// bytes to the next, and one for what it gives.
+const SITES: &str = "\
+$ pipelens why p
+input x:64;
+fn f(a, b) { return (a ^ b) & a; }
+rec s:64 = 1 by f(s@1, x);
+output y = s;
+= 5
+p:3:1: no fit: unit 3
+...- `f` at line 3 column 17: 8 columns
+- `f` at line 3 column 17: 8 columns
+- what it keeps for the next sample: 8 columns
+...
+$ pipelens why p
+input x:64;
+for i in 0..2 { rec s[i]:64 = 1 by (s[i]@1 ^ x) & s[i]@1; }
+output y = s[0] ^ s[1];
+= 5
+p:2:1: no fit: unit 3
+...- `^` at line 2 column 44: 8 columns
+- `&` at line 2 column 49: 8 columns
+- what it keeps for the next sample: 8 columns
+...
+$ pipelens why p
+input x:64;
+rec s:64 = 1 by s@1 == 9 ? x : s@1 ^ x;
+output y = s;
+= 5
+p:2:1: no fit: unit 5
+...- `==` at line 2 column 21: 10 columns
+- `^` at line 2 column 36: 8 columns
+- `?` at line 2 column 26: 8 columns
+- what it keeps for the next sample: 8 columns
+...
+";
+
+#[test]
+fn where_operators_stand(rt: HostRuntime) -> Result<(), AllocError> {
+    check_calls(&rt, rt.alloc(), "", SITES)
 }

@@ -118,6 +118,40 @@ fn names_used_too_early(rt: HostRuntime) -> Result<(), AllocError> {
     check_calls(&rt, rt.alloc(), "", EARLY)
 }
 
+/// Names that a `rec` behind them assigns.
+const BEHIND: &str = "\
+$ pipelens why p
+input x:8;
+let next = s@1 + x;
+rec s:8 = 0 by next;
+output y = s;
+= 3
+p:2:12: scope: rule 2 item 1
+...The `rec` at line 3 column 1 assigns it. Move this behind it, or, where that `rec` needs it, write it into its body.
+...
+$ pipelens why p
+input x:8;
+for i in 0..2 { let a[i] = s[i]@1; rec s[i]:8 = 0 by a[i]; }
+output y = s[1];
+= 3
+p:2:28: scope: rule 2 item 1
+...The `rec` at line 2 column 36 assigns it...
+$ pipelens why p
+input x:8;
+let next = s + x;
+fn f(a) { rec s:8 = 0 by s@1 + a; return s; }
+output y = f(next);
+= 3
+p:2:12: scope: rule 2 item 1
+...Assign it in an item before this one, or see whether another name is meant.
+...
+";
+
+#[test]
+fn names_of_recurrences_behind(rt: HostRuntime) -> Result<(), AllocError> {
+    check_calls(&rt, rt.alloc(), "", BEHIND)
+}
+
 /// Names that are used in what is assigned to them.
 const THEMSELVES: &str = "\
 $ pipelens why p
@@ -149,7 +183,7 @@ output y = s[2];
 = 3
 p:2:35: scope: rule 2 item 1
 ...`s[i-1]` is used before it is assigned, and in the first turn it is `s[0]`.
-Assign it in an item before...
+This statement assigns another instance of it. Assign this one in an item before...
 ";
 
 #[test]

@@ -7,18 +7,18 @@ pub returns-then-is_recurrence_of : goal.returns-then-is_recurrence_of
 unfolding recurrence_behind
 returns-then-is_recurrence_of c =
     let source = c.args.source.now in
-    sym (first_here (is_recurrence_of source.text.now source.tokens.now c.args.token) c.loop-first.first (length source.tokens.now) c.loop-first-test.true (sym c.is_recurrence_of.ensures ∙ c.if-is_recurrence_of.true))
+    sym (first_here (is_recurrence_of source.text.now source.tokens.now source.spans.now c.args.token) c.loop-first.first (length source.tokens.now) c.loop-first-test.true (sym c.is_recurrence_of.ensures ∙ c.if-is_recurrence_of.true))
     ∙ c.loop-first.invariant
 
 pub loop-first-preserved : goal.loop-first-preserved
 loop-first-preserved c =
     let source = c.args.source.now in
-    sym (first_later (is_recurrence_of source.text.now source.tokens.now c.args.token) c.loop-first.first (length source.tokens.now) c.loop-first-test.true (sym c.is_recurrence_of.ensures ∙ c.if-is_recurrence_of.false))
+    sym (first_later (is_recurrence_of source.text.now source.tokens.now source.spans.now c.args.token) c.loop-first.first (length source.tokens.now) c.loop-first-test.true (sym c.is_recurrence_of.ensures ∙ c.if-is_recurrence_of.false))
     ∙ c.loop-first.invariant
 
 pub returns : goal.returns
 unfolding recurrence_behind
 returns c =
     let source = c.args.source.now in
-    sym (first_none (is_recurrence_of source.text.now source.tokens.now c.args.token) c.loop-first.first (length source.tokens.now) c.loop-first-test.false)
+    sym (first_none (is_recurrence_of source.text.now source.tokens.now source.spans.now c.args.token) c.loop-first.first (length source.tokens.now) c.loop-first-test.false)
     ∙ c.loop-first.invariant

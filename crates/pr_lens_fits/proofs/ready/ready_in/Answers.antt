@@ -2,7 +2,7 @@ use Rattle.std.proofs.Common.{sym, subst, List}
 use Rattle.pr_flat.specs.Shape.{EquationShape}
 use Rattle.pr_flat.specs.Widths.{AreWidths}
 use Rattle.pr_lens_fits.proofs.UnfitLemmas.{ready_told}
-use Rattle.pr_lens_fits.proofs.ready.ready.Goals as goal
+use Rattle.pr_lens_fits.proofs.ready.ready_in.Goals as goal
 
 pub ready_of-requires : goal.ready_of-requires
 ready_of-requires c =
