@@ -8,11 +8,12 @@ use Rattle.pr_lens_show.specs.declared.findings.Finding.{Finding}
 use Rattle.pr_lens_show.specs.declared.findings.Severity.{Severity}
 use Rattle.pr_lens_show.specs.Json.{json_string}
 use Rattle.pr_lens_show.specs.Lines.{source_text}
+use Rattle.pr_lens_show.specs.Names.{name_text}
 
 -- ---- in a terminal
 -- name, line and column
 unfoldable pub place_text : List ℕ → Place → List ℕ
-place_text name place = name ++ codes ":" ++ decimal place.line ++ codes ":" ++ decimal place.column ++ codes ": "
+place_text name place = name_text name ++ codes ":" ++ decimal place.line ++ codes ":" ++ decimal place.column ++ codes ": "
 
 -- the place with the heading, the line with marks, and the message
 pub record IsFindingText (name text : List ℕ) (f : Finding) (old new : List ℕ) : Type 0 where

@@ -1,4 +1,6 @@
 pub mod Bytes
 pub mod Lines
 pub mod Json
+pub mod Names
 pub mod Findings
+

@@ -5,6 +5,7 @@ ghost use Rattle.pr_lens_show.specs.Findings.{IsFindingText, IsObject, IsPut, pl
 
 use crate::json::put_string;
 use crate::lines::put_source;
+use crate::names::put_name;
 use pr_lens_text::{Place, place_at, put, put_counted};
 use std::alloc::{AllocError, Global};
 
@@ -38,7 +39,7 @@ pub struct Finding<'a> {
 fn put_place(told: &mut Vec<u8>, name: &str, place: Place) -> Result<(), AllocError>
     ensures { OnOk result (told.new.items ≡ told.old.items ++ place_text name.now place) }
 {
-    put(told, name)?;
+    put_name(told, name)?;
     put_counted(told, ":", place.line)?;
     put_counted(told, ":", place.column)?;
     put(told, ": ")

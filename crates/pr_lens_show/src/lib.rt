@@ -5,5 +5,7 @@ mod bytes;
 mod findings;
 mod json;
 mod lines;
+mod names;
 
 pub use findings::{Finding, Severity, put_as};
+pub use names::{put_name, put_word};

@@ -8,6 +8,7 @@ use Rattle.pr_lens_tool.specs.declared.outcomes.Outcome.{Outcome}
 use Rattle.pr_lens_tool.specs.declared.outcomes.Outcome.TheVariants.{NoStream, Plain, Streamed}
 use Rattle.pr_lens_tool.specs.declared.outcomes.Reply.{Reply}
 use Rattle.pr_lens_tool.specs.Asked.{Asked, AskedTarget, AskedTask, Bench, Signals, Whole}
+use Rattle.pr_lens_show.specs.Names.{name_text, word_of}
 use Rattle.pr_lens_tracks.specs.Names.{names_in}
 use Rattle.pr_lens_tool.specs.Programs.{bounds_for}
 
@@ -21,14 +22,14 @@ narrow_words narrowed = if narrowed then codes " --narrow" else []
 
 -- the call that tells more of it, with the options of this one
 unfoldable pub why_line : AskedTarget → List ℕ
-why_line target = codes "`pipelens why " ++ target.file ++ fabric_words target.fabric ++ narrow_words target.narrowed ++ codes "` tells more\n"
+why_line target = codes "`pipelens why " ++ word_of target.file ++ fabric_words target.fabric ++ narrow_words target.narrowed ++ codes "` tells more\n"
 
 abbrev pub refused_line : AskedTarget → Answer → List ℕ
 refused_line target answer = note_of (bounds_for target.fabric) answer ++ why_line target
 
 -- ---- a file that cannot be read
 abbrev pub fault_line : List ℕ → List ℕ
-fault_line name = codes "read fault: " ++ name ++ codes "\n"
+fault_line name = codes "read fault: " ++ name_text name ++ codes "\n"
 
 -- the samples of a task, where it has some
 abbrev pub samples_of : AskedTask → Option (List ℕ)
@@ -43,7 +44,7 @@ ReadsNoSamples (Some order) = samples_of order.task ≡ None
 
 -- ---- a name that no stream has
 abbrev pub stream_line : List ℕ → List ℕ
-stream_line name = codes "no stream: " ++ name ++ codes "\n"
+stream_line name = codes "no stream: " ++ name_text name ++ codes "\n"
 
 -- the names that are shown as two's complement
 abbrev pub signed_of : AskedTask → Option (List ℕ)

@@ -8,6 +8,7 @@ use crate::orders::{Order, Product, Target, Task};
 use crate::outcomes::{Outcome, Reply};
 use crate::programs::bounds_of;
 use pr_base::{Cap, Fabric};
+use pr_lens_show::{put_name, put_word};
 use pr_lens_text::put;
 use pr_lens_tracks::name_at;
 use pr_tool::{Answer, Bounds, note_line};
@@ -35,7 +36,7 @@ fn put_why(line: &mut Vec<u8>, target: &Target) -> Result<(), AllocError>
     ensures { OnOk result (line.new.items ≡ line.old.items ++ why_line (target_in target.now)) }
 {
     put(line, "`pipelens why ")?;
-    put(line, target.file)?;
+    put_word(line, target.file)?;
     put(line, fabric_words(target.fabric))?;
     put(line, narrow_words(target.narrowed))?;
     put(line, "` tells more\n")
@@ -58,7 +59,7 @@ fn fault_line(alloc: Global, name: &str) -> Result<Vec<u8>, AllocError>
 {
     let mut line = Vec::new(alloc);
     put(&mut line, "read fault: ")?;
-    put(&mut line, name)?;
+    put_name(&mut line, name)?;
     put(&mut line, "\n")?;
     Ok(line)
 }
@@ -69,7 +70,7 @@ fn stream_line(alloc: Global, name: &str) -> Result<Vec<u8>, AllocError>
 {
     let mut line = Vec::new(alloc);
     put(&mut line, "no stream: ")?;
-    put(&mut line, name)?;
+    put_name(&mut line, name)?;
     put(&mut line, "\n")?;
     Ok(line)
 }
