@@ -1,42 +1,16 @@
 //! For each instance of a program the number of its name.
 
-ghost use Rattle.std.specs.Prelude.{◌≡◌, ◌<◌, ◌++◌, ◌^◌, IfOk, None, OnOk, map, vec_len};
-ghost use Rattle.pr_scope_names.specs.declared.names.Static.TheVariants as static;
+ghost use Rattle.std.specs.Prelude.{◌≡◌, ◌<◌, ◌++◌, ◌^◌, IfOk, None, OnOk, vec_len};
 ghost use Rattle.pr_scope_names.specs.Names.{IsOutside, known_in};
 ghost use Rattle.pr_scope.specs.Walk.{offence};
-ghost use Rattle.pr_lang_meaning.specs.Programs.{function_at};
-ghost use Rattle.pr_expand_spec.specs.Making.{constant};
 ghost use Rattle.pr_probe.specs.Instances.{IsFree, known_after};
 ghost use Rattle.pr_lens_origins.specs.Numbers.{item_numbers, item_size, numbers_of};
 
-use crate::walks::{later, number_stmt, size_of, sizes_of, value_of, with_number};
-use pr_lang::{Fixed, Item, Param, Program};
-use pr_scope_names::{Callee, Static, Statics, Table};
+use crate::walks::{later, number_stmt, size_of, sizes_of, with_number};
+use pr_lang::{Item, Program};
+use pr_probe::{callee, entries_of, value_of};
+use pr_scope_names::{Static, Statics, Table};
 use std::alloc::{AllocError, Global};
-
-/// The entries of a table.
-fn entries_of(alloc: Global, statics: &Statics, values: &[Fixed]) -> Result<Vec<u64>, AllocError>
-    ensures { IfOk result (λ v. v.items ≡ map (λ f. constant f (known_in statics.now)) values.now) }
-{
-    let mut entries = Vec::new(alloc);
-    for value in values {
-        entries.push(value_of(statics, value))?;
-    }
-    Ok(entries)
-}
-
-/// What callers see of a function of so many parameters.
-fn callee(number: u32, params: &[Param]) -> Callee
-    ensures { static.Function result ≡ function_at number params.now }
-{
-    Callee {
-        item: Some(number),
-        params: params.len(),
-        turns: 0,
-        depth: 0,
-        past: false,
-    }
-}
 
 /// How many names of streams an item has.
 fn item_size(item: &Item) -> usize

@@ -3,10 +3,10 @@
 ghost use Rattle.std.specs.Prelude.{◌≡◌, ◌++◌, ◌∷◌, [], ◌-◌, IfOk, OnOk, map};
 ghost use Rattle.pr_scope_names.specs.declared.names.Static.TheVariants.{Index};
 ghost use Rattle.pr_scope_names.specs.Names.{KeepsNames, bind, known_in};
-ghost use Rattle.pr_expand_spec.specs.Making.{constant};
 ghost use Rattle.pr_lens_origins.specs.Numbers.{behind, in_turn, later, naming_of, turns};
 
-use pr_lang::{Fixed, Name, Stmt};
+use pr_lang::{Name, Stmt};
+use pr_probe::value_of;
 use pr_scope_names::{Static, Statics};
 use std::alloc::{AllocError, Global};
 
@@ -53,13 +53,6 @@ pub fn sizes_of(stmts: &[Stmt]) -> usize
         total = later(total, size_of(stmt));
     }
     total
-}
-
-/// The value of a constant expression; 0 where it has none.
-pub fn value_of(statics: &Statics, value: &Fixed) -> u64
-    ensures { result ≡ constant value.now (known_in statics.now) }
-{
-    pr_scope_names::constant(statics, value).unwrap_or(0)
 }
 
 /// Adds a number.

@@ -1,5 +1,5 @@
 -- Texts, put together.
-use Rattle.std.proofs.Common.{◌≡◌, ◌-◌, ◌++◌, ℕ, Bool, List, min, max, length, append_assoc, nat_lt}
+use Rattle.std.proofs.Common.{◌≡◌, ◌++◌, ℕ, List, min, max, length, append_assoc, nat_lt}
 use Rattle.std.specs.Prelude.{slice_range}
 use Rattle.pr_lens_text.specs.declared.lines.Line.{Line}
 use Rattle.pr_lens_text.specs.declared.places.Place.{Place}

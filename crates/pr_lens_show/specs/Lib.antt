@@ -3,4 +3,3 @@ pub mod Lines
 pub mod Json
 pub mod Names
 pub mod Findings
-

@@ -72,6 +72,7 @@ fn put_quoted_bytes(text: &mut Vec<u8>, bytes: &[u8]) -> Result<(), AllocError>
 }
 
 /// Adds a name, in quotation marks where a shell needs them.
+#[tactic(auto, unfolding(crate::specs::Names::quoted))]
 fn put_quoted(text: &mut Vec<u8>, name: &str) -> Result<(), AllocError>
     ensures { OnOk result (text.new.items ≡ text.old.items ++ quoted name.now) }
 {

@@ -19,8 +19,8 @@ ghost use Rattle.pr_expand_spec.specs.Programs.{equations_of};
 ghost use Rattle.pr_probe.specs.Instances.{instances_of, with_all};
 ghost use Rattle.pr_probe.specs.Probes.{AreSignals, CanProbe, CanShow, IsProbed, Probe, numbers_at, probes_of};
 
-pub use lists::{list_stmt, list_stmts};
-pub use programs::instances;
+pub use lists::{list_stmt, list_stmts, value_of};
+pub use programs::{callee, entries_of, instances};
 
 /// The probed program keeps the rules of scope, makes the same equations, and has widths if the program has.
 pub fn probed_law()

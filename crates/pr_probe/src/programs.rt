@@ -14,7 +14,11 @@ use pr_scope_names::{Callee, Instance, Static, Statics, Table};
 use std::alloc::{AllocError, Global};
 
 /// The entries of a table.
-fn entries_of(alloc: Global, statics: &Statics, values: &[Fixed]) -> Result<Vec<u64>, AllocError>
+pub fn entries_of(
+    alloc: Global,
+    statics: &Statics,
+    values: &[Fixed],
+) -> Result<Vec<u64>, AllocError>
     ensures { IfOk result (λ v. v.items ≡ map (λ f. constant f (known_in statics.now)) values.now) }
 {
     let mut entries = Vec::new(alloc);
@@ -25,7 +29,7 @@ fn entries_of(alloc: Global, statics: &Statics, values: &[Fixed]) -> Result<Vec<
 }
 
 /// What callers see of a function of so many parameters.
-fn callee(number: u32, params: &[Param]) -> Callee
+pub fn callee(number: u32, params: &[Param]) -> Callee
     ensures { static.Function result ≡ function_at number params.now }
 {
     Callee {
