@@ -1,4 +1,4 @@
--- Which parameters of functions are read by `signed`, directly or through other functions.
+-- Which parameters without declared width functions read by `signed`, directly or through other functions.
 use Rattle.std.specs.Prelude.{ℕ, ◌+◌, Bool, false, ◌&&◌, ◌||◌, List, [], ◌∷◌, map, Some, is_none, is_some, bytes_eq, codes, if◌then◌else◌}
 use Rattle.pr_lang.specs.declared.trees.Expr.{Expr}
 use Rattle.pr_lang.specs.declared.trees.Expr.TheOpen.{Expr-F}
@@ -78,7 +78,7 @@ abbrev pub stmts_sign : List Stmt → List ℕ → Seen → Bool
 stmts_sign stmts name seen = any_sign (map stmt_signs stmts) name seen
 
 -- ---- functions
--- a parameter with a declared width has room for a sign above its bits
+-- A parameter with a declared width does not count: with `k:8` the highest of 8 bits is meant as the sign
 abbrev pub reads_sign : Param → List Stmt → Expr → Seen → Bool
 reads_sign p body result seen = is_none p.width && (stmts_sign body p.name seen || signs_of result p.name seen)
 

@@ -1,4 +1,4 @@
--- The verdicts on the comparisons and declared widths of a program, in the order of its text.
+-- The verdicts on the comparisons, the declared widths and the calls of a program, in the order of its text.
 use Rattle.std.specs.Prelude.{ℕ, ◌+◌, false, List, [], ◌∷◌, ◌++◌, Option, Some, None}
 use Rattle.pr_lang.specs.declared.trees.Fixed.{Fixed}
 use Rattle.pr_lang.specs.declared.trees.Expr.{Expr}

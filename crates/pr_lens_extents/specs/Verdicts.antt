@@ -1,4 +1,4 @@
--- Comparisons that kinds and widths settle, and declared widths that cut bits off.
+-- Comparisons that kinds and widths settle, declared widths that cut bits off, and calls that read a constant as negative.
 use Rattle.std.specs.Prelude.{ℕ, Bool, true, false, not, ◌&&◌, ◌||◌, nat_le, nat_lt, Option, Some, None, is_some, List, ◌∷◌, if◌then◌else◌}
 use Rattle.pr_lang.specs.declared.trees.BinOp.{BinOp}
 use Rattle.pr_lang.specs.declared.trees.BinOp.TheVariants.{Add, Sub, Mul, Equal, NotEqual, Less, LessEqual, Greater, GreaterEqual}

@@ -1,4 +1,4 @@
-//! What statements make known, and the verdicts on their comparisons and declared widths.
+//! What statements make known, and the verdicts on their comparisons, declared widths and calls.
 
 ghost use Rattle.std.specs.Prelude.{◌≡◌, ◌-◌, ◌++◌, OnOk};
 ghost use Rattle.pr_lens_extents.specs.Scenes.{fixed_value, seen_in};

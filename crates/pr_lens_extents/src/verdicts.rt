@@ -1,4 +1,5 @@
-//! Comparisons that kinds and widths settle, and declared widths that cut bits off.
+//! Comparisons that kinds and widths settle, declared widths that cut bits off, and calls that read
+//! constants as negative.
 
 ghost use Rattle.std.specs.Prelude.{◌≡◌, ◌≤◌, is_some, length};
 ghost use Rattle.pr_lens_extents.specs.Verdicts.{agree, all_joined, answer, cut_by, cut_of, cut_to, decided, is_below, is_from, is_over, is_up_to, joined, joined_with, least, makes_room, most, negative_of, verdict_of, verdict_on};

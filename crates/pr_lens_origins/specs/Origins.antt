@@ -31,7 +31,7 @@ pub record AreOrigins (narrowed : Bool) (text : List ℕ) (program : Program) (w
   pub streams : origins.streams.items ≡ streams_from 0 tally.instances.items (spots_of text program)
   pub owners : origins.owners ≡ tally.owners
 
--- or none, where the program has more streams than turns are left, or its net passes a limit
+-- or none, where the program leaves no turn of the walk, or its net passes a limit
 abbrev pub AreOriginsOrNone : ℕ → Bool → List ℕ → Program → List ℕ → Option Origins → Type 0
 AreOriginsOrNone columns narrowed text program widths None = AreUntold columns narrowed program widths
 AreOriginsOrNone columns narrowed text program widths (Some origins) = AreOrigins narrowed text program widths origins

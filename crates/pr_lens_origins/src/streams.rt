@@ -93,8 +93,8 @@ fn streams_of(
 }
 
 /// The streams of a program with the places of their names in a text, and the units that are made for each in its net on
-/// so many columns. The equations are narrowed where that is asked for. None where the program has more streams than turns
-/// are left, or its net passes a limit.
+/// so many columns. The equations are narrowed where that is asked for. None where the program leaves no turn of the walk,
+/// or its net passes a limit.
 pub fn origins_of(
     alloc: Global,
     front: Front,

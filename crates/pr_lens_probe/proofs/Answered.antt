@@ -30,10 +30,12 @@ use Rattle.pr_expand_correct.specs.Results.{AreSamples, IsListOf}
 use Rattle.pr_expand_correct.proofs.AgreedPrograms.{widths-exist, widths-found}
 use Rattle.pr_expand_correct.proofs.NumberLaws.{streams-have_lists}
 use Rattle.pr_probe.specs.Instances.{items_listing}
+use Rattle.pr_probe.specs.Operands.{made_world, operand_at, operand_of}
 use Rattle.pr_probe.specs.Probes.{AreAmong, AreNamed, AreSignals, CanProbe, HaveNames, IsProbed, Probe, probe_item, stream_at}
 use Rattle.pr_probe.proofs.Equations.{equations-same}
 use Rattle.pr_probe.proofs.Laws.{probed-signals}
 use Rattle.pr_probe.proofs.Meaning.{outputs_of}
+use Rattle.pr_probe.proofs.Operands.{probed-outputs}
 use Rattle.pr_probe.proofs.Probing.{some-probed}
 use Rattle.pr_probe.proofs.Scope.{probed-lawful}
 use Rattle.pr_lens_probe.specs.declared.asking.Want.{Want}
@@ -41,7 +43,7 @@ use Rattle.pr_lens_probe.specs.Asked.{AreAsked, CanAsk, IsAnswered, IsAsking, co
 use Rattle.pr_lens_probe.specs.Fresh.{fresh_names, is_within, probes_from}
 use Rattle.pr_lens_probe.specs.Given.{AreGiven, HasStreams, HaveKinds, stream_of}
 use Rattle.pr_lens_probe.specs.Kinds.{has_room, is_signed, is_wide, last_of}
-use Rattle.pr_lens_probe.proofs.Given.{lawful-last, zip-last}
+use Rattle.pr_lens_probe.proofs.Given.{last-are, lawful-last, zip-last}
 use Rattle.pr_lens_probe.proofs.KindLaws as laws
 use Rattle.pr_lens_probe.proofs.Names.{fresh, probes-are}
 
@@ -52,6 +54,10 @@ probes-long most number (i ∷ is) = omega (arith, probes-long most (number + 1)
 streams-same : (most number : ℕ) (env : Streams) (is : List Instance) → map (stream_at env) (probes_from most number is) ≡ map (stream_of env) is
 streams-same most number env [] = refl
 streams-same most number env (i ∷ is) = ap (λ (rest : List (Option Stream)). stream_of env i ∷ rest) (streams-same most (number + 1) env is)
+
+operands-same : (most number : ℕ) (program : Program) (is : List Instance) → map (operand_at (made_world program).progress.streams) (probes_from most number is) ≡ map (operand_of program) is
+operands-same most number program [] = refl
+operands-same most number program (i ∷ is) = ap (λ (rest : List Operand). operand_of program i ∷ rest) (operands-same most (number + 1) program is)
 
 -- outputs that ask for streams are probes
 pub stream-outputs : (ps : List Probe) (is : List Item) → AllZip (IsAsking Want.Stream) ps is → is ≡ map probe_item ps
@@ -141,6 +147,11 @@ module _ (program : Program) (most : ℕ) (some : List Instance) (can : CanAsk p
     inputs xs samples n sample there =
         subst (λ (ws : List ℕ). IsRow ws sample) (sym (inputs-of-equations program can.lawful) ∙ (ap input_widths (sym same) ∙ inputs-of-equations probed probes-lawful)) (samples n sample there)
 
+    all-operands : (equations_of probed).outputs ≡ (equations_of program).outputs ++ map (operand_of program) some
+    all-operands =
+        probed-outputs (is_within most) program ps probed last is walk can-probe
+        ∙ ap (λ (os : List Operand). (equations_of program).outputs ++ os) (operands-same most 0 program some)
+
     all-wide : (xs : List (List ℕ)) (widths : List ℕ) → AreWidths (equations_of program).equations widths → AllZip (IsAsWide widths) (equations_of probed).outputs ((signals xs).world.outputs ++ (signals xs).streams)
     all-wide xs widths are =
         let s = signals xs in
@@ -161,6 +172,7 @@ module _ (program : Program) (most : ℕ) (some : List Instance) (can : CanAsk p
       probes-given =
           let outputs = (equations_of probed).outputs in
           record {
+            are = last-are outputs (equations_of program).outputs (map (operand_of program) some) (length some) all-operands (sym (length-map some (operand_of program)));
             lawful = lawful-last (equations_of program).equations outputs (length outputs - length some) (subst (λ (es : List EquationShape). IsFlat es outputs) same flat);
             streams = λ xs.
                 let s = signals xs in

@@ -23,13 +23,14 @@ use Rattle.pr_flat.specs.Widths.{AreWidths, operand_width}
 use Rattle.pr_flat.proofs.ValueLemmas.{length-rows_after}
 use Rattle.pr_lang_meaning.specs.Programs as meant
 use Rattle.pr_lang_meaning.proofs.Pairs.{each-map}
-use Rattle.pr_expand_spec.specs.Programs.{equations_of}
+use Rattle.pr_expand_spec.specs.Programs.{equations_of, items_change, start}
 use Rattle.pr_expand_correct.specs.Outputs.{IsAsWide}
 use Rattle.pr_expand_correct.specs.Results.{IsListOf, output_rows}
+use Rattle.pr_probe.specs.Operands.{operand_of, operand_standing}
 use Rattle.pr_probe.specs.Probes.{numbers_at}
 use Rattle.pr_probe.proofs.Equations.{made_of}
 use Rattle.pr_lens_probe.specs.Given.{AreGiven, AreLawful, HasStreams, HaveKinds, Match, stream_of}
-use Rattle.pr_lens_probe.specs.Kinds.{has_room, is_signed, kinds_of}
+use Rattle.pr_lens_probe.specs.Kinds.{has_room, is_signed, kinds_of, last_of}
 use Rattle.pr_lens_probe.specs.Shown.{columns_of, width_of}
 
 -- ---- two lists, place by place
@@ -45,6 +46,12 @@ zip-cut R [] (y ∷ ys) zs all = absurd all
 zip-cut R (x ∷ xs) (y ∷ ys) zs all = zip-cut R xs ys zs all.1
 
 -- the last of them
+pub last-are : (outputs own more : List Operand) (count : ℕ) → outputs ≡ own ++ more → count ≡ length more → last_of count outputs ≡ more
+last-are outputs own more count are is =
+    let sum : length (own ++ more) ≡ length own + length more = length-append own more in
+    let cut : length outputs - count ≡ length own = omega (arith, ap length are, sum, is) in
+    ap (λ (n : ℕ). drop n outputs) cut ∙ (ap (drop (length own)) are ∙ drop-append_seam own more)
+
 pub zip-last : {A B : Type 0} (R : A → B → Type 0) (xs : List A) (ys zs : List B) (count : ℕ) → count ≡ length zs → AllZip R xs (ys ++ zs) → AllZip R (drop (length xs - count) xs) zs
 zip-last {A} {B} R xs ys zs count is all =
     let long : length (ys ++ zs) ≡ length xs = AllZip-long R xs (ys ++ zs) all in
@@ -101,6 +108,7 @@ lawful-more es os qs a b = record {
 
 pub given-more : (program : Program) (is js : List Instance) (os qs : List Operand) → AreGiven program is os → AreGiven program js qs → AreGiven program (is ++ js) (os ++ qs)
 given-more program is js os qs a b = record {
+  are = ap₂ (λ (k l : List Operand). k ++ l) a.are b.are ∙ sym (map-append (operand_of program) is js);
   lawful = lawful-more (equations_of program).equations os qs a.lawful b.lawful;
   streams = λ xs.
       let first = a.streams xs in
@@ -180,8 +188,13 @@ match-as p q same xs os ss match = record {
       (λ n sample there. subst (λ (l : List Item). IsRow (widths_of_inputs l) sample) (sym same) (samples n sample there)));
 }
 
+-- what an instance stands for where the equations of items end
+abbrev operand_in : List Item → Instance → Operand
+operand_in items i = operand_standing ((items_change 0 items start).progress.streams i.name i.index)
+
 pub given-as : (p q : Program) → p.items.items ≡ q.items.items → (is : List Instance) (os : List Operand) → AreGiven p is os → AreGiven q is os
 given-as p q same is os given = record {
+  are = given.are ∙ ap (λ (l : List Item). map (operand_in l) is) same;
   lawful = subst (λ (es : List EquationShape). AreLawful es os) (equations-as p q same) given.lawful;
   streams = λ xs.
       let one = given.streams xs in

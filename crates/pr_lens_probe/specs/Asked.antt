@@ -1,5 +1,5 @@
 -- Outputs behind the items of a program, which ask for something of its instances.
-use Rattle.std.specs.Prelude.{◌≡◌, ◌+◌, ◌<◌, ◌≤◌, ℕ, true, List, ◌++◌, length, Option, None}
+use Rattle.std.specs.Prelude.{◌≡◌, ◌+◌, ◌*◌, ◌<◌, ◌≤◌, ℕ, true, List, ◌++◌, length, Option, Some, None}
 use Rattle.std.specs.List.{AllZip}
 use Rattle.pr_lang.specs.declared.trees.Expr.{Expr}
 use Rattle.pr_lang.specs.declared.trees.Item.{Item}
@@ -58,6 +58,12 @@ pub record CanAskAll (program : Program) (most : ℕ) (instances : List Instance
   pub all : instances ≡ instances_of program
   pub named : AreNamed (is_within most) instances
   pub statics : HaveNames (is_within most) program.items.items
+
+-- How many instances can be asked for their kinds at a time, where so many turns and equations are made. It is none where no two
+-- equations are left
+abbrev pub IsPart : ℕ → ℕ → Option ℕ → Type 0
+IsPart turns equations None = 16384 < equations + 2
+IsPart turns equations (Some size) = (0 < size) × (turns + size ≤ 65536) × (equations + 2 * size ≤ 16384)
 
 -- the equations of a program with an output more for each of these instances
 pub record IsAnswered (want : Want) (program : Program) (most : ℕ) (some : List Instance) (flat : Flat) : Type 0 where

@@ -1,5 +1,5 @@
 -- The streams of a program's instances: the operands that give them, and their kinds.
-use Rattle.std.specs.Prelude.{◌≡◌, ◌≢◌, ℕ, Bool, true, false, List, map, length, Option, Some, option_map}
+use Rattle.std.specs.Prelude.{◌≡◌, ◌≢◌, ℕ, Bool, true, false, List, [], map, length, Option, Some, option_map}
 use Rattle.std.specs.List.{AllZip, list_all, list_any}
 use Rattle.pr_lang.specs.declared.trees.Program.{Program}
 use Rattle.pr_scope_names.specs.declared.streams.Instance.{Instance}
@@ -13,6 +13,8 @@ use Rattle.pr_lang_meaning.specs.Programs as meant
 use Rattle.pr_expand_spec.specs.Programs.{equations_of}
 use Rattle.pr_expand_correct.specs.Outputs.{IsAsWide}
 use Rattle.pr_expand_correct.specs.Results.{AreSamples, IsListOf}
+use Rattle.pr_probe.specs.Operands.{operand_of}
+use Rattle.pr_lens_probe.specs.declared.kinds.Detail.{Detail}
 use Rattle.pr_lens_probe.specs.Kinds.{kinds_of}
 
 -- the stream that an instance stands for
@@ -43,11 +45,18 @@ pub record AreLawful (equations : List EquationShape) (operands : List Operand) 
   pub given : list_all (is_lawful_output (length equations)) operands ≡ true
   pub outside : (rec i : ℕ) → DependsOnPast equations rec i → i ≢ rec → list_any (reads_equation i) operands ≡ false
 
--- lawful operands that give the streams of these instances, whatever the samples
+-- The operands that these instances stand for in the program's equations. They are lawful, and give the instances' streams,
+-- whatever the samples
 pub record AreGiven (program : Program) (instances : List Instance) (operands : List Operand) : Type 0 where
+  pub are : operands ≡ map (operand_of program) instances
   pub lawful : AreLawful (equations_of program).equations operands
   pub streams : (xs : List (List ℕ)) → GiveStreams program xs instances operands
 
 -- these are the kinds of these instances, whatever the samples
 abbrev pub HaveKinds : Program → List Instance → List Bool → Type 0
 HaveKinds program instances kinds = (xs : List (List ℕ)) (outputs streams : List Stream) → HasStreams program xs instances outputs streams → kinds ≡ kinds_of program streams
+
+-- their kinds where these are asked for, else none
+abbrev pub AreKinds : Detail → Program → List Instance → List Bool → Type 0
+AreKinds Detail.Kinds program instances kinds = HaveKinds program instances kinds
+AreKinds Detail.Streams program instances kinds = kinds ≡ []

@@ -10,8 +10,9 @@ use Rattle.pr_flat.specs.Widths.{AreWidths, operand_width}
 use Rattle.pr_expand_spec.specs.Programs.{equations_of}
 use Rattle.pr_expand_correct.specs.Results.{AreSamples, output_rows}
 use Rattle.pr_probe.specs.Instances.{instances_of}
+use Rattle.pr_probe.specs.Operands.{operand_of}
 use Rattle.pr_probe.specs.Probes.{numbers_at}
-use Rattle.pr_lens_probe.specs.Given.{HasStreams, HaveKinds}
+use Rattle.pr_lens_probe.specs.Given.{HasStreams}
 use Rattle.pr_lens_probe.specs.declared.probing.Probed.{Probed}
 use Rattle.pr_lens_probe.specs.declared.probing.ProbeFault.{ProbeFault}
 use Rattle.pr_lens_probe.specs.declared.probing.ProbeFault.TheVariants.{Turns, Memory}
@@ -33,13 +34,14 @@ pub record HasColumns (program : Program) (operands : List Operand) (xs : List (
   pub wide : (widths : List ℕ) → AreWidths (equations_of program).equations widths → map (operand_width widths) operands ≡ map width_of (outputs ++ streams)
   pub are : (widths : List ℕ) → AreWidths (equations_of program).equations widths → AreSamples program xs → output_rows (equations_of program).equations operands widths xs ≡ columns_of (length xs) outputs streams
 
--- the items, the equations and the instances of a program; what its outputs and then its instances give; and the kinds of these
+-- The items, the equations and the instances of a program. Its outputs are those of the program, and then the operands that the
+-- instances stand for: they give these columns
 pub record Shows (program : Program) (p : Probed) : Type 0 where
   pub items : p.scoped.program.items.items ≡ program.items.items
   pub instances : p.instances.items ≡ instances_of program
   pub equations : shapes_of p.flat.equations.items ≡ (equations_of program).equations
+  pub outputs : p.flat.outputs.items ≡ (equations_of program).outputs ++ map (operand_of program) (instances_of program)
   pub columns : (xs : List (List ℕ)) → HasColumns program p.flat.outputs.items xs
-  pub kinds : HaveKinds program (instances_of program) p.kinds.items
 
 -- no turn is left in which an instance is asked for
 abbrev pub IsTooLong : Program → ProbeFault → Type 0

@@ -2,7 +2,7 @@
 //!
 //! A program with an input `x` and `let s = x + 1;` gets two outputs, which show `x` and `s`. Their names are none of the
 //! program's, the equations stay the same, and so do their widths. So what the outputs give are the streams that the
-//! names stand for. Other outputs tell which of the streams are signed.
+//! names stand for. Where that is asked, other outputs tell which of the streams are signed.
 //!
 //! An output takes a turn of the walk, and two equations where it tells a kind. So the outputs are added for as many
 //! instances as there is room for, taken back, and added for the next ones.
@@ -16,4 +16,5 @@ mod parts;
 mod passes;
 mod probing;
 
+pub use kinds::Detail;
 pub use probing::{ProbeFault, Probed, probe};

@@ -1,12 +1,15 @@
 //! Equations whose last outputs show the stream instances of a program.
 
-ghost use Rattle.std.specs.Prelude.{◌≡◌, ◌+◌, ◌*◌, ◌<◌, ◌≤◌, ◌++◌, true, IfErr, IfOk, length};
+ghost use Rattle.std.specs.Prelude.{◌≡◌, ◌<◌, ◌≤◌, ◌++◌, true, IfErr, IfOk, length};
 ghost use Rattle.pr_lang_meaning.specs.Programs.{has_widths};
 ghost use Rattle.pr_expand_spec.specs.Programs.{equations_of};
 ghost use Rattle.pr_flat.specs.Flats.{equations_of as flat_equations};
-ghost use Rattle.pr_lens_probe.specs.Given.{AreLawful};
+ghost use Rattle.pr_probe.specs.Instances.{instances_of};
+ghost use Rattle.pr_lens_probe.specs.Asked.{IsPart};
+ghost use Rattle.pr_lens_probe.specs.Given.{AreKinds, AreLawful};
 ghost use Rattle.pr_lens_probe.specs.Shown.{IsTooLong, Shows};
 
+use crate::kinds::{Detail, tell_all};
 use crate::lengths::longest;
 use crate::parts::show_all;
 use crate::passes::expanded;
@@ -32,7 +35,7 @@ pub struct Probed {
     pub flat: Flat,
     /// What the last outputs show, in text order and with loops unrolled.
     pub instances: Vec<Instance>,
-    /// Which of them are signed; none of a program with more than 16,382 equations.
+    /// Which of them are signed, where that was asked; none of a program with more than 16,382 equations.
     pub kinds: Vec<bool>,
 }
 
@@ -70,32 +73,31 @@ fn with_outputs(flat: Flat, more: &[Operand]) -> Result<Flat, AllocError>
     Ok(Flat { equations, outputs })
 }
 
-/// How many instances are asked for at a time, where so many turns and equations are made; one that takes two equations
-/// counts where two are left.
-fn part_size(turns: usize, equations: usize) -> usize
+/// How many instances are asked for their kinds at a time, where so many turns and equations are made. Each takes a turn
+/// and two equations.
+fn part_of(turns: usize, equations: usize) -> Option<usize>
     requires turns { turns < 65536 }
     requires equations { equations ≤ 16384 }
-    ensures some { 0 < result }
-    ensures turns { turns + result ≤ 65536 }
-    ensures equations { equations + 2 ≤ 16384 → equations + 2 * result ≤ 16384 }
+    ensures { IsPart turns equations result }
 {
-    let left = MOST_TURNS - turns;
     let pairs = (MOST_EQUATIONS - equations) / 2;
     if pairs == 0 {
-        return left;
+        return None;
     }
-    left.min(pairs)
+    Some(pairs.min(MOST_TURNS - turns))
 }
 
-/// The equations of a program with outputs more, which give the streams of its instances, and the kinds of these.
+/// The equations of a program with outputs more, which give the streams of its instances; and the kinds of these, where
+/// that is asked.
 ///
 /// # Errors
 ///
 /// `Turns` where the program leaves none of 65,536 turns, `Memory` where memory is wanting.
-pub fn probe(alloc: Global, scoped: Scoped) -> Result<Probed, ProbeFault>
+pub fn probe(alloc: Global, scoped: Scoped, detail: Detail) -> Result<Probed, ProbeFault>
     requires widths { has_widths scoped.program ≡ true }
     requires few { length (equations_of scoped.program).equations ≤ 16384 }
     ensures shows { IfOk result (λ p. Shows scoped.program p) }
+    ensures kinds { IfOk result (λ p. AreKinds detail scoped.program (instances_of scoped.program) p.kinds.items) }
     ensures refused { IfErr result (λ fault. IsTooLong scoped.program fault) }
 {
     if scoped.turns as usize >= MOST_TURNS {
@@ -104,14 +106,15 @@ pub fn probe(alloc: Global, scoped: Scoped) -> Result<Probed, ProbeFault>
     let instances = instances(alloc, &scoped.program)?;
     let flat = expanded(alloc, &scoped)?;
     let most = longest(&scoped.program.items, &instances);
-    let size = part_size(scoped.turns as usize, flat.equations.len());
-    let tells = flat.equations.len() + 2 <= MOST_EQUATIONS;
+    let part = part_of(scoped.turns as usize, flat.equations.len());
+    let left = MOST_TURNS - scoped.turns as usize;
     let Scoped {
         program,
         inputs,
         turns,
     } = scoped;
-    let shown = show_all(alloc, program, most, &instances, size, tells)?;
+    let told = tell_all(alloc, program, most, &instances, part, detail)?;
+    let shown = show_all(alloc, told.program, most, &instances, left)?;
     let flat = with_outputs(flat, &shown.operands)?;
     Ok(Probed {
         scoped: Scoped {
@@ -121,6 +124,6 @@ pub fn probe(alloc: Global, scoped: Scoped) -> Result<Probed, ProbeFault>
         },
         flat,
         instances,
-        kinds: shown.kinds,
+        kinds: told.kinds,
     })
 }

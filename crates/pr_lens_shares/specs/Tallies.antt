@@ -34,7 +34,7 @@ pub record IsTally (narrowed : Bool) (program : Program) (widths : List ℕ) (ta
   pub are : OfReadyBy narrowed program widths (λ ready news. IsTallyIn probed tally (plan_of ready news (equations_of program).outputs))
 
 -- ---- none
--- its streams are too many to be shown
+-- its streams are not shown: it leaves no turn of the walk
 abbrev pub IsUnshown : Program → ShareFault → Type 0
 IsUnshown program Turns = IsTooLong program probe.Turns
 IsUnshown program (Limit which) = ⊥

@@ -88,7 +88,7 @@ fn greatest_shares(
 
 /// The streams of a program for which most units are made in its net on so many columns: at most so many, the greatest
 /// count first, and of equal ones the first in the text. The equations are narrowed where that is asked for. None where the
-/// program has more streams than turns are left, or its net passes a limit.
+/// program leaves no turn of the walk, or its net passes a limit.
 pub fn most_shares(
     alloc: Global,
     front: Front,

@@ -20,7 +20,7 @@ use pr_compile_front::Front;
 use pr_cut_plan::CutFault;
 use pr_flat::{Flat, Operand};
 use pr_lens_fits::ready_of;
-use pr_lens_probe::{ProbeFault, Probed, probe};
+use pr_lens_probe::{Detail, ProbeFault, Probed, probe};
 use pr_scope::Scoped;
 use pr_scope_names::Instance;
 use pr_width::Widths;
@@ -41,7 +41,7 @@ pub struct Tally {
 /// Why the units of streams are not told.
 #[derive(Debug, Drop, Error)]
 pub enum ShareFault {
-    /// The program has more streams than turns are left.
+    /// The program leaves no turn of the walk.
     #[error("the walk has too many turns")]
     Turns,
     /// Its net passes a limit.
@@ -81,7 +81,7 @@ fn shown(alloc: Global, scoped: Scoped) -> Result<Probed, ShareFault>
     ensures shows { IfOk result (λ p. Shows scoped.program p) }
     ensures refused { IfErr result (IsUnshown scoped.program) }
 {
-    match probe(alloc, scoped) {
+    match probe(alloc, scoped, Detail::Streams) {
         Ok(probed) => Ok(probed),
         Err(ProbeFault::Turns) => Err(ShareFault::Turns),
         Err(ProbeFault::Memory(error)) => Err(ShareFault::Memory(error)),

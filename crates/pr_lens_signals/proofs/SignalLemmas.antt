@@ -36,6 +36,7 @@ use Rattle.pr_tool_modes.specs.Programs.{inputs_of}
 use Rattle.pr_tool_modes.specs.Samples.{fed_in}
 use Rattle.pr_tool_modes.proofs.FileLemmas.{rose_earlier}
 use Rattle.pr_tool_modes.proofs.SampleLemmas.{some_file}
+use Rattle.pr_lens_probe.specs.Given.{HaveKinds}
 use Rattle.pr_lens_probe.specs.Kinds.{has_room, is_signed}
 use Rattle.pr_lens_probe.specs.Shown.{HasColumns, Shows, columns_of, width_of}
 use Rattle.pr_lens_probe.proofs.Given.{equations-as}
@@ -91,15 +92,15 @@ rows-mean program s xs none shows widths lawful =
     ap (λ (es : List EquationShape). given_all es s.probed.flat.outputs.items s.widths xs) shows.equations
     ∙ (shows.columns xs).are s.widths widths (samples-are program s xs none shows lawful)
 
-pub showing-ready : (program : Program) (s : Showing) → Shows program s.probed → AreWidths (equations_of program).equations s.widths → IsReady s
-showing-ready program s shows widths = record {
+pub showing-ready : (program : Program) (s : Showing) → Shows program s.probed → HaveKinds program (instances_of program) s.probed.kinds.items → AreWidths (equations_of program).equations s.widths → IsReady s
+showing-ready program s shows have widths = record {
   equations = shows.equations ∙ sym (same-equations program s shows);
   widths = subst (λ es. AreWidths es s.widths) (sym (same-equations program s shows)) widths;
   kinds =
       (let has = (shows.columns []).has in
       let outputs = (shows.columns []).outputs in
       let streams = (shows.columns []).streams in
-      let told : length s.probed.kinds.items ≡ length streams = ap length (shows.kinds [] outputs streams has) ∙ length-map streams _ in
+      let told : length s.probed.kinds.items ≡ length streams = ap length (have [] outputs streams has) ∙ length-map streams _ in
       let count : length streams ≡ length s.probed.instances.items = sym (length-map streams Some) ∙ (sym (ap length has.each) ∙ (length-map (instances_of program) _ ∙ sym (ap length shows.instances))) in
       omega (arith, told, count, s.probed.kinds.ok.0, s.probed.instances.ok.0));
   front = (let all = counted program _ [] (shows.columns []) (length s.probed.instances.items) (sym (ap length shows.instances)) in omega (arith, all, s.probed.flat.outputs.ok.0, s.probed.instances.ok.0));
@@ -125,7 +126,7 @@ module _ (manner : Manner) (program : Program) (s : Showing) (pen : Pen) (lawful
       let all = counted program _ xs has (length s.probed.instances.items) (sym (ap length is.showing.shows.instances)) in
       let fits : length has.outputs ≡ front_of s = omega (arith, all, s.probed.flat.outputs.ok.0, s.probed.instances.ok.0) in
       let widths : drop (front_of s) (all_widths s) ≡ map width_of has.streams = cut-widths (front_of s) (all_widths s) has.outputs has.streams (has.wide s.widths is.showing.widths) fits in
-      let kinds = is.showing.shows.kinds xs has.outputs has.streams has.has in
+      let kinds = is.showing.kinds xs has.outputs has.streams has.has in
       let looks : all_looks s ≡ map (look_in program) has.streams = zip2_of_maps look_with (λ t. has_room program && is_signed t) width_of has.streams kinds widths in
       let tracks : pen.tracks.items ≡ tracks_of manner.signed (instances_of program) (map (look_in program) has.streams) = is.tracks ∙ ap₂ (tracks_of manner.signed) is.showing.shows.instances looks in
       let rows = ap (cut_rows (front_of s)) (rows-mean program s xs lawful is.showing.shows is.showing.widths inputs) ∙ cut-columns (front_of s) has.outputs has.streams (range_with_len 0 (length xs)) fits in

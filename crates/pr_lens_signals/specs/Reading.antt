@@ -10,6 +10,7 @@ use Rattle.pr_flat.specs.Shape.{shapes_of}
 use Rattle.pr_flat.specs.Values.{input_widths}
 use Rattle.pr_flat.specs.Widths.{AreWidths, operand_width}
 use Rattle.pr_expand_spec.specs.Programs.{equations_of}
+use Rattle.pr_probe.specs.Instances.{instances_of}
 use Rattle.pr_source.specs.Outputs.{given_all}
 use Rattle.pr_run.specs.Setting.{IsFresh}
 use Rattle.pr_samples.specs.declared.feed.Feed.{Feed}
@@ -17,6 +18,7 @@ use Rattle.pr_samples.specs.declared.feed.Got.{Got}
 use Rattle.pr_samples.specs.Feed.{widths_of, limit_of, most_of, fed, ReadsOn}
 use Rattle.pr_tool_answers.specs.declared.answers.Answer.{Answer}
 use Rattle.pr_tool_modes.specs.Evaluations.{AreAll}
+use Rattle.pr_lens_probe.specs.Given.{HaveKinds}
 use Rattle.pr_lens_probe.specs.Shown.{Shows}
 use Rattle.pr_lens_tracks.specs.declared.pens.Pen.{Pen}
 use Rattle.pr_lens_tracks.specs.declared.looks.Look.{Look}
@@ -25,9 +27,10 @@ use Rattle.pr_lens_tracks.specs.Texts.{HasWritten}
 use Rattle.pr_lens_signals.specs.Manners.{AreNamed, Manner, look_with, tracks_of}
 use Rattle.pr_lens_signals.specs.declared.probing.Showing.{Showing}
 
--- the instances of a program are shown behind its outputs, and these are the widths of its equations
+-- the instances of a program are shown behind its outputs, with their kinds, and these are the widths of its equations
 pub record IsShowing (program : Program) (s : Showing) : Type 0 where
   pub shows : Shows program s.probed
+  pub kinds : HaveKinds program (instances_of program) s.probed.kinds.items
   pub widths : AreWidths (equations_of program).equations s.widths
 
 -- how many outputs stand before the instances

@@ -8,12 +8,13 @@ ghost use Rattle.pr_lens_signals.specs.Signals.{IsUnshown};
 
 use pr_base::Cap;
 use pr_compile_front::Front;
-use pr_lens_probe::{ProbeFault, Probed, probe};
+use pr_lens_probe::{Detail, ProbeFault, Probed, probe};
 use pr_tool_answers::Answer;
 use pr_width::Widths;
 use std::alloc::Global;
 
-/// A program, its equations with an output more for each of its instances, and their widths.
+/// A program, its equations with an output more for each of its instances, and their widths. The
+/// kinds of the instances are told.
 #[derive(Drop)]
 pub struct Showing {
     pub probed: Probed,
@@ -33,7 +34,7 @@ pub fn showing_of(alloc: Global, front: Front) -> Result<Showing, Answer>
         flat: _,
         widths,
     } = front;
-    match probe(alloc, scoped) {
+    match probe(alloc, scoped, Detail::Kinds) {
         Ok(probed) => Ok(Showing { probed, widths }),
         Err(ProbeFault::Turns) => Err(Answer::Limit { which: Cap::Turns }),
         Err(ProbeFault::Memory(_)) => Err(Answer::Memory),

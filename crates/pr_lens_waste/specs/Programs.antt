@@ -42,7 +42,7 @@ pub record HasLines (text : List ℕ) (tails : Tails) : Type 0 where
 abbrev pub PassesLimit : Program → List ℕ → Cap → Type 0
 PassesLimit program widths cap = limit_passed most_columns (net_of (equations_of program).equations widths (equations_of program).outputs) ≡ Some cap
 
--- nothing is told of a text that is refused, of one with more instances than turns are left, and of one whose net passes a limit
+-- nothing is told of a text that is refused, of one that leaves no turn of the walk, and of one whose net passes a limit
 pub data IsUntold (text : List ℕ) : Type 0 where
   Refused : (fault : FrontFault) → IsRefusal text fault → IsUntold text
   Long : (program : Program) (widths : List ℕ) → HasWidths text program widths → IsTooLong program probe.Turns → IsUntold text

@@ -13,7 +13,7 @@ use thiserror::Error;
 /// Why nothing is told of the lines of a text.
 #[derive(Debug, Drop, Error)]
 pub enum LineFault {
-    /// The text is refused, or has too many instances.
+    /// The text is refused, leaves no turn of the walk, or makes a net that passes a limit.
     #[error("nothing is told")]
     Untold,
     #[error("out of memory")]

@@ -8,7 +8,7 @@ use crate::faults::LineFault;
 use crate::lines::{Lines, lines_over, no_lines};
 use pr_compile_front::{Front, read_program};
 use pr_cut_plan::plan_of;
-use pr_lens_probe::probe;
+use pr_lens_probe::{Detail, probe};
 use pr_lens_shares::shown_operands;
 use std::alloc::{AllocError, Global};
 
@@ -28,14 +28,14 @@ fn found_lines(alloc: Global, text: &[u8]) -> Result<Lines, LineFault>
         widths,
     } = front;
     let plan = plan_of(alloc, &flat, &widths, MOST_COLUMNS)?;
-    let probed = probe(alloc, scoped)?;
+    let probed = probe(alloc, scoped, Detail::Streams)?;
     let operands = shown_operands(&probed);
     let lines = lines_over(alloc, &flat, &plan.reached, &probed.instances, operands)?;
     Ok(lines)
 }
 
 /// What is known of the names of a text's program: which of their last instances are delays that no output needs. Nothing,
-/// where the text is refused, has too many instances, or makes a net that passes a limit.
+/// where the text is refused, leaves no turn of the walk, or makes a net that passes a limit.
 pub fn lines_of(alloc: Global, text: &[u8]) -> Result<Lines, AllocError>
     requires { length text.now ≤ 1048576 }
     ensures { IfOk result (λ lines. AreLines text.now (lines_in lines)) }

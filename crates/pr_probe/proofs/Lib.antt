@@ -4,6 +4,7 @@ pub mod Equations
 pub mod Known
 pub mod Meaning
 pub mod Laws
+pub mod Operands
 mod Listing
 pub mod Probing
 pub mod ListWeights

@@ -17,18 +17,24 @@ ghost use Rattle.pr_scope.specs.Walk.{World, offence, program_walk};
 ghost use Rattle.pr_lang_meaning.specs.Programs.{has_widths, out};
 ghost use Rattle.pr_expand_spec.specs.Programs.{equations_of};
 ghost use Rattle.pr_probe.specs.Instances.{instances_of, with_all};
+ghost use Rattle.pr_probe.specs.Operands.{made_world, operand_at};
 ghost use Rattle.pr_probe.specs.Probes.{AreSignals, CanProbe, CanShow, IsProbed, Probe, numbers_at, probes_of};
 
 pub use lists::{list_stmt, list_stmts, value_of};
 pub use programs::{callee, entries_of, instances};
 
-/// The probed program keeps the rules of scope, makes the same equations, and has widths if the program has.
+/// The probed program keeps the rules of scope, makes the same equations, and has widths if the program has. Its outputs
+/// give what the program's outputs give, and then the operands that the instances stand for.
 pub fn probed_law()
     ensures lawful { (test : List ℕ → Bool) (program : Program) (probes : List Probe) (probed : Program) (last : World) →
         IsProbed program probes probed → program_walk program ≡ Ok last → CanProbe test probes last →
         offence probed ≡ None }
     ensures equations { (program : Program) (probes : List Probe) (probed : Program) → IsProbed program probes probed →
         (equations_of probed).equations ≡ (equations_of program).equations }
+    ensures outputs { (test : List ℕ → Bool) (program : Program) (probes : List Probe) (probed : Program) (last : World) →
+        IsProbed program probes probed → program_walk program ≡ Ok last → CanProbe test probes last →
+        (equations_of probed).outputs ≡
+        (equations_of program).outputs ++ map (operand_at (made_world program).progress.streams) probes }
     ensures widths { (test : List ℕ → Bool) (program : Program) (probes : List Probe) (probed : Program) (last : World) →
         IsProbed program probes probed → program_walk program ≡ Ok last → CanProbe test probes last →
         has_widths program ≡ true → has_widths probed ≡ true }

@@ -1,10 +1,10 @@
-use Rattle.std.proofs.Common.{◌≡◌, ◌∙◌, true, false, List, length, map, replicate, rules, ap, sym, subst, arith}
+use Rattle.std.proofs.Common.{◌∙◌, List, length, map, ap, sym, subst, arith}
 use Rattle.pr_flat.specs.declared.equations.Operand.{Operand}
 use Rattle.pr_flat.specs.Shape.{EquationShape}
 use Rattle.pr_flat.specs.Widths.{AreWidths}
 use Rattle.pr_expand_correct.proofs.AgreedPrograms.{widths-exist}
 use Rattle.pr_lens_probe.specs.Kinds.{is_wide, last_of}
-use Rattle.pr_lens_probe.proofs.Answered.{kinds-lawful, kinds-long, kinds-told, kinds-untold, kinds-widths}
+use Rattle.pr_lens_probe.proofs.Answered.{kinds-lawful, kinds-long, kinds-told, kinds-widths}
 use Rattle.pr_lens_probe.proofs.kinds.kinds_of.Goals as goal
 
 pub solved-requires : goal.solved-requires
@@ -19,17 +19,10 @@ wide_outputs-requires-clause-count c =
     let long = kinds-long c.args.program c.args.most c.args.some.now c.requires.able a.asked a.are in
     omega (arith, long, ap length a.outputs, c.in_ok-asked.asked.flat.outputs.ok.0)
 
-pub returns-then-not-tells-clause-kinds : goal.returns-then-not-tells-clause-kinds
-returns-then-not-tells-clause-kinds c =
-    let none : c.args.tells ≡ false = grind (arith, c.if-not-tells.true) in
-    let are : c.in_ok-kinds.kinds.items ≡ replicate (length c.args.some.now) false = search rules in
-    kinds-untold c.args.program c.args.some.now c.in_ok-kinds.kinds.items (sym c.requires.tells ∙ none) are
-
 pub returns-clause-kinds : goal.returns-clause-kinds
 returns-clause-kinds c =
     let a = c.in_ok-asked.ensures.answered in
     let some = c.args.some.now in
-    let tells : c.args.tells ≡ true = grind (arith, c.if-not-tells.false) in
-    kinds-told c.args.program c.args.most some c.requires.able a.asked a.are c.in_ok-widths.widths c.in_ok-kinds-2.kinds.items (sym c.requires.tells ∙ tells)
+    kinds-told c.args.program c.args.most some c.requires.able a.asked a.are c.in_ok-widths.widths c.in_ok-kinds.kinds.items c.requires.room
     (subst (λ (es : List EquationShape). AreWidths es c.in_ok-widths.widths) a.equations c.in_ok-widths.ensures)
-    (c.in_ok-kinds-2.ensures ∙ ap (λ (os : List Operand). map (is_wide c.in_ok-widths.widths) (last_of (length some) os)) a.outputs)
+    (c.in_ok-kinds.ensures ∙ ap (λ (os : List Operand). map (is_wide c.in_ok-widths.widths) (last_of (length some) os)) a.outputs)

@@ -1,12 +1,12 @@
-use Rattle.std.proofs.Common.{◌∙◌, ◌+◌, ◌++◌, ◌≤◌, List, [], length, nat_le, take, refl, ap, subst, sym, arith}
+use Rattle.std.proofs.Common.{◌∙◌, ◌++◌, ◌≤◌, List, [], length, take, refl, subst, sym, arith}
 use Rattle.std.specs.List.{slice_range}
 use Rattle.std.proofs.lemmas.List.{take_all}
 use Rattle.pr_flat.specs.Shape.{EquationShape}
 use Rattle.pr_scope_names.specs.declared.streams.Instance.{Instance}
-use Rattle.pr_lens_probe.specs.Given.{AreGiven, HaveKinds}
+use Rattle.pr_lens_probe.specs.Given.{AreGiven}
 use Rattle.pr_lens_probe.proofs.Answered.{can-as}
-use Rattle.pr_lens_probe.proofs.Given.{equations-as, given-as, kinds-as, kinds-none}
-use Rattle.pr_lens_probe.proofs.Runs.{can-part, given-none, part-long, part-more}
+use Rattle.pr_lens_probe.proofs.Given.{equations-as, given-as}
+use Rattle.pr_lens_probe.proofs.Runs.{can-part, given-none, part-more}
 use Rattle.pr_lens_probe.proofs.parts.show_all.Goals as goal
 
 pub parts-init : goal.parts-init
@@ -16,7 +16,6 @@ parts-init c =
       within = omega arith;
       items = refl;
       given = subst (AreGiven p []) (sym c.new.ensures.items) (given-none p c.requires.able.lawful c.requires.able.widths (omega (arith, c.requires.able.turns)));
-      kinds = subst (HaveKinds p []) (sym c.new-2.ensures.items) (kinds-none p);
     }
 
 pub show_more-requires-clause-able : goal.show_more-requires-clause-able
@@ -29,16 +28,6 @@ show_more-requires-clause-able c =
 pub show_more-requires-clause-few : goal.show_more-requires-clause-few
 show_more-requires-clause-few c = subst (λ (es : List EquationShape). length es ≤ 16384) (equations-as c.args.program c.parts.shown.program (sym c.parts.invariant.items)) c.requires.able.few
 
-pub show_more-requires-clause-tells : goal.show_more-requires-clause-tells
-show_more-requires-clause-tells c = c.requires.tells ∙ ap (λ (es : List EquationShape). nat_le (length es + 2) 16384) (equations-as c.args.program c.parts.shown.program (sym c.parts.invariant.items))
-
-pub show_more-requires-clause-room : goal.show_more-requires-clause-room
-show_more-requires-clause-room c = λ tells.
-    let end = c.min-end.result in
-    let long = part-long c.args.instances.now c.parts.at end c.args.size (omega (arith, c.min-end.ensures)) in
-    let same = ap (λ (es : List EquationShape). length es) (equations-as c.args.program c.parts.shown.program (sym c.parts.invariant.items)) in
-    omega (arith, long, same, c.requires.room tells)
-
 pub parts-preserved : goal.parts-preserved
 parts-preserved c =
     let p = c.args.program in
@@ -49,18 +38,13 @@ parts-preserved c =
     let end = c.min-end.result in
     let before = take at is in
     let part = slice_range is at end in
-    let whole = part-more is at end (omega (arith, c.parts-test.true, c.min-end.ensures)) in
+    let shown = c.in_ok-shown.shown.operands.items in
     record {
       within = omega (arith, c.min-end.ensures);
       items = c.in_ok-shown.ensures.items ∙ same;
-      given = subst (λ (l : List Instance). AreGiven p l c.in_ok-shown.shown.operands.items) whole
-          (given-as q p same (before ++ part) c.in_ok-shown.shown.operands.items (c.in_ok-shown.ensures.given before (given-as p q (sym same) before c.parts.shown.operands.items c.parts.invariant.given)));
-      kinds = subst (λ (l : List Instance). HaveKinds p l c.in_ok-shown.shown.kinds.items) whole
-          (kinds-as q p same (before ++ part) c.in_ok-shown.shown.kinds.items (c.in_ok-shown.ensures.kinds before (kinds-as p q (sym same) before c.parts.shown.kinds.items c.parts.invariant.kinds)));
+      given = subst (λ (l : List Instance). AreGiven p l shown) (part-more is at end (omega (arith, c.parts-test.true, c.min-end.ensures)))
+          (given-as q p same (before ++ part) shown (c.in_ok-shown.ensures.given before (given-as p q (sym same) before c.parts.shown.operands.items c.parts.invariant.given)));
     }
 
 pub returns-clause-given : goal.returns-clause-given
 returns-clause-given c = subst (λ (l : List Instance). AreGiven c.args.program l c.parts.shown.operands.items) (take_all c.parts.at c.args.instances.now c.parts-test.false) c.parts.invariant.given
-
-pub returns-clause-kinds : goal.returns-clause-kinds
-returns-clause-kinds c = subst (λ (l : List Instance). HaveKinds c.args.program l c.parts.shown.kinds.items) (take_all c.parts.at c.args.instances.now c.parts-test.false) c.parts.invariant.kinds
