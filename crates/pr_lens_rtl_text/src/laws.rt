@@ -17,13 +17,14 @@ ghost use Rattle.pr_lens_rtl_text.specs.Modules.{IsRtlText};
 use pr_lens_rtl::{driven_law, kept_law};
 
 /// The clock, the ports of distinct names and distinct vectors have distinct names, and none of these is a word of Verilog or
-/// of SystemVerilog.
+/// of SystemVerilog. No module has the name of a test bench.
 pub fn names_law()
     ensures apart { (names : List (List ℕ)) (nets : List Net) → All IsName names → AllPairs (λ a b. a ≢ b) names
         → All (IsBelow (2 ^ 32)) nets → AllPairs (λ m n. m ≢ n) nets
         → AllPairs (λ a b. a ≢ b) (codes "clock" ∷ (map port_name names ++ map net_text nets)) }
     ensures plain { (names : List (List ℕ)) (nets : List Net)
         → All (λ name. is_reserved name ≡ false) (codes "clock" ∷ (map port_name names ++ map net_text nets)) }
+    ensures bench { (name : List ℕ) → port_name name ≢ codes "bench" }
 {}
 
 /// What is known of a text that was written for a program and its configuration: in every run of its module from a reset,
