@@ -1,6 +1,6 @@
 -- Samples that a feed gave, and the lines that are made of them.
-use Rattle.std.proofs.Common.{◌≡◌, ◌≢◌, ◌+◌, ◌<◌, ◌≤◌, ◌^◌, ℕ, List, [], ◌∷◌, ◌++◌, length, map, reverse, take, None, Some, Option, IfSome, Result, Err, IfErr, refl, sym, ap, ap₂, ◌∙◌, subst, arith}
-use Rattle.std.proofs.lemmas.List.{length-append, map-append, take_all}
+use Rattle.std.proofs.Common.{◌≡◌, ◌≢◌, ◌+◌, ◌<◌, ◌≤◌, ◌^◌, ℕ, List, [], ◌∷◌, ◌++◌, length, map, reverse, take, None, Some, Option, IfSome, Result, Err, IfErr, inl, inr, refl, sym, ap, ap₂, ◌∙◌, subst, arith}
+use Rattle.std.proofs.lemmas.List.{length-append, map-append}
 use Rattle.pr_edge.specs.Files.{Told, OfFile, IsMissing, HasReadCause}
 use Rattle.pr_flat.specs.declared.equations.Operand.{Operand}
 use Rattle.pr_flat.specs.Shape.{EquationShape}
@@ -13,7 +13,7 @@ use Rattle.pr_samples.specs.declared.feed.Got.{Got}
 use Rattle.pr_samples.specs.Fed.{Fed, Ending, BadSample, Limit, fed_of}
 use Rattle.pr_samples.specs.Feed.{name_of, given_of, fed, SameFile, StandsFor, Begins, IsSeen, ReadsOn, IsGiven, Gives}
 use Rattle.pr_samples.specs.Got.{given_by}
-use Rattle.pr_samples.proofs.SeenLemmas.{begins_itself, both_of}
+use Rattle.pr_samples.proofs.SeenLemmas.{begins_itself}
 use Rattle.pr_source.specs.declared.evaluator.Evaluator.{Evaluator}
 use Rattle.pr_source.specs.Outputs.{given, given_all}
 use Rattle.pr_source.specs.Standing.{Stands}
@@ -31,9 +31,9 @@ use Rattle.pr_lens_bench.specs.declared.trials.NoBench.{NoBench}
 use Rattle.pr_lens_bench.specs.declared.trials.NoBench.TheVariants.{Long, Ended}
 use Rattle.pr_lens_bench.specs.declared.reading.Lines.{Lines}
 use Rattle.pr_lens_bench.specs.Cells.{row_text}
-use Rattle.pr_lens_bench.specs.Texts.{before_text, behind_text, bench_text, lines_text}
+use Rattle.pr_lens_bench.specs.Texts.{before_text, behind_text, bench_on, lines_text}
 use Rattle.pr_lens_bench.specs.Reading.{HasLines, HasLongLines, IsCut, IsNotShort, with_lines}
-use Rattle.pr_lens_bench.specs.Benches.{IsBench, IsLongBench, IsUnbenched, EndsSo}
+use Rattle.pr_lens_bench.specs.Benches.{IsBench, HasLongStart, HasLongWhole, IsUnbenched, EndsSo}
 use Rattle.pr_lens_bench.proofs.CellLemmas.{rows_more}
 
 -- a feed that began as this one has given these samples, the evaluator was given them, and these are their lines
@@ -121,8 +121,8 @@ module _ (told : Told) (program : Program) (equations : List EquationShape) (out
     counted = has.counted;
   }
 
-  pub made_long : most_text_bytes < length text → HasLongLines told program plan first f
-  made_long long = record {
+  pub made_long : (IsMissing told (name_of f) → ⊥) → most_text_bytes < length text → HasLongLines told program plan first f
+  made_long there long = record {
     samples = has.samples;
     reads = record {
       bytes = has.reads.bytes;
@@ -130,6 +130,7 @@ module _ (told : Told) (program : Program) (equations : List EquationShape) (out
       began = has.reads.began;
       holds = λ file begins. (given_of f, (has.reads.holds file begins).samples);
     };
+    there = there;
     long = subst (λ (t : List ℕ). most_text_bytes < length t) lines_mean long;
   }
 
@@ -139,32 +140,23 @@ unfolding fed_at_most
 long_fed widths f file is =
     ap (λ (ws : List ℕ). fed_of ws f.limit f.most file) is.inputs ∙ (ap (λ (n : ℕ). fed_of widths n f.most file) is.limit ∙ ap (λ (n : ℕ). fed_of widths (2 ^ 44) n file) is.most)
 
-take_whole : (samples xs : List (List ℕ)) → samples ≡ xs → samples ≡ take (length samples) xs
-take_whole samples xs e = e ∙ sym (take_all (length samples) xs (omega (arith, ap length e)))
-
-lines_longer : (a b c : List ℕ) → length b ≤ length (a ++ b ++ c)
-lines_longer a b c = omega (arith, length-append (a ++ b) c, length-append a b)
-
 module _ (told : Told) (name : List ℕ) (program : Program) (plan : Plan) (first now : Feed) (long : IsLongFeed (inputs_of program) first) (named : name_of now ≡ name) where
   first_is : (samples : List (List ℕ)) (file : List ℕ) → ((k : ℕ) × (samples ≡ take k (fed first file).samples)) → AreFirst (inputs_of program) samples file
   first_is samples file front = (front.0, front.1 ∙ ap (λ (k : Fed). take front.0 k.samples) (long_fed (inputs_of program) first file long))
 
-  pub long_bench : HasLongLines told program plan first now → IsLongBench told name program plan
-  long_bench has =
-      let bytes = has.reads.bytes in
-      let file = rw named at has.reads.seen.file in
+  pub long_start : HasLongLines told program plan first now → HasLongStart told name program plan
+  long_start has =
+      let read = some_file told name now.tail has.reads.bytes (rw named at has.reads.seen.file) (λ missing. has.there (subst (λ (n : List ℕ). IsMissing told n) (sym named) missing)) in
       record {
+        file = read.file;
+        is = read.text;
         samples = has.samples;
-        first = record {
-          bytes = bytes;
-          holds = first_is has.samples bytes (has.reads.holds bytes (begins_itself now.tail bytes));
-          own = both_of told name (Begins now.tail bytes) (Begins now.tail bytes) (AreFirst (inputs_of program) has.samples) (λ f h g. first_is has.samples f (has.reads.holds f h)) file file;
-        };
-        long = omega (arith, has.long, lines_longer (before_text plan (length has.samples)) (lines_text plan has.samples (out program has.samples)) (behind_text plan));
+        first = first_is has.samples read.file (has.reads.holds read.file read.begins);
+        long = has.long;
       }
 
   module _ (lines : Lines) (has : HasLines told program plan first now lines.text.items lines.count lines.end) (there : IsMissing told name → ⊥) where
-    bench_is : with_lines plan lines ≡ bench_text plan has.samples (out program has.samples)
+    bench_is : with_lines plan lines ≡ bench_on program plan has.samples
     bench_is = ap₂ (λ (n : ℕ) (t : List ℕ). before_text plan n ++ t ++ behind_text plan) has.counted has.lines
 
     pub made_bench : (text : List ℕ) → lines.end ≡ Got.End → text ≡ with_lines plan lines → length text ≤ most_text_bytes → IsBench told name program plan text
@@ -183,41 +175,48 @@ module _ (told : Told) (name : List ℕ) (program : Program) (plan : Plan) (firs
         }
 
     -- the whole text has too many bytes
-    pub whole_long : most_text_bytes < length (with_lines plan lines) → IsLongBench told name program plan
-    whole_long more =
-        let bytes = has.reads.bytes in
-        let file = rw named at has.reads.seen.file in
-        let front : (q : List ℕ) → Begins now.tail bytes q → AreFirst (inputs_of program) has.samples q =
-        λ q h. (length has.samples, take_whole has.samples _ ((has.reads.holds q h).all ∙ ap (λ (k : Fed). k.samples) (long_fed (inputs_of program) first q long))) in
+    pub whole_long : lines.end ≡ Got.End → most_text_bytes < length (with_lines plan lines) → HasLongWhole told name program plan
+    whole_long end more =
+        let read = some_file told name now.tail has.reads.bytes (rw named at has.reads.seen.file) there in
+        let all = has.reads.holds read.file read.begins in
+        let same = long_fed (inputs_of program) first read.file long in
         record {
+          file = read.file;
+          is = read.text;
+          ends = sym (ap (λ (k : Fed). k.ending) same) ∙ subst (λ (g : Got). EndsBy g (fed first read.file).ending) end all.ends;
           samples = has.samples;
-          first = record {
-            bytes = bytes;
-            holds = front bytes (begins_itself now.tail bytes);
-            own = both_of told name (Begins now.tail bytes) (Begins now.tail bytes) (AreFirst (inputs_of program) has.samples) (λ f h g. front f h) file file;
-          };
+          all = all.all ∙ ap (λ (k : Fed). k.samples) same;
           long = subst (λ (t : List ℕ). most_text_bytes < length t) bench_is more;
         }
 
   module _ (rb rn : ℕ) where
-    ends_so : (text : List ℕ) (count : ℕ) (end : Got) (ending : Ending) → HasLines told program plan first now text count end → (IsMissing told name → ⊥) → ((e : Ending) → EndsBy end e → e ≡ ending) → EndsSo told name program ending
-    ends_so text count end ending has there by =
+    ends_so : (text : List ℕ) (count : ℕ) (end : Got) (ending : Ending) → HasLines told program plan first now text count end → length text ≤ most_text_bytes → (IsMissing told name → ⊥) → ((e : Ending) → EndsBy end e → e ≡ ending)
+        → EndsSo told name program plan ending
+    ends_so text count end ending has short there by =
         let read = some_file told name now.tail has.reads.bytes (rw named at has.reads.seen.file) there in
         let all = has.reads.holds read.file read.begins in
-        record { file = read.file; is = read.text; ends = sym (ap (λ (k : Fed). k.ending) (long_fed (inputs_of program) first read.file long)) ∙ by _ all.ends }
+        let same = long_fed (inputs_of program) first read.file long in
+        record {
+          file = read.file;
+          is = read.text;
+          ends = sym (ap (λ (k : Fed). k.ending) same) ∙ by _ all.ends;
+          samples = has.samples;
+          all = all.all ∙ ap (λ (k : Fed). k.samples) same;
+          short = subst (λ (t : List ℕ). length t ≤ most_text_bytes) has.lines short;
+        }
 
     -- the samples end otherwise
-    pub unbenched : (text : List ℕ) (count : ℕ) (end : Got) → (end ≢ Got.ReadFault → HasLines told program plan first now text count end) → (end ≢ Got.ReadFault → IsMissing told name → ⊥) → (end ≡ Got.ReadFault → HasReadCause told name rb rn)
-        → end ≢ Got.End → IsUnbenched told name program plan rb rn (Ended (answer_by end))
-    unbenched text count Got.Sample has there cause other = let h = has (λ e. cc) in absurd (h.reads.holds h.reads.bytes (begins_itself now.tail h.reads.bytes)).ends
-    unbenched text count Got.End has there cause other = absurd (other refl)
-    unbenched text count (Got.BadSample line) has there cause other = ends_so text count (Got.BadSample line) (BadSample line) (has (λ e. cc)) (there (λ e. cc)) (λ e h. h)
-    unbenched text count Got.ReadFault has there cause other = cause refl
-    unbenched text count (Got.Limit which) has there cause other = ends_so text count (Got.Limit which) (Limit which) (has (λ e. cc)) (there (λ e. cc)) (λ e h. h)
+    pub unbenched : (text : List ℕ) (count : ℕ) (end : Got) → (end ≢ Got.ReadFault → HasLines told program plan first now text count end) → length text ≤ most_text_bytes → (end ≢ Got.ReadFault → IsMissing told name → ⊥)
+        → (end ≡ Got.ReadFault → HasReadCause told name rb rn) → end ≢ Got.End → IsUnbenched told name program plan rb rn (Ended (answer_by end))
+    unbenched text count Got.Sample has short there cause other = let h = has (λ e. cc) in absurd (h.reads.holds h.reads.bytes (begins_itself now.tail h.reads.bytes)).ends
+    unbenched text count Got.End has short there cause other = absurd (other refl)
+    unbenched text count (Got.BadSample line) has short there cause other = ends_so text count (Got.BadSample line) (BadSample line) (has (λ e. cc)) short (there (λ e. cc)) (λ e h. h)
+    unbenched text count Got.ReadFault has short there cause other = cause refl
+    unbenched text count (Got.Limit which) has short there cause other = ends_so text count (Got.Limit which) (Limit which) (has (λ e. cc)) short (there (λ e. cc)) (λ e h. h)
 
     -- the lines have too many bytes, or memory wants
     pub unbenched_cut : (s : NoBench) → IsCut told program plan first now s → IsUnbenched told name program plan rb rn s
-    unbenched_cut Long has = long_bench has
+    unbenched_cut Long has = inl (long_start has)
     unbenched_cut (Ended Answer.Memory) has = tt
     unbenched_cut (Ended answer) has = absurd has
 
@@ -231,9 +230,9 @@ unbenched_memory told name program plan rb rn r p = rw (p.1, p.2) tt
 pub not_short_memory : {T : Type 0} (plan : Plan) (lines : Lines) (r : Result T NoBench) → (y : NoBench) × (r ≡ Err y) × (y ≡ Ended Answer.Memory) → IfErr r (IsNotShort plan lines)
 not_short_memory plan lines r p = rw (p.1, p.2) tt
 
-pub not_short_unbenched : (told : Told) (name : List ℕ) (program : Program) (plan : Plan) (lines : Lines) (rb rn : ℕ) → (most_text_bytes < length (with_lines plan lines) → IsLongBench told name program plan) → (s : NoBench) → IsNotShort plan lines s
+pub not_short_unbenched : (told : Told) (name : List ℕ) (program : Program) (plan : Plan) (lines : Lines) (rb rn : ℕ) → (most_text_bytes < length (with_lines plan lines) → HasLongWhole told name program plan) → (s : NoBench) → IsNotShort plan lines s
     → IsUnbenched told name program plan rb rn s
-not_short_unbenched told name program plan lines rb rn long Long is = long is
+not_short_unbenched told name program plan lines rb rn long Long is = inr (long is)
 not_short_unbenched told name program plan lines rb rn long (Ended Answer.Memory) is = tt
 not_short_unbenched told name program plan lines rb rn long (Ended answer) is = absurd is
 

@@ -1,14 +1,13 @@
 -- Lines that are made while samples are read.
 use Rattle.std.specs.Prelude.{◌≡◌, ◌<◌, ◌≤◌, ◌++◌, ⊤, ℕ, List, [], length}
-use Rattle.pr_edge.specs.Files.{Told}
+use Rattle.pr_edge.specs.Files.{Told, IsMissing}
 use Rattle.pr_flat.specs.Widths.{AreWidths}
 use Rattle.pr_lang.specs.declared.trees.Program.{Program}
-use Rattle.pr_lang_meaning.specs.Programs.{out}
 use Rattle.pr_expand_spec.specs.Programs.{equations_of}
 use Rattle.pr_compile_front.specs.Passed.{HasEquations}
 use Rattle.pr_samples.specs.declared.feed.Feed.{Feed}
 use Rattle.pr_samples.specs.declared.feed.Got.{Got}
-use Rattle.pr_samples.specs.Feed.{ReadsOn}
+use Rattle.pr_samples.specs.Feed.{name_of, ReadsOn}
 use Rattle.pr_tool_answers.specs.declared.answers.Answer.{Answer}
 use Rattle.pr_tool_modes.specs.Evaluations.{AreAll}
 use Rattle.pr_lens_signals.specs.Reading.{AreFirst}
@@ -18,7 +17,7 @@ use Rattle.pr_lens_bench.specs.declared.trials.Trial.{Trial}
 use Rattle.pr_lens_bench.specs.declared.trials.NoBench.{NoBench}
 use Rattle.pr_lens_bench.specs.declared.trials.NoBench.TheVariants.{Long, Ended}
 use Rattle.pr_lens_bench.specs.declared.reading.Lines.{Lines}
-use Rattle.pr_lens_bench.specs.Texts.{before_text, behind_text, lines_text}
+use Rattle.pr_lens_bench.specs.Texts.{before_text, behind_text, lines_on}
 
 -- a program with its equations and their widths
 pub record IsFit (t : Trial) : Type 0 where
@@ -29,14 +28,15 @@ pub record IsFit (t : Trial) : Type 0 where
 pub record HasLines (told : Told) (program : Program) (plan : Plan) (first now : Feed) (text : List ℕ) (count : ℕ) (end : Got) : Type 0 where
   pub samples : List (List ℕ)
   pub reads : ReadsOn told [] first now (λ file. AreAll first file samples end)
-  pub lines : text ≡ lines_text plan samples (out program samples)
+  pub lines : text ≡ lines_on program plan samples
   pub counted : count ≡ length samples
 
--- a feed was read so far, and the lines on these first samples of each file that begins so have too many bytes
+-- a feed was read so far, the file is there, and the lines on these first samples of each file that begins so have too many bytes
 pub record HasLongLines (told : Told) (program : Program) (plan : Plan) (first now : Feed) : Type 0 where
   pub samples : List (List ℕ)
   pub reads : ReadsOn told [] first now (λ file. AreFirst first file samples)
-  pub long : most_text_bytes < length (lines_text plan samples (out program samples))
+  pub there : IsMissing told (name_of now) → ⊥
+  pub long : most_text_bytes < length (lines_on program plan samples)
 
 -- why no more lines are made
 abbrev pub IsCut : Told → Program → Plan → Feed → Feed → NoBench → Type 0

@@ -1,5 +1,7 @@
 -- The text of a bench.
 use Rattle.std.specs.Prelude.{ℕ, List, ◌++◌, codes, decimal, length}
+use Rattle.pr_lang.specs.declared.trees.Program.{Program}
+use Rattle.pr_lang_meaning.specs.Programs.{out}
 use Rattle.pr_lens_rtl_text.specs.declared.ports.Port.{Port}
 use Rattle.pr_lens_bench.specs.declared.pieces.Piece.{Piece}
 use Rattle.pr_lens_bench.specs.declared.texts.Plan.{Plan}
@@ -64,3 +66,10 @@ lines_text plan samples results = rows_text plan.inputs.items plan.outputs.items
 
 abbrev pub bench_text : Plan → (samples results : List (List ℕ)) → List ℕ
 bench_text plan samples results = before_text plan (length samples) ++ lines_text plan samples results ++ behind_text plan
+
+-- the same of samples and what a program means on them
+abbrev pub lines_on : Program → Plan → List (List ℕ) → List ℕ
+lines_on program plan samples = lines_text plan samples (out program samples)
+
+abbrev pub bench_on : Program → Plan → List (List ℕ) → List ℕ
+bench_on program plan samples = bench_text plan samples (out program samples)

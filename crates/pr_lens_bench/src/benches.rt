@@ -6,6 +6,7 @@ ghost use Rattle.pr_samples.specs.declared.feed.Got.{Got};
 ghost use Rattle.pr_samples.specs.Feed.{name_of};
 ghost use Rattle.pr_tool_modes.specs.Programs.{inputs_of};
 ghost use Rattle.pr_lens_signals.specs.Reading.{IsLongFeed};
+ghost use Rattle.pr_lens_rtl_text.specs.Limits.{most_text_bytes};
 ghost use Rattle.pr_lens_bench.specs.Reading.{HasLines, IsCut, IsFit, IsNotShort, IsShort};
 ghost use Rattle.pr_lens_bench.specs.Benches.{IsBench, IsUnbenched};
 
@@ -39,6 +40,7 @@ fn lines_of<S: Shelf>(
         (λ r. r.end ≢ Got.ReadFault
         → HasLines (S.told shelf.old) trial.now.front.scoped.program trial.now.plan feed.old feed.new
         r.text.items r.count r.end) }
+    ensures short { IfOk result (λ r. length r.text.items ≤ most_text_bytes) }
     ensures there { IfOk result (λ r. r.end ≢ Got.ReadFault → IsMissing (S.told shelf.old) (name_of feed.old) → ⊥) }
     ensures cause { IfOk result
         (λ r. r.end ≡ Got.ReadFault

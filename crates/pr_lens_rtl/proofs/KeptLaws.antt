@@ -441,6 +441,12 @@ module _ (K : Net → Bool) (m : Module) (d : IsDriven m) (closed : IsClosed K m
   step_clock : (now part after : Values) → Beside now part → IsClock (kept K m) part after → IsClock m now (next_values m now after)
   step_clock now part after b k = next_clock m d now after b.settled k.settled.fit
 
+  -- where the wires of the part have settled, so have those of a whole that has its ports
+  pub whole_settled : (part : Values) → IsSettled (kept K m) part → (now : Values) × IsSettled m now × ((n : Net) → is_root n ≡ true → now n ≡ part n)
+  whole_settled part s =
+      let b = begin_beside part s in
+      (settled_by m.wires part, b.settled, λ n r. b.agree n (closed.roots n r))
+
   rest_of : Values → List Values → List Values
   rest_of now [] = []
   rest_of now (after ∷ rest) = next_values m now after ∷ rest_of (next_values m now after) rest

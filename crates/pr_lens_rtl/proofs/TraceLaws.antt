@@ -1,5 +1,5 @@
 -- A run of the module from a reset gives the results of the configuration.
-use Rattle.std.proofs.Common.{◌≡◌, ◌<◌, ◌≤◌, ℕ, zero, suc, ◌+◌, ◌-◌, ◌*◌, ◌==◌, ◌&&◌, not, Bool, true, false, List, [], ◌∷◌, ◌++◌, length, get_or, map, refl, sym, ap, subst, ◌∙◌, arith, if◌then◌else◌}
+use Rattle.std.proofs.Common.{◌≡◌, ◌<◌, ◌≤◌, ℕ, zero, suc, ◌+◌, ◌-◌, ◌*◌, ◌==◌, ◌&&◌, ◌||◌, not, Bool, true, false, List, [], ◌∷◌, ◌++◌, length, get_or, map, refl, sym, ap, subst, ◌∙◌, arith, if◌then◌else◌}
 use Rattle.std.specs.List.{list_all, flat_map}
 use Rattle.std.proofs.lemmas.Bool.{and_parts, eqb-true}
 use Rattle.std.proofs.lemmas.List.{map-append}
@@ -16,7 +16,7 @@ use Rattle.pr_lens_rtl.specs.declared.vectors.Part.{Part}
 use Rattle.pr_lens_rtl.specs.declared.vectors.Net.{Net}
 use Rattle.pr_lens_rtl.specs.Verilog.{Values, Takes, IsSettled, IsClock}
 use Rattle.pr_lens_rtl.specs.Module.{hand_wires, stages_wires, tap_wires, stages_registers, taps_of, last_of, module_of}
-use Rattle.pr_lens_rtl.specs.Traces.{at_places, is_one, all_held, sample_at, pins, result_at, samples_in, results_in, IsRun, IsRunFromReset, end_of, offers_none, ready_clocks}
+use Rattle.pr_lens_rtl.specs.Traces.{at_places, is_one, all_held, sample_at, pins, result_at, samples_in, results_in, IsRun, IsRunFromReset, end_of, offers_none, ready_clocks, IsReadyForMore}
 use Rattle.pr_code.specs.Spelling.{has_pe_bytes, has_tap_byte, have_tap_bytes, has_bytes}
 use Rattle.pr_lens_rtl.proofs.StageLaws.{takes_left, takes_right}
 use Rattle.pr_lens_rtl.proofs.ClockLaws.{AreStages, AreSteps, all_on, all_off, all_reset, last_flag, last_row, ready_law, shown_law, taps_law, map_taps}
@@ -59,6 +59,11 @@ taps_bytes (o ∷ os) h =
     let one = and_parts (list_all has_tap_byte o.taps) (list_all have_tap_bytes os) h in
     all_both has_tap_byte o.taps (flat_map (λ (o : OutputShape). o.taps) os) one.0 (taps_bytes os one.1)
 
+not_both : (a b : Bool) → not (a && not b) ≡ (not a || b)
+not_both false b = refl
+not_both true false = refl
+not_both true true = refl
+
 module _ (N P : ℕ) (c : Shape) (lawful : IsLawful N P c) (bytes : has_bytes c ≡ true) where
   abbrev M : ℕ → Step (List ℕ) (List ℕ)
   M = steps_of N P c
@@ -99,6 +104,13 @@ module _ (N P : ℕ) (c : Shape) (lawful : IsLawful N P c) (bytes : has_bytes c 
       ready_law now last s.fit (hand now s)
       ∙ ap (λ q. not (q && not (is_one (now Net.OutReady))))
       (sym (ap (λ n. is_last_valid (all_held N P now 0 n)) size ∙ last_flag N P now 0 last ∙ ap (λ q. is_one (now (Net.Valid q))) (let e : 0 + last ≡ last = omega arith in e)))
+
+  -- the module is ready where no result stands at its end, and where the reader is ready for it
+  pub more_law : (now : Values) → IsSettled (module_of N P c) now → IsReadyForMore now
+  more_law now s =
+      ready_law now last s.fit (hand now s)
+      ∙ ap (λ q. not (is_one q && not (is_one (now Net.OutReady)))) (sym (shown_law now last s.fit (hand now s)))
+      ∙ not_both (is_one (now Net.OutValid)) (is_one (now Net.OutReady))
 
   flag_cases : (F : ℕ → Type 0) (n : ℕ) → n < 2 → (n ≡ 0 → F n) → (n ≡ 1 → F n) → F n
   flag_cases F zero l a b = a refl

@@ -1,5 +1,5 @@
 -- What stands in the vectors of a module, as the clocked pipeline.
-use Rattle.std.specs.Prelude.{◌≡◌, ℕ, zero, suc, ◌-◌, ◌*◌, ◌==◌, ◌&&◌, not, Bool, true, List, [], ◌∷◌, ◌++◌, length, if◌then◌else◌}
+use Rattle.std.specs.Prelude.{◌≡◌, ℕ, zero, suc, ◌-◌, ◌*◌, ◌==◌, ◌&&◌, ◌||◌, not, Bool, true, List, [], ◌∷◌, ◌++◌, length, if◌then◌else◌}
 use Rattle.pr_conf.specs.Rules.{bytes_in}
 use Rattle.pr_conf.specs.Shape.{Shape}
 use Rattle.pr_lens_clocked.specs.Clocked.{Held, Pins}
@@ -39,6 +39,10 @@ pins c now = record { valid = is_one (now Net.InValid); row = sample_at c now; r
 -- the bytes of the result at the outputs
 abbrev pub result_at : Shape → Values → List ℕ
 result_at c now = at_places (λ k. now (Net.Out k)) 0 (length (taps_of c))
+
+-- the module is ready where no result stands at its end, and where the reader is ready for it
+abbrev pub IsReadyForMore : Values → Type 0
+IsReadyForMore now = is_one (now Net.InReady) ≡ (not (is_one (now Net.OutValid)) || is_one (now Net.OutReady))
 
 -- A run: what the vectors hold at first, and after each of its clocks.
 -- the samples that enter in its clocks: those that are offered and that the module is ready for

@@ -13,7 +13,7 @@ ghost use Rattle.pr_lens_rtl.specs.Module.{four_of, module_of};
 ghost use Rattle.std.specs.List.{All, AllPairs};
 ghost use Rattle.pr_lens_rtl.specs.Driven.{driven, is_given, IsBelow};
 ghost use Rattle.pr_lens_rtl.specs.Kept.{kept, is_kept, marks_of, IsClosed};
-ghost use Rattle.pr_lens_rtl.specs.Traces.{all_held, pins, samples_in, results_in, IsRunFromReset, end_of, offers_none, ready_clocks, AgreeAtInputs, AgreeAtRegisters};
+ghost use Rattle.pr_lens_rtl.specs.Traces.{all_held, pins, samples_in, results_in, IsRunFromReset, end_of, offers_none, ready_clocks, AgreeAtInputs, AgreeAtRegisters, IsReadyForMore};
 
 /// The expression of half a table is the look-up, for every table, every two bytes and each C.
 pub fn table_law()
@@ -34,8 +34,8 @@ pub fn module_law()
 {}
 
 /// The same of any part of the module that has its ports and, with a vector, all that is read for it: what is left out
-/// changes no result. Once no sample is offered, all results have left after as many clocks in which the module is ready
-/// as there are stages. Whatever such a part's registers and inputs hold, there are settled wires and a next clock.
+/// changes no result. The part is ready for a sample unless a result stands at its end and is not taken. Once no sample is
+/// offered, all results have left after as many clocks in which the module is ready as there are stages. Whatever such a part's registers and inputs hold, there are settled wires and a next clock.
 ///
 /// The marks of a configuration are such a part.
 pub fn kept_law()
@@ -51,6 +51,9 @@ pub fn kept_law()
         → IsRunFromReset (kept K (module_of N P c)) first now (rest ++ more)
         → offers_none (end_of now rest) more ≡ true → length c.stages ≤ ready_clocks (end_of now rest) more
         → results_in c now (rest ++ more) ≡ results_of N P c (samples_in c now rest) }
+    ensures ready { (N P : ℕ) (c : Shape) → IsLawful N P c → has_bytes c ≡ true → (K : Net → Bool)
+        → IsClosed K (module_of N P c)
+        → (now : Values) → IsSettled (kept K (module_of N P c)) now → IsReadyForMore now }
     ensures settles { (N P : ℕ) (c : Shape) → IsLawful N P c → has_bytes c ≡ true → (K : Net → Bool)
         → (first : Values) → Fit first
         → (now : Values) × IsSettled (kept K (module_of N P c)) now × AgreeAtInputs first now × AgreeAtRegisters first now }

@@ -155,6 +155,13 @@ pub handshake : (is_handshake (codes "clock") ≡ true) × (is_handshake (net_te
 unfolding handshake_text
 handshake = (refl, refl, refl, refl, refl, refl)
 
+bench_word : is_handshake (codes "bench") ≡ true
+unfolding handshake_text
+bench_word = refl
+
+pub bench_apart : (name : List ℕ) → port_name name ≢ codes "bench"
+bench_apart name = no_handshake (codes "bench") bench_word name
+
 pub port_apart : (name : List ℕ) (n : Net) → IsName name → port_name name ≢ net_text n
 port_apart name Net.Reset h = no_handshake (net_text Net.Reset) handshake.1 name
 port_apart name Net.InValid h = no_handshake (net_text Net.InValid) handshake.2 name

@@ -31,9 +31,9 @@ language_text =
     ++ codes "uwire var vectored virtual void wait wait_order wand weak weak0 weak1 while wildcard wire with within "
     ++ codes "wor xnor xor "
 
--- those of the handshake
+-- those of the handshake, and the name of the module of a test bench
 unfoldable pub handshake_text : List ℕ
-handshake_text = codes " clock in_ready in_valid out_ready out_valid reset "
+handshake_text = codes " bench clock in_ready in_valid out_ready out_valid reset "
 
 -- a text begins with another one, and a text occurs in another one
 abbrev pub begins : (text front : List ℕ) → Bool

@@ -35,8 +35,8 @@ sync_accept_on sync_reject_on table tagged task this throughout time timeprecisi
 tri0 tri1 triand trior trireg type typedef union unique unique0 unsigned until until_with untyped use uwire var \
 vectored virtual void wait wait_order wand weak weak0 weak1 while wildcard wire with within wor xnor xor ";
 
-/// The words of the handshake, with a space before and behind each.
-const HANDSHAKE: &[u8] = b" clock in_ready in_valid out_ready out_valid reset ";
+/// The words of the handshake, and the name of a test bench, with a space before and behind each.
+const HANDSHAKE: &[u8] = b" bench clock in_ready in_valid out_ready out_valid reset ";
 
 /// A name without the underscores at its end.
 fn stem(name: &[u8]) -> &[u8]
@@ -86,7 +86,7 @@ fn is_in_language(piece: &[u8]) -> bool
     occurs(LANGUAGE, piece)
 }
 
-/// Whether a name between spaces is of the handshake.
+/// Whether a name between spaces is of the handshake, or that of a test bench.
 fn is_in_handshake(piece: &[u8]) -> bool
     ensures { result ≡ occurs handshake_text piece.now }
 {

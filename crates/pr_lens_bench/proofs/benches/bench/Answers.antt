@@ -37,7 +37,7 @@ returns-in-End-clause-refused g c =
     IfErr-weaker c.short_text.result _ _ (λ s h.
     not_short_unbenched told c.args.samples.now c.args.trial.now.front.scoped.program c.args.trial.now.plan lines _ _
     (whole_long told c.args.samples.now c.args.trial.now.front.scoped.program c.args.trial.now.plan c.in_ok-feed.feed c.lines_of.new.feed c.in_ok-feed.ensures.feed (c.lines_of.ensures.name ∙ name) lines
-    (c.in_ok-lines.ensures.lines no_fault) (λ missing. c.in_ok-lines.ensures.there no_fault (rw (← name) at missing))) s h) c.short_text.ensures.refused
+    (c.in_ok-lines.ensures.lines no_fault) (λ missing. c.in_ok-lines.ensures.there no_fault (rw (← name) at missing)) c.in-End.is) s h) c.short_text.ensures.refused
 
 pub returns-clause-refused : goal.returns-clause-refused
 returns-clause-refused g c =
@@ -46,4 +46,4 @@ returns-clause-refused g c =
     let told = g.S.Shelf.told c.args.shelf.now in
     subst (λ (a : Answer). IsUnbenched told c.args.samples.now c.args.trial.now.front.scoped.program c.args.trial.now.plan (g.S.Shelf.faults c.args.shelf.now) (g.S.Shelf.faults c.lines_of.new.shelf) (Ended a)) (sym c.answer_of.ensures)
     (unbenched told c.args.samples.now c.args.trial.now.front.scoped.program c.args.trial.now.plan c.in_ok-feed.feed c.lines_of.new.feed c.in_ok-feed.ensures.feed (c.lines_of.ensures.name ∙ name) _ _ lines.text.items lines.count lines.end
-    c.in_ok-lines.ensures.lines (λ other missing. c.in_ok-lines.ensures.there other (rw (← name) at missing)) (λ fault. rw name at (c.in_ok-lines.ensures.cause fault)) c.in_default.not-End)
+    c.in_ok-lines.ensures.lines c.in_ok-lines.ensures.short (λ other missing. c.in_ok-lines.ensures.there other (rw (← name) at missing)) (λ fault. rw name at (c.in_ok-lines.ensures.cause fault)) c.in_default.not-End)

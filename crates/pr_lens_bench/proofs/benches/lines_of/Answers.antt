@@ -5,6 +5,9 @@ use Rattle.pr_lens_bench.proofs.benches.lines_of.Goals as goal
 pub returns-in_err-sample-clause-lines : goal.returns-in_err-sample-clause-lines
 returns-in_err-sample-clause-lines g c = IfOk-from_err _ _ c.from_residual.ensures.0
 
+pub returns-in_err-sample-clause-short : goal.returns-in_err-sample-clause-short
+returns-in_err-sample-clause-short g c = IfOk-from_err _ _ c.from_residual.ensures.0
+
 pub returns-in_err-sample-clause-there : goal.returns-in_err-sample-clause-there
 returns-in_err-sample-clause-there g c = IfOk-from_err _ _ c.from_residual.ensures.0
 
@@ -16,6 +19,9 @@ returns-in_err-sample-clause-cut g c = cut_memory _ _ _ _ _ c.from_residual.resu
 
 pub returns-in_err-row-clause-lines : goal.returns-in_err-row-clause-lines
 returns-in_err-row-clause-lines g c = IfOk-from_err _ _ c.from_residual-in_err-row.ensures.0
+
+pub returns-in_err-row-clause-short : goal.returns-in_err-row-clause-short
+returns-in_err-row-clause-short g c = IfOk-from_err _ _ c.from_residual-in_err-row.ensures.0
 
 pub returns-in_err-row-clause-there : goal.returns-in_err-row-clause-there
 returns-in_err-row-clause-there g c = IfOk-from_err _ _ c.from_residual-in_err-row.ensures.0

@@ -1,6 +1,6 @@
 use Rattle.std.proofs.Common.{◌≡◌, ◌+◌, ◌<◌, ◌≤◌, ℕ, List, length, refl, sym, ap, subst, ◌∙◌, arith}
 use Rattle.std.proofs.lemmas.Result.{IfOk-from_err, err_from_is_err_and}
-use Rattle.pr_edge.specs.Files.{Told}
+use Rattle.pr_edge.specs.Files.{Told, IsMissing}
 use Rattle.pr_flat.specs.Shape.{EquationShape, shapes_of}
 use Rattle.pr_flat.specs.Values.{input_widths}
 use Rattle.pr_flat.specs.Widths.{AreWidths}
@@ -100,6 +100,9 @@ returns-in_default-clause-lines g c = λ no_fault.
     made_all (g.S.Shelf.told c.args.shelf.now) front.scoped.program (shapes_of front.flat.equations.items) front.flat.outputs.items front.widths c.args.trial.now.plan c.args.feed.now f c.samples.evaluator _ _ made means f' c.next.new.into c.next.result same
     c.next.ensures.given seen c.in_default.not-Sample no_fault
 
+pub returns-in_default-clause-short : goal.returns-in_default-clause-short
+returns-in_default-clause-short g c = c.samples.invariant.short
+
 pub returns-in_default-clause-there : goal.returns-in_default-clause-there
 returns-in_default-clause-there g c = λ no_fault missing. no_fault (c.next.ensures.missing (rw (← c.samples.invariant.file.name, ← c.samples.invariant.same) at missing) (c.samples.invariant.there missing))
 
@@ -109,6 +112,9 @@ returns-in_default-clause-cause g c = λ fault.
 
 pub returns-in_err-evaluator-clause-lines : goal.returns-in_err-evaluator-clause-lines
 returns-in_err-evaluator-clause-lines g c = IfOk-from_err _ _ c.from_residual.ensures.0
+
+pub returns-in_err-evaluator-clause-short : goal.returns-in_err-evaluator-clause-short
+returns-in_err-evaluator-clause-short g c = IfOk-from_err _ _ c.from_residual.ensures.0
 
 pub returns-in_err-evaluator-clause-there : goal.returns-in_err-evaluator-clause-there
 returns-in_err-evaluator-clause-there g c = IfOk-from_err _ _ c.from_residual.ensures.0
@@ -121,6 +127,9 @@ returns-in_err-evaluator-clause-cut g c = cut_memory _ _ _ _ _ c.from_residual.r
 
 pub returns-in_err-put_row-in-Sample-clause-lines : goal.returns-in_err-put_row-in-Sample-clause-lines
 returns-in_err-put_row-in-Sample-clause-lines g c = IfOk-from_err _ _ c.from_residual-in_err-put_row-in-Sample.ensures.0
+
+pub returns-in_err-put_row-in-Sample-clause-short : goal.returns-in_err-put_row-in-Sample-clause-short
+returns-in_err-put_row-in-Sample-clause-short g c = IfOk-from_err _ _ c.from_residual-in_err-put_row-in-Sample.ensures.0
 
 pub returns-in_err-put_row-in-Sample-clause-there : goal.returns-in_err-put_row-in-Sample-clause-there
 returns-in_err-put_row-in-Sample-clause-there g c = IfOk-from_err _ _ c.from_residual-in_err-put_row-in-Sample.ensures.0
@@ -151,4 +160,6 @@ returns-then-len-gt-MOST_TEXT_BYTES-clause-cut g c =
       wide = subst (λ (es : List EquationShape). AreWidths es front.widths) (sym c.requires.fit.flat.equations) c.requires.fit.widths;
       rows = more.stands.lawful;
     }) in
-    made_long told front.scoped.program (shapes_of flat.equations.items) flat.outputs.items front.widths c.args.trial.now.plan c.args.feed.now f' _ _ _ more means (omega arith)
+    let there : IsMissing told (name_of f') → ⊥ = λ missing.
+    (let no : Got.Sample ≡ Got.ReadFault = sym c.in-Sample.is ∙ c.next.ensures.missing (rw (same.name, ← c.samples.invariant.file.name, ← c.samples.invariant.same) at missing) (c.samples.invariant.there (rw same.name at missing)) in cc) in
+    made_long told front.scoped.program (shapes_of flat.equations.items) flat.outputs.items front.widths c.args.trial.now.plan c.args.feed.now f' _ _ _ more means there (omega arith)

@@ -8,6 +8,8 @@ returns c = record {
       c.kept_law.ensures.trace N P s is.lawful is.bytes (is_kept (marks_of N P s)) (c.kept_law.ensures.closed N P s is.lawful is.bytes) first now rest run;
   all = λ N P name program s text is first now rest more run none long.
       c.kept_law.ensures.all N P s is.lawful is.bytes (is_kept (marks_of N P s)) (c.kept_law.ensures.closed N P s is.lawful is.bytes) first now rest more run none long;
+  ready = λ N P name program s text is now settled.
+      c.kept_law.ensures.ready N P s is.lawful is.bytes (is_kept (marks_of N P s)) (c.kept_law.ensures.closed N P s is.lawful is.bytes) now settled;
   settles = λ N P name program s text is first fit. c.kept_law.ensures.settles N P s is.lawful is.bytes (is_kept (marks_of N P s)) first fit;
   next = λ N P name program s text is now ports settled fit. c.kept_law.ensures.next N P s is.lawful is.bytes (is_kept (marks_of N P s)) now ports settled fit;
   once = λ N P name program s text is. c.driven_law.ensures.once N P s is.lawful is.bytes (is_kept (marks_of N P s));
