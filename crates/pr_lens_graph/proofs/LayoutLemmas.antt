@@ -12,11 +12,10 @@ use Rattle.pr_place.specs.Placements.{home_shape, shape_of as placement_shape}
 use Rattle.pr_lens_graph.specs.Layouts.{IsLaidOut, stage_of_home, stage_of_shape}
 
 pub laid_out_is : (N P : ℕ) (net : NetShape) (units : Net) (stages : List ℕ) (placement : Placement) (listed : List Home) → shape_of units ≡ net → limit_passed N net ≡ None
-    → IsGreedy N P (shape_of units) (placement_shape placement) → listed ≡ placement.homes.items → stages ≡ map stage_of_home listed → IsLaidOut N P net units stages
+    → IsGreedy N P (shape_of units) (placement_shape placement) → listed ≡ placement.homes.items → stages ≡ map stage_of_home listed → IsLaidOut N P net units (placement_shape placement) stages
 laid_out_is N P net units stages placement listed are within greedy same listed_are = record {
   units = are;
   within = within;
-  placement = placement_shape placement;
   greedy = subst (λ (n : NetShape). IsGreedy N P n (placement_shape placement)) are greedy;
   stages = listed_are ∙ (ap (map stage_of_home) same ∙ sym (map-map stage_of_shape home_shape placement.homes.items));
 }

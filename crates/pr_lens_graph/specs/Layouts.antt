@@ -19,23 +19,23 @@ stage_of_home home = home.stage
 abbrev pub stage_of_shape : HomeShape → ℕ
 stage_of_shape home = home.stage
 
--- the units are those of this net, which is within the limits of N columns, and their stages are those of its placement by the
--- greedy rule
-pub record IsLaidOut (N P : ℕ) (net : NetShape) (units_are : Net) (stages_are : List ℕ) : Type 0 where
+-- the units are those of this net, which is within the limits of N columns, they stand where the greedy rule places them, and their
+-- stages are those of that placement
+pub record IsLaidOut (N P : ℕ) (net : NetShape) (units_are : Net) (placement : PlacementShape) (stages_are : List ℕ) : Type 0 where
   pub units : shape_of units_are ≡ net
   pub within : limit_passed N net ≡ None
-  pub placement : PlacementShape
   pub greedy : IsGreedy N P net placement
   pub stages : stages_are ≡ map stage_of_shape placement.homes
 
 -- the net is that of a program's equations, narrowed or as they are
-abbrev pub IsLayoutBy : ℕ → ℕ → Bool → Program → List ℕ → Net → List ℕ → Type 0
-IsLayoutBy N P narrowed program widths units stages = OfReadyBy narrowed program widths (λ ready news. IsLaidOut N P (net_by program ready news) units stages)
+abbrev pub IsLayoutBy : ℕ → ℕ → Bool → Program → List ℕ → Net → PlacementShape → List ℕ → Type 0
+IsLayoutBy N P narrowed program widths units placement stages = OfReadyBy narrowed program widths (λ ready news. IsLaidOut N P (net_by program ready news) units placement stages)
 
 -- the same of the program of a text, with the names that the text has for units and outputs
 pub record IsLayout (N P : ℕ) (narrowed : Bool) (text : List ℕ) (layout : Layout) : Type 0 where
   pub program : Program
   pub widths : List ℕ
   pub has : HasWidths text program widths
-  pub laid_out : IsLayoutBy N P narrowed program widths layout.net layout.stages.items
+  pub placement : PlacementShape
+  pub laid_out : IsLayoutBy N P narrowed program widths layout.net placement layout.stages.items
   pub names : AreNamesOrNone N narrowed text program widths layout.names

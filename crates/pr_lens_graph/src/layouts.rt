@@ -7,6 +7,7 @@ ghost use Rattle.pr_expand_spec.specs.Programs.{equations_of};
 ghost use Rattle.pr_cut_units.specs.Flats.{flat_net};
 ghost use Rattle.pr_compile_front.specs.Passed.{HasEquations};
 ghost use Rattle.pr_compile.specs.Refusals.{IsNetAnswer, IsFrontAnswer, IsCompileAnswer};
+ghost use Rattle.pr_place.specs.Placements.{shape_of};
 ghost use Rattle.pr_lens_graph.specs.Layouts.{IsLayout, IsLayoutBy, IsLaidOut, stage_of_home};
 
 use crate::naming::{Names, names_of};
@@ -16,7 +17,7 @@ use pr_cut::cut;
 use pr_flat::Flat;
 use pr_narrow::narrow;
 use pr_net::Net;
-use pr_place::{Home, place};
+use pr_place::{Home, Placement, place};
 use pr_width::Widths;
 use std::alloc::{AllocError, Global};
 
@@ -28,11 +29,12 @@ pub struct Layout {
     pub names: Names,
 }
 
-/// Units with their stages, before they have names.
+/// Units with where they stand and their stages, before they have names.
 #[derive(Drop)]
-struct Placed {
-    net: Net,
-    stages: Vec<u32>,
+pub struct Placed {
+    pub net: Net,
+    pub placement: Placement,
+    pub stages: Vec<u32>,
 }
 
 /// The stages of homes.
@@ -57,17 +59,22 @@ fn laid_out<const N: usize, const P: usize>(
     requires most_columns { N ≤ 64 }
     requires registers { 2 ≤ P }
     requires most_registers { P ≤ 16 }
-    ensures layout { IfOk result (λ p. IsLaidOut N P (flat_net flat.now widths.now) p.net p.stages.items) }
+    ensures layout { IfOk result (λ p.
+        IsLaidOut N P (flat_net flat.now widths.now) p.net (shape_of p.placement) p.stages.items) }
     ensures refused { IfErr result (IsNetAnswer N P (flat_net flat.now widths.now)) }
 {
     let net = cut(alloc, flat, widths, N)?;
     let placement = place::<N, P>(alloc, &net)?;
     let stages = stages_of(alloc, &placement.homes)?;
-    Ok(Placed { net, stages })
+    Ok(Placed {
+        net,
+        placement,
+        stages,
+    })
 }
 
 /// The units of a program, whose equations are narrowed where that is asked for, with their stages; else why it has none.
-fn layout_front<const N: usize, const P: usize>(
+pub fn layout_front<const N: usize, const P: usize>(
     alloc: Global,
     front: &Front,
     narrowed: bool,
@@ -79,7 +86,7 @@ fn layout_front<const N: usize, const P: usize>(
     requires registers { 2 ≤ P }
     requires most_registers { P ≤ 16 }
     ensures layout { IfOk result (λ p.
-        IsLayoutBy N P narrowed front.now.scoped.program front.now.widths p.net p.stages.items) }
+        IsLayoutBy N P narrowed front.now.scoped.program front.now.widths p.net (shape_of p.placement) p.stages.items) }
     ensures refused { IfErr result (IsFrontAnswer N P narrowed front.now.scoped.program front.now.widths) }
 {
     if !narrowed {
@@ -105,7 +112,11 @@ pub fn layout_of<const N: usize, const P: usize>(
     ensures refused { IfErr result (IsCompileAnswer N P narrowed text.now) }
 {
     let front = read_program(alloc, text)?;
-    let Placed { net, stages } = layout_front::<N, P>(alloc, &front, narrowed)?;
+    let Placed {
+        net,
+        placement: _,
+        stages,
+    } = layout_front::<N, P>(alloc, &front, narrowed)?;
     let names = names_of(alloc, front, text, narrowed, N)?;
     Ok(Layout { net, stages, names })
 }

@@ -9,5 +9,5 @@ mod stages;
 mod wires;
 
 pub use graphs::graph;
-pub use layouts::{Layout, layout_of};
+pub use layouts::{Layout, Placed, layout_front, layout_of};
 pub use naming::Names;

@@ -6,3 +6,4 @@ pub mod StageTexts
 pub mod WordLaws
 pub mod NamingLaws
 pub mod LimitLemmas
+pub mod CommentLemmas

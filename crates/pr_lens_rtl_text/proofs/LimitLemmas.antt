@@ -1,9 +1,9 @@
 -- A text that has too many bytes, of which some are made.
-use Rattle.std.proofs.Common.{◌≡◌, ◌<◌, ◌≤◌, ◌++◌, ℕ, List, length, Result, Err, IfErr, arith, ap, subst}
+use Rattle.std.proofs.Common.{◌≡◌, ◌≤◌, ◌++◌, ℕ, List, length, Result, Err, IfErr, arith, ap}
 use Rattle.std.proofs.lemmas.List.{length-append}
 use Rattle.pr_lens_rtl_text.specs.declared.faults.NoText.{NoText}
 use Rattle.pr_lens_rtl_text.specs.declared.faults.NoText.TheVariants.{Long, Memory}
-use Rattle.pr_lens_rtl_text.specs.Limits.{IsTooLong, most_text_bytes}
+use Rattle.pr_lens_rtl_text.specs.Limits.{IsTooLong}
 
 pub longer : (part whole : List ℕ) (e : NoText) → length part ≤ length whole → IsTooLong part e → IsTooLong whole e
 longer part whole Long le long = omega (arith, le, long)

@@ -11,6 +11,7 @@ use Rattle.pr_lens_rtl_terms.specs.declared.terms.Change.{Change}
 use Rattle.pr_lens_rtl_terms.specs.declared.terms.Line.{Line}
 use Rattle.pr_lens_rtl_text.specs.declared.lines.Way.{Way}
 use Rattle.pr_lens_rtl_terms.specs.Terms.{assign_of, assigns_of, atom_expr, change_expr, flag_expr, two_expr}
+use Rattle.pr_lens_rtl_text.specs.Notes.{Comments}
 use Rattle.pr_lens_rtl_text.specs.Printed.{expr_text, kept_text, line_text, lines_text, net_text}
 use Rattle.pr_lens_rtl_text.specs.Signs.{between_text, sign_text}
 
@@ -45,13 +46,13 @@ kept_both : (K : Net → Bool) (xs ys : List Assign) → kept_of K (xs ++ ys) �
 kept_both K [] ys = refl
 kept_both K (a ∷ rest) ys = ap (λ z. if K a.net then a ∷ z else z) (kept_both K rest ys) ∙ kept_step (K a.net) a (kept_of K rest) (kept_of K ys)
 
-pub text_none : (way : Way) (marks : List Bool) → kept_text way marks [] ≡ []
+pub text_none : (note : Comments) (way : Way) (marks : List Bool) → kept_text note way marks [] ≡ []
 unfolding kept_text
-text_none way marks = refl
+text_none note way marks = refl
 
-pub text_both : (way : Way) (marks : List Bool) (xs ys : List Assign) → kept_text way marks (xs ++ ys) ≡ kept_text way marks xs ++ kept_text way marks ys
+pub text_both : (note : Comments) (way : Way) (marks : List Bool) (xs ys : List Assign) → kept_text note way marks (xs ++ ys) ≡ kept_text note way marks xs ++ kept_text note way marks ys
 unfolding kept_text
-text_both way marks xs ys = ap (lines_text way) (kept_both (is_kept marks) xs ys) ∙ flat_map-append (line_text way) (kept_of (is_kept marks) xs) (kept_of (is_kept marks) ys)
+text_both note way marks xs ys = ap (lines_text note way) (kept_both (is_kept marks) xs ys) ∙ flat_map-append (line_text note way) (kept_of (is_kept marks) xs) (kept_of (is_kept marks) ys)
 
 kept_yes : (K : Net → Bool) (a : Assign) (b : Bool) → b ≡ K a.net → b ≡ true → kept_of K (a ∷ []) ≡ a ∷ []
 kept_yes K a b e h = ap (λ q. if q then a ∷ [] else []) (sym e ∙ h)
@@ -59,35 +60,35 @@ kept_yes K a b e h = ap (λ q. if q then a ∷ [] else []) (sym e ∙ h)
 kept_no : (K : Net → Bool) (a : Assign) (b : Bool) → b ≡ K a.net → b ≡ false → kept_of K (a ∷ []) ≡ []
 kept_no K a b e h = ap (λ q. if q then a ∷ [] else []) (sym e ∙ h)
 
-pub text_yes : (way : Way) (marks : List Bool) (a : Assign) (b : Bool) → b ≡ is_kept marks a.net → b ≡ true → kept_text way marks (a ∷ []) ≡ line_text way a
+pub text_yes : (note : Comments) (way : Way) (marks : List Bool) (a : Assign) (b : Bool) → b ≡ is_kept marks a.net → b ≡ true → kept_text note way marks (a ∷ []) ≡ line_text note way a
 unfolding kept_text
-text_yes way marks a b e h = ap (lines_text way) (kept_yes (is_kept marks) a b e h) ∙ append-nil (line_text way a)
+text_yes note way marks a b e h = ap (lines_text note way) (kept_yes (is_kept marks) a b e h) ∙ append-nil (line_text note way a)
 
-pub text_no : (way : Way) (marks : List Bool) (a : Assign) (b : Bool) → b ≡ is_kept marks a.net → b ≡ false → kept_text way marks (a ∷ []) ≡ []
+pub text_no : (note : Comments) (way : Way) (marks : List Bool) (a : Assign) (b : Bool) → b ≡ is_kept marks a.net → b ≡ false → kept_text note way marks (a ∷ []) ≡ []
 unfolding kept_text
-text_no way marks a b e h = ap (lines_text way) (kept_no (is_kept marks) a b e h)
+text_no note way marks a b e h = ap (lines_text note way) (kept_no (is_kept marks) a b e h)
 
 -- ---- pieces
 pub two_pieces : (t a b : List ℕ) {p n : List ℕ} → p ≡ t ++ a → n ≡ p ++ b → n ≡ t ++ (a ++ b)
 two_pieces t a b e f = f ∙ ap (λ x. x ++ b) e ∙ append_assoc t a b
 
 -- one line more
-pub lines_more : (way : Way) (marks : List Bool) (lines : List Line) (i : ℕ) (d : Line) (start text : List ℕ) → i < length lines → text ≡ start ++ kept_text way marks (assigns_of (take i lines))
-    → text ++ kept_text way marks (assign_of (get_or lines i d) ∷ []) ≡ start ++ kept_text way marks (assigns_of (take (i + 1) lines))
-lines_more way marks lines i d start text lt h =
+pub lines_more : (note : Comments) (way : Way) (marks : List Bool) (lines : List Line) (i : ℕ) (d : Line) (start text : List ℕ) → i < length lines → text ≡ start ++ kept_text note way marks (assigns_of (take i lines))
+    → text ++ kept_text note way marks (assign_of (get_or lines i d) ∷ []) ≡ start ++ kept_text note way marks (assigns_of (take (i + 1) lines))
+lines_more note way marks lines i d start text lt h =
     let front = assigns_of (take i lines) in
     let one = assign_of (get_or lines i d) in
-    ap (λ z. z ++ kept_text way marks (one ∷ [])) h
-    ∙ append_assoc start (kept_text way marks front) (kept_text way marks (one ∷ []))
-    ∙ ap (λ z. start ++ z) (sym (text_both way marks front (one ∷ [])))
-    ∙ ap (λ z. start ++ kept_text way marks z) (sym (map_more assign_of lines i d lt))
+    ap (λ z. z ++ kept_text note way marks (one ∷ [])) h
+    ∙ append_assoc start (kept_text note way marks front) (kept_text note way marks (one ∷ []))
+    ∙ ap (λ z. start ++ z) (sym (text_both note way marks front (one ∷ [])))
+    ∙ ap (λ z. start ++ kept_text note way marks z) (sym (map_more assign_of lines i d lt))
 
-pub lines_begun : (way : Way) (marks : List Bool) (lines : List Line) (start : List ℕ) → start ≡ start ++ kept_text way marks (assigns_of (take 0 lines))
-lines_begun way marks lines start = sym (ap (λ z. start ++ z) (text_none way marks) ∙ append-nil start)
+pub lines_begun : (note : Comments) (way : Way) (marks : List Bool) (lines : List Line) (start : List ℕ) → start ≡ start ++ kept_text note way marks (assigns_of (take 0 lines))
+lines_begun note way marks lines start = sym (ap (λ z. start ++ z) (text_none note way marks) ∙ append-nil start)
 
-pub lines_done : (way : Way) (marks : List Bool) (lines : List Line) (i : ℕ) (start text : List ℕ) → length lines ≤ i → text ≡ start ++ kept_text way marks (assigns_of (take i lines))
-    → text ≡ start ++ kept_text way marks (assigns_of lines)
-lines_done way marks lines i start text le h = h ∙ ap (λ z. start ++ kept_text way marks (assigns_of z)) (take_all i lines le)
+pub lines_done : (note : Comments) (way : Way) (marks : List Bool) (lines : List Line) (i : ℕ) (start text : List ℕ) → length lines ≤ i → text ≡ start ++ kept_text note way marks (assigns_of (take i lines))
+    → text ≡ start ++ kept_text note way marks (assigns_of lines)
+lines_done note way marks lines i start text le h = h ∙ ap (λ z. start ++ kept_text note way marks (assigns_of z)) (take_all i lines le)
 
 pub flag_pieces : (t a r b o z : List ℕ) → t ++ a ++ r ++ b ++ o ++ z ≡ t ++ (a ++ r ++ b ++ o ++ z)
 flag_pieces t a r b o z = simp append_assoc

@@ -3,19 +3,20 @@ use Rattle.std.proofs.Common.{◌≡◌, ◌≤◌, ◌++◌, ◌∙◌, ℕ, Bo
 use Rattle.std.proofs.lemmas.List.{length-append}
 use Rattle.pr_lens_rtl.specs.Verilog.{Assign}
 use Rattle.pr_lens_rtl_text.specs.declared.lines.Way.{Way}
+use Rattle.pr_lens_rtl_text.specs.Notes.{Comments}
 use Rattle.pr_lens_rtl_text.specs.Printed.{kept_text}
 use Rattle.pr_lens_rtl_text.proofs.TextLemmas.{text_both}
 
-pub three_kept : (way : Way) (marks : List Bool) (t : List ℕ) (xs ys zs : List Assign) {t1 t2 t3 : List ℕ} → t1 ≡ t ++ kept_text way marks xs → t2 ≡ t1 ++ kept_text way marks ys → t3 ≡ t2 ++ kept_text way marks zs
-    → t3 ≡ t ++ kept_text way marks (xs ++ (ys ++ zs))
-three_kept way marks t xs ys zs {t1} {t2} {t3} e f g =
+pub three_kept : (note : Comments) (way : Way) (marks : List Bool) (t : List ℕ) (xs ys zs : List Assign) {t1 t2 t3 : List ℕ} → t1 ≡ t ++ kept_text note way marks xs → t2 ≡ t1 ++ kept_text note way marks ys → t3 ≡ t2 ++ kept_text note way marks zs
+    → t3 ≡ t ++ kept_text note way marks (xs ++ (ys ++ zs))
+three_kept note way marks t xs ys zs {t1} {t2} {t3} e f g =
     g
-    ∙ ap (λ q. q ++ kept_text way marks zs) (f ∙ ap (λ q. q ++ kept_text way marks ys) e ∙ append_assoc t (kept_text way marks xs) (kept_text way marks ys))
-    ∙ append_assoc t (kept_text way marks xs ++ kept_text way marks ys) (kept_text way marks zs)
+    ∙ ap (λ q. q ++ kept_text note way marks zs) (f ∙ ap (λ q. q ++ kept_text note way marks ys) e ∙ append_assoc t (kept_text note way marks xs) (kept_text note way marks ys))
+    ∙ append_assoc t (kept_text note way marks xs ++ kept_text note way marks ys) (kept_text note way marks zs)
     ∙ ap (λ q. t ++ q)
-    (append_assoc (kept_text way marks xs) (kept_text way marks ys) (kept_text way marks zs)
-    ∙ ap (λ q. kept_text way marks xs ++ q) (sym (text_both way marks ys zs))
-    ∙ sym (text_both way marks xs (ys ++ zs)))
+    (append_assoc (kept_text note way marks xs) (kept_text note way marks ys) (kept_text note way marks zs)
+    ∙ ap (λ q. kept_text note way marks xs ++ q) (sym (text_both note way marks ys zs))
+    ∙ sym (text_both note way marks xs (ys ++ zs)))
 
 pub eight_pieces : (h s r w o k q e : List ℕ) {t0 t1 t2 t3 t4 t5 t6 t7 t8 : List ℕ} → t0 ≡ [] → t1 ≡ t0 ++ h → t2 ≡ t1 ++ s → t3 ≡ t2 ++ r → t4 ≡ t3 ++ w → t5 ≡ t4 ++ o → t6 ≡ t5 ++ k → t7 ≡ t6 ++ q → t8 ≡ t7 ++ e
     → t8 ≡ h ++ s ++ r ++ w ++ o ++ k ++ q ++ e
@@ -25,9 +26,9 @@ pub three_pieces : (t a b c : List ℕ) → t ++ a ++ b ++ c ≡ t ++ (a ++ b ++
 three_pieces t a b c = simp append_assoc
 
 -- ---- the first of some pieces
-pub kept_within : (way : Way) (marks : List Bool) (t : List ℕ) (xs ys : List Assign) → length (t ++ kept_text way marks xs) ≤ length (t ++ kept_text way marks (xs ++ ys))
-kept_within way marks t xs ys =
-    omega (arith, length-append t (kept_text way marks xs), length-append t (kept_text way marks (xs ++ ys)), ap length (text_both way marks xs ys), length-append (kept_text way marks xs) (kept_text way marks ys))
+pub kept_within : (note : Comments) (way : Way) (marks : List Bool) (t : List ℕ) (xs ys : List Assign) → length (t ++ kept_text note way marks xs) ≤ length (t ++ kept_text note way marks (xs ++ ys))
+kept_within note way marks t xs ys =
+    omega (arith, length-append t (kept_text note way marks xs), length-append t (kept_text note way marks (xs ++ ys)), ap length (text_both note way marks xs ys), length-append (kept_text note way marks xs) (kept_text note way marks ys))
 
 front_within : (a b : List ℕ) → length a ≤ length (a ++ b)
 front_within a b = omega (arith, length-append a b)

@@ -1,6 +1,8 @@
+pub mod Notes
 pub mod Printed
 pub mod Signs
 pub mod Names
 pub mod Ports
 pub mod Limits
 pub mod Modules
+pub mod Uncommented

@@ -6,6 +6,7 @@ use Rattle.pr_lens_rtl.specs.declared.vectors.Net.{Net}
 use Rattle.pr_lens_rtl.specs.Verilog.{Expr, Assign, width}
 use Rattle.pr_lens_rtl.specs.Kept.{is_kept, kept_of}
 use Rattle.pr_lens_rtl_text.specs.declared.lines.Way.{Way}
+use Rattle.pr_lens_rtl_text.specs.Notes.{Comments, tail_text}
 
 -- ---- names
 -- a vector of a stage: a letter, the stage, and the column or the byte; no name of a program has a dollar
@@ -92,15 +93,16 @@ declared_text kind n = kind ++ range_text (width n) ++ net_text n
 abbrev pub wire_text : Net → List ℕ
 wire_text n = if is_port n then codes "assign " ++ net_text n else declared_text (codes "wire ") n
 
--- the line of a wire, the line where a register is declared, and the line of what it takes at the clock
-abbrev pub line_text : Way → Assign → List ℕ
-line_text Way.Wire a = wire_text a.net ++ codes " = " ++ expr_text true a.expr ++ codes ";\n"
-line_text Way.Declared a = declared_text (codes "reg ") a.net ++ codes ";\n"
-line_text Way.Clocked a = codes "  " ++ net_text a.net ++ codes " <= " ++ expr_text true a.expr ++ codes ";\n"
+-- the line of a wire, the line where a register is declared, and the line of what it takes at the clock; the first two end in
+-- the comment of the vector
+abbrev pub line_text : Comments → Way → Assign → List ℕ
+line_text note Way.Wire a = wire_text a.net ++ codes " = " ++ expr_text true a.expr ++ codes ";" ++ tail_text (note a.net) ++ codes "\n"
+line_text note Way.Declared a = declared_text (codes "reg ") a.net ++ codes ";" ++ tail_text (note a.net) ++ codes "\n"
+line_text note Way.Clocked a = codes "  " ++ net_text a.net ++ codes " <= " ++ expr_text true a.expr ++ codes ";\n"
 
-abbrev pub lines_text : Way → List Assign → List ℕ
-lines_text way assigns = flat_map (line_text way) assigns
+abbrev pub lines_text : Comments → Way → List Assign → List ℕ
+lines_text note way assigns = flat_map (line_text note way) assigns
 
 -- the lines of those assignments whose vectors are marked
-unfoldable pub kept_text : Way → List Bool → List Assign → List ℕ
-kept_text way marks assigns = lines_text way (kept_of (is_kept marks) assigns)
+unfoldable pub kept_text : Comments → Way → List Bool → List Assign → List ℕ
+kept_text note way marks assigns = lines_text note way (kept_of (is_kept marks) assigns)

@@ -11,8 +11,10 @@ ghost use Rattle.pr_lens_rtl.specs.Kept.{kept_module};
 ghost use Rattle.pr_lens_rtl.specs.Driven.{driven, IsBelow};
 ghost use Rattle.pr_lens_rtl.specs.Traces.{samples_in, results_in, IsRunFromReset, end_of, offers_none, ready_clocks, AgreeAtInputs, AgreeAtRegisters, IsReadyForMore};
 ghost use Rattle.pr_lens_rtl_text.specs.Names.{IsName, is_reserved, port_name};
+ghost use Rattle.pr_lens_rtl_text.specs.Notes.{Comments};
 ghost use Rattle.pr_lens_rtl_text.specs.Printed.{net_text};
-ghost use Rattle.pr_lens_rtl_text.specs.Modules.{IsRtlText};
+ghost use Rattle.pr_lens_rtl_text.specs.Modules.{IsRtlText, rtl_text};
+ghost use Rattle.pr_lens_rtl_text.specs.Uncommented.{uncommented};
 
 use pr_lens_rtl::{driven_law, kept_law};
 
@@ -30,34 +32,38 @@ pub fn names_law()
 /// What is known of a text that was written for a program and its configuration: in every run of its module from a reset,
 /// the results that leave are the first ones of what the configuration makes of the samples that entered, and all of them
 /// after as many clocks in which the module is ready as there are stages. It is ready unless a result stands at its end and
-/// is not taken. There is such a run, whatever its registers and inputs hold. Each of its vectors is driven once, and no two of them have one name.
+/// is not taken. There is such a run, whatever its registers and inputs hold. Each of its vectors is driven once, and no two of
+/// them have one name. Whatever else is noted of its vectors, it is the same text but for the comments.
 pub fn written_law()
-    ensures trace { (N P : ℕ) (name : List ℕ) (program : Program) (c : Shape) (text : List ℕ)
-        → IsRtlText N P name program c text
+    ensures trace { (N P : ℕ) (note : Comments) (name : List ℕ) (program : Program) (c : Shape)
+        → (text : List ℕ) → IsRtlText N P note name program c text
         → (first now : Values) (rest : List Values) → IsRunFromReset (kept_module N P c) first now rest
         → (more : List (List ℕ)) × (results_of N P c (samples_in c now rest) ≡ results_in c now rest ++ more) }
-    ensures all { (N P : ℕ) (name : List ℕ) (program : Program) (c : Shape) (text : List ℕ)
-        → IsRtlText N P name program c text
+    ensures all { (N P : ℕ) (note : Comments) (name : List ℕ) (program : Program) (c : Shape)
+        → (text : List ℕ) → IsRtlText N P note name program c text
         → (first now : Values) (rest more : List Values)
         → IsRunFromReset (kept_module N P c) first now (rest ++ more)
         → offers_none (end_of now rest) more ≡ true → length c.stages ≤ ready_clocks (end_of now rest) more
         → results_in c now (rest ++ more) ≡ results_of N P c (samples_in c now rest) }
-    ensures ready { (N P : ℕ) (name : List ℕ) (program : Program) (c : Shape) (text : List ℕ)
-        → IsRtlText N P name program c text
+    ensures ready { (N P : ℕ) (note : Comments) (name : List ℕ) (program : Program) (c : Shape)
+        → (text : List ℕ) → IsRtlText N P note name program c text
         → (now : Values) → IsSettled (kept_module N P c) now → IsReadyForMore now }
-    ensures settles { (N P : ℕ) (name : List ℕ) (program : Program) (c : Shape) (text : List ℕ)
-        → IsRtlText N P name program c text → (first : Values) → Fit first
+    ensures settles { (N P : ℕ) (note : Comments) (name : List ℕ) (program : Program) (c : Shape)
+        → (text : List ℕ) → IsRtlText N P note name program c text → (first : Values) → Fit first
         → (now : Values) × IsSettled (kept_module N P c) now × AgreeAtInputs first now × AgreeAtRegisters first now }
-    ensures next { (N P : ℕ) (name : List ℕ) (program : Program) (c : Shape) (text : List ℕ)
-        → IsRtlText N P name program c text → (now ports : Values)
+    ensures next { (N P : ℕ) (note : Comments) (name : List ℕ) (program : Program) (c : Shape)
+        → (text : List ℕ) → IsRtlText N P note name program c text → (now ports : Values)
         → IsSettled (kept_module N P c) now → Fit ports
         → (after : Values) × IsClock (kept_module N P c) now after × AgreeAtInputs ports after }
-    ensures once { (N P : ℕ) (name : List ℕ) (program : Program) (c : Shape) (text : List ℕ)
-        → IsRtlText N P name program c text
+    ensures once { (N P : ℕ) (note : Comments) (name : List ℕ) (program : Program) (c : Shape)
+        → (text : List ℕ) → IsRtlText N P note name program c text
         → AllPairs (λ m n. m ≢ n) (driven (kept_module N P c)) }
-    ensures named { (N P : ℕ) (name : List ℕ) (program : Program) (c : Shape) (text : List ℕ)
-        → IsRtlText N P name program c text
+    ensures named { (N P : ℕ) (note : Comments) (name : List ℕ) (program : Program) (c : Shape)
+        → (text : List ℕ) → IsRtlText N P note name program c text
         → AllPairs (λ a b. a ≢ b) (map net_text (driven (kept_module N P c))) }
+    ensures comments { (N P : ℕ) (note other : Comments) (name : List ℕ) (program : Program) (c : Shape)
+        → (text : List ℕ) → IsRtlText N P note name program c text
+        → uncommented text ≡ uncommented (rtl_text N P other name program c) }
 {
     kept_law();
     driven_law();

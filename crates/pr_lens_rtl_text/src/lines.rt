@@ -4,8 +4,10 @@ ghost use Rattle.std.specs.Prelude.{◌≡◌, ◌-◌, ◌++◌, ◌∷◌, [],
 ghost use Rattle.pr_lens_rtl.specs.Verilog.{Expr, part_width, width};
 ghost use Rattle.pr_lens_rtl_terms.specs.Terms.{assign_of, assigns_of, atom_expr, change_expr, factor_expr, flag_expr, form_expr, term_expr};
 ghost use Rattle.pr_lens_rtl_text.specs.Printed.{bit_text, close_text, declared_text, expr_text, front_text, is_port, kept_text, line_text, low_text, net_text, open_text, part_text, range_text, wire_text};
+ghost use Rattle.pr_lens_rtl_text.specs.Notes.{note_of, tail_text};
 ghost use Rattle.pr_lens_rtl_text.specs.Signs.{sign_text, between_text};
 
+use crate::notes::{Notes, end_line};
 use pr_lens_rtl::{Net, Part};
 use pr_lens_rtl_terms::{Atom, Change, Factor, Form, Line, Sign, Term, is_kept};
 use pr_lens_text::{put, put_counted, put_number};
@@ -407,74 +409,105 @@ fn put_wire(text: &mut Vec<u8>, net: Net) -> Result<(), AllocError>
     }
 }
 
-/// Adds a sign, a right side, and the end of a line.
+/// Adds a sign, a right side, and the semicolon behind it.
 fn put_right(text: &mut Vec<u8>, sign: &str, term: Term) -> Result<(), AllocError>
     ensures { OnOk result (text.new.items
-        ≡ text.old.items ++ (sign.now ++ expr_text true (term_expr term) ++ codes ";\n")) }
+        ≡ text.old.items ++ (sign.now ++ expr_text true (term_expr term) ++ codes ";")) }
 {
     put(text, sign)?;
     put_term(text, term)?;
-    put(text, ";\n")
+    put(text, ";")
 }
 
 /// Adds the line of a wire.
-fn put_wire_line(text: &mut Vec<u8>, line: &Line) -> Result<(), AllocError>
-    ensures { OnOk result (text.new.items ≡ text.old.items ++ line_text Way.Wire (assign_of line.now)) }
+fn put_wire_line(
+    text: &mut Vec<u8>,
+    marks: &[bool],
+    notes: &Notes,
+    line: &Line,
+) -> Result<(), AllocError>
+    ensures { OnOk result (text.new.items
+        ≡ text.old.items ++ line_text (note_of notes.now marks.now) Way.Wire (assign_of line.now)) }
 {
     put_wire(text, line.net)?;
-    put_right(text, " = ", line.term)
+    put_right(text, " = ", line.term)?;
+    end_line(text, marks, notes, line.net)
 }
 
 /// Adds the line in which a register is declared.
-fn put_declared_line(text: &mut Vec<u8>, net: Net) -> Result<(), AllocError>
-    ensures { OnOk result (text.new.items ≡ text.old.items ++ (declared_text (codes "reg ") net ++ codes ";\n")) }
+fn put_declared_line(
+    text: &mut Vec<u8>,
+    marks: &[bool],
+    notes: &Notes,
+    net: Net,
+) -> Result<(), AllocError>
+    ensures { OnOk result (text.new.items ≡ text.old.items ++ (declared_text (codes "reg ") net
+        ++ codes ";" ++ tail_text (note_of notes.now marks.now net) ++ codes "\n")) }
 {
     put_declared(text, "reg ", net)?;
-    put(text, ";\n")
+    put(text, ";")?;
+    end_line(text, marks, notes, net)
 }
 
 /// Adds the line of what a register takes at the clock.
 fn put_clocked_line(text: &mut Vec<u8>, line: &Line) -> Result<(), AllocError>
-    ensures { OnOk result (text.new.items ≡ text.old.items ++ line_text Way.Clocked (assign_of line.now)) }
+    ensures { OnOk result (text.new.items ≡ text.old.items ++ (codes "  " ++ net_text line.now.net
+        ++ codes " <= " ++ expr_text true (term_expr line.now.term) ++ codes ";\n")) }
 {
     put(text, "  ")?;
     put_net(text, line.net)?;
-    put_right(text, " <= ", line.term)
+    put_right(text, " <= ", line.term)?;
+    put(text, "\n")
 }
 
 /// Adds a line of an assignment.
-fn put_line(text: &mut Vec<u8>, way: Way, line: &Line) -> Result<(), AllocError>
-    ensures { OnOk result (text.new.items ≡ text.old.items ++ line_text way (assign_of line.now)) }
+fn put_line(
+    text: &mut Vec<u8>,
+    marks: &[bool],
+    notes: &Notes,
+    way: Way,
+    line: &Line,
+) -> Result<(), AllocError>
+    ensures { OnOk result (text.new.items
+        ≡ text.old.items ++ line_text (note_of notes.now marks.now) way (assign_of line.now)) }
 {
     match way {
-        Way::Wire => put_wire_line(text, line),
-        Way::Declared => put_declared_line(text, line.net),
+        Way::Wire => put_wire_line(text, marks, notes, line),
+        Way::Declared => put_declared_line(text, marks, notes, line.net),
         Way::Clocked => put_clocked_line(text, line),
     }
 }
 
 /// Adds a line of an assignment, where its vector is marked.
-fn put_kept(text: &mut Vec<u8>, marks: &[bool], way: Way, line: &Line) -> Result<(), AllocError>
+fn put_kept(
+    text: &mut Vec<u8>,
+    marks: &[bool],
+    notes: &Notes,
+    way: Way,
+    line: &Line,
+) -> Result<(), AllocError>
     ensures { OnOk result (text.new.items
-        ≡ text.old.items ++ kept_text way marks.now (assign_of line.now ∷ [])) }
+        ≡ text.old.items ++ kept_text (note_of notes.now marks.now) way marks.now (assign_of line.now ∷ [])) }
 {
     if !is_kept(marks, line.net) {
         return Ok(());
     }
-    put_line(text, way, line)
+    put_line(text, marks, notes, way, line)
 }
 
 /// Adds the lines of those assignments whose vectors are marked.
 pub fn put_lines(
     text: &mut Vec<u8>,
     marks: &[bool],
+    notes: &Notes,
     way: Way,
     lines: &[Line],
 ) -> Result<(), AllocError>
-    ensures { OnOk result (text.new.items ≡ text.old.items ++ kept_text way marks.now (assigns_of lines.now)) }
+    ensures { OnOk result (text.new.items
+        ≡ text.old.items ++ kept_text (note_of notes.now marks.now) way marks.now (assigns_of lines.now)) }
 {
     for line in lines {
-        put_kept(text, marks, way, line)?;
+        put_kept(text, marks, notes, way, line)?;
     }
     Ok(())
 }

@@ -6,17 +6,19 @@ ghost use Rattle.pr_conf.specs.Through.{output_widths};
 ghost use Rattle.pr_lens_rtl.specs.Module.{module_of, stages_registers, stages_wires};
 ghost use Rattle.pr_lens_rtl_text.specs.declared.lines.Way.{Way};
 ghost use Rattle.pr_lens_rtl_text.specs.declared.names.Side.{Side};
+ghost use Rattle.pr_lens_rtl_text.specs.Notes.{note_of};
 ghost use Rattle.pr_lens_rtl_text.specs.Printed.{kept_text};
 ghost use Rattle.pr_lens_rtl_text.specs.Ports.{ports_text};
 ghost use Rattle.pr_lens_rtl_text.specs.Names.{port_name};
 ghost use Rattle.pr_lens_rtl_terms.specs.Terms.{assigns_of};
 ghost use Rattle.pr_lens_rtl_text.specs.Limits.{IsTooLong, most_text_bytes};
-ghost use Rattle.pr_lens_rtl_text.specs.Modules.{head_text, ports_by, rtl_text, IsRtlText};
+ghost use Rattle.pr_lens_rtl_text.specs.Modules.{comments_of, head_text, ports_by, rtl_text, IsRtlText};
 
 use crate::bytes::see_bytes;
 use crate::faults::NoText;
 use crate::lines::{Way, put_lines};
 use crate::names::{Side, port_bytes, port_names};
+use crate::notes::Notes;
 use crate::ports::{Port, ports_of, put_ports, put_side_lines};
 use pr_conf::{Configuration, Output, Stage};
 use pr_lang::Program;
@@ -30,11 +32,19 @@ use std::alloc::{AllocError, Global};
 pub const MOST_TEXT_BYTES: usize = 16_777_216;
 
 /// Adds the lines of those assignments whose vectors are marked, unless the text gets too many bytes.
-fn put_short(text: &mut Vec<u8>, marks: &[bool], way: Way, lines: &[Line]) -> Result<(), NoText>
-    ensures text { OnOk result (text.new.items ≡ text.old.items ++ kept_text way marks.now (assigns_of lines.now)) }
-    ensures refused { IfErr result (IsTooLong (text.old.items ++ kept_text way marks.now (assigns_of lines.now))) }
+fn put_short(
+    text: &mut Vec<u8>,
+    marks: &[bool],
+    notes: &Notes,
+    way: Way,
+    lines: &[Line],
+) -> Result<(), NoText>
+    ensures text { OnOk result (text.new.items
+        ≡ text.old.items ++ kept_text (note_of notes.now marks.now) way marks.now (assigns_of lines.now)) }
+    ensures refused { IfErr result (IsTooLong
+        (text.old.items ++ kept_text (note_of notes.now marks.now) way marks.now (assigns_of lines.now))) }
 {
-    put_lines(text, marks, way, lines)?;
+    put_lines(text, marks, notes, way, lines)?;
     if MOST_TEXT_BYTES < text.len() {
         return Err(NoText::Long);
     }
@@ -42,26 +52,27 @@ fn put_short(text: &mut Vec<u8>, marks: &[bool], way: Way, lines: &[Line]) -> Re
 }
 
 /// Adds the lines of the registers of stages, which are counted from 0.
-fn put_registers<const N: usize>(
+fn put_registers<const N: usize, const P: usize>(
     alloc: Global,
     text: &mut Vec<u8>,
     marks: &[bool],
+    notes: &Notes,
     way: Way,
-    registers: u32,
     stages: &[Stage<N>],
 ) -> Result<(), NoText>
     requires columns { N ≤ 64 }
-    requires registers { registers ≤ 16 }
+    requires registers { P ≤ 16 }
     requires few { length stages.now ≤ 32768 }
     ensures text { OnOk result (text.new.items
-        ≡ text.old.items ++ kept_text way marks.now (stages_registers N registers 0 (map pes_of stages.now))) }
-    ensures refused { IfErr result (IsTooLong
-        (text.old.items ++ kept_text way marks.now (stages_registers N registers 0 (map pes_of stages.now)))) }
+        ≡ text.old.items ++ kept_text (note_of notes.now marks.now) way marks.now
+        (stages_registers N P 0 (map pes_of stages.now))) }
+    ensures refused { IfErr result (IsTooLong (text.old.items ++ kept_text (note_of notes.now marks.now) way marks.now
+        (stages_registers N P 0 (map pes_of stages.now)))) }
 {
     for number in 0..stages.len() {
         let pes = stages[number].pes.as_slice();
-        let lines = stage_registers(alloc, N as u32, registers, number as u32, pes)?;
-        put_short(text, marks, way, &lines)?;
+        let lines = stage_registers(alloc, N as u32, P as u32, number as u32, pes)?;
+        put_short(text, marks, notes, way, &lines)?;
     }
     Ok(())
 }
@@ -71,19 +82,21 @@ fn put_stages<const N: usize>(
     alloc: Global,
     text: &mut Vec<u8>,
     marks: &[bool],
+    notes: &Notes,
     stages: &[Stage<N>],
 ) -> Result<(), NoText>
     requires columns { N ≤ 64 }
     requires few { length stages.now ≤ 32768 }
     ensures text { OnOk result (text.new.items
-        ≡ text.old.items ++ kept_text Way.Wire marks.now (stages_wires N 0 (map pes_of stages.now))) }
-    ensures refused { IfErr result (IsTooLong
-        (text.old.items ++ kept_text Way.Wire marks.now (stages_wires N 0 (map pes_of stages.now)))) }
+        ≡ text.old.items ++ kept_text (note_of notes.now marks.now) Way.Wire marks.now
+        (stages_wires N 0 (map pes_of stages.now))) }
+    ensures refused { IfErr result (IsTooLong (text.old.items ++ kept_text (note_of notes.now marks.now) Way.Wire marks.now
+        (stages_wires N 0 (map pes_of stages.now)))) }
 {
     for number in 0..stages.len() {
         let pes = stages[number].pes.as_slice();
         let lines = stage_wires(alloc, N as u32, number as u32, pes)?;
-        put_short(text, marks, Way::Wire, &lines)?;
+        put_short(text, marks, notes, Way::Wire, &lines)?;
     }
     Ok(())
 }
@@ -93,15 +106,17 @@ fn put_all_registers<const N: usize, const P: usize>(
     alloc: Global,
     text: &mut Vec<u8>,
     marks: &[bool],
+    notes: &Notes,
     way: Way,
     conf: &Configuration<N, P>,
 ) -> Result<(), NoText>
     ensures text { OnOk result (text.new.items
-        ≡ text.old.items ++ kept_text way marks.now (module_of N P (shape_of conf.now)).registers) }
-    ensures refused { IfErr result (IsTooLong
-        (text.old.items ++ kept_text way marks.now (module_of N P (shape_of conf.now)).registers)) }
+        ≡ text.old.items ++ kept_text (note_of notes.now marks.now) way marks.now
+        (module_of N P (shape_of conf.now)).registers) }
+    ensures refused { IfErr result (IsTooLong (text.old.items ++ kept_text (note_of notes.now marks.now) way marks.now
+        (module_of N P (shape_of conf.now)).registers)) }
 {
-    put_registers::<N>(alloc, text, marks, way, P as u32, &conf.stages)
+    put_registers::<N, P>(alloc, text, marks, notes, way, &conf.stages)
 }
 
 /// Adds the lines of the wires of a configuration.
@@ -109,22 +124,25 @@ fn put_all_wires<const N: usize, const P: usize>(
     alloc: Global,
     text: &mut Vec<u8>,
     marks: &[bool],
+    notes: &Notes,
     conf: &Configuration<N, P>,
 ) -> Result<(), NoText>
     ensures text { OnOk result (text.new.items
-        ≡ text.old.items ++ kept_text Way.Wire marks.now (module_of N P (shape_of conf.now)).wires) }
-    ensures refused { IfErr result (IsTooLong
-        (text.old.items ++ kept_text Way.Wire marks.now (module_of N P (shape_of conf.now)).wires)) }
+        ≡ text.old.items ++ kept_text (note_of notes.now marks.now) Way.Wire marks.now
+        (module_of N P (shape_of conf.now)).wires) }
+    ensures refused { IfErr result (IsTooLong (text.old.items ++ kept_text (note_of notes.now marks.now) Way.Wire marks.now
+        (module_of N P (shape_of conf.now)).wires)) }
 {
     let taps = tap_lines::<N, P>(alloc, conf)?;
-    put_stages::<N>(alloc, text, marks, &conf.stages)?;
+    put_stages::<N>(alloc, text, marks, notes, &conf.stages)?;
     put_lines(
         text,
         marks,
+        notes,
         Way::Wire,
         &hand_lines(last_stage::<N, P>(conf)),
     )?;
-    put_lines(text, marks, Way::Wire, &taps)?;
+    put_lines(text, marks, notes, Way::Wire, &taps)?;
     Ok(())
 }
 
@@ -224,16 +242,20 @@ pub fn module_name(alloc: Global, name: &str) -> Result<Vec<u8>, AllocError>
     port_bytes(alloc, name.as_bytes())
 }
 
-/// The module of a program and its configuration, with this name, unless it has too many bytes. Then most of it is not made.
+/// The module of a program and its configuration, with this name and these comments, unless it has too many bytes. Then
+/// most of it is not made.
 pub fn rtl<const N: usize, const P: usize>(
     alloc: Global,
     name: &str,
     program: &Program,
     conf: &Configuration<N, P>,
+    notes: &Notes,
 ) -> Result<Vec<u8>, NoText>
-    ensures made { IfOk result (λ text. IsRtlText N P name.now program.now (shape_of conf.now) text.items) }
+    ensures made { IfOk result (λ text. IsRtlText N P (comments_of N P notes.now (shape_of conf.now))
+        name.now program.now (shape_of conf.now) text.items) }
     ensures short { IfOk result (λ text. length text.items ≤ most_text_bytes) }
-    ensures refused { IfErr result (IsTooLong (rtl_text N P name.now program.now (shape_of conf.now))) }
+    ensures refused { IfErr result (IsTooLong
+        (rtl_text N P (comments_of N P notes.now (shape_of conf.now)) name.now program.now (shape_of conf.now))) }
 {
     let name = module_name(alloc, name)?;
     let inputs = input_ports::<N, P>(alloc, program, conf)?;
@@ -242,11 +264,11 @@ pub fn rtl<const N: usize, const P: usize>(
     let mut text = Vec::new(alloc);
     put_heading(&mut text, &name, &inputs, &outputs)?;
     put_side_lines(&mut text, Side::Input, &inputs)?;
-    put_all_registers::<N, P>(alloc, &mut text, &marks, Way::Declared, conf)?;
-    put_all_wires::<N, P>(alloc, &mut text, &marks, conf)?;
+    put_all_registers::<N, P>(alloc, &mut text, &marks, notes, Way::Declared, conf)?;
+    put_all_wires::<N, P>(alloc, &mut text, &marks, notes, conf)?;
     put_side_lines(&mut text, Side::Output, &outputs)?;
     put(&mut text, "always @(posedge clock) begin\n")?;
-    put_all_registers::<N, P>(alloc, &mut text, &marks, Way::Clocked, conf)?;
+    put_all_registers::<N, P>(alloc, &mut text, &marks, notes, Way::Clocked, conf)?;
     put_end(&mut text)?;
     see_bytes::<N, P>(conf);
     Ok(text)

@@ -17,6 +17,8 @@ mod json;
 #[cfg(test)]
 mod logs;
 #[cfg(test)]
+mod modules;
+#[cfg(test)]
 mod scope;
 #[cfg(test)]
 mod shown;

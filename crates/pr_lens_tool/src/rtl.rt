@@ -1,19 +1,44 @@
 //! The module of a program, in Verilog.
 
 ghost use Rattle.std.specs.Prelude.{◌≡◌, ◌≤◌, ◌⊎◌, length, IfOk, IfErr};
+ghost use Rattle.pr_conf.specs.Configuration.{shape_of};
 ghost use Rattle.pr_tool_answers.specs.declared.answers.Answer.{Answer};
 ghost use Rattle.pr_tool_modes.specs.Programs.{IsUncompiled};
-ghost use Rattle.pr_lens_tool.specs.Modules.{IsModuleOrLong};
+ghost use Rattle.pr_lens_tool.specs.Modules.{IsModuleOrLong, IsWrittenOrLong};
 
-use crate::compiling::compilation_of;
+use crate::compiling::{Compilation, compilation_of};
 use crate::outcomes::{Outcome, Output};
 use crate::programs::answer_of;
-use pr_lens_rtl_text::{NoText, rtl};
+use pr_lens_notes::notes_of;
+use pr_lens_rtl_text::{NoText, Notes, rtl};
 use pr_tool::Answer;
 use std::alloc::Global;
 
-/// The module of a program, unless it is too long.
-#[tactic(auto, using(crate::proofs::ModuleLemmas::module_is, crate::proofs::ModuleLemmas::long_is))]
+/// The module of a program and its configuration, with comments, unless it is too long.
+fn module_text<const N: usize, const P: usize>(
+    alloc: Global,
+    name: &str,
+    made: &Compilation<N, P>,
+    notes: &Notes,
+) -> Result<Output, Answer>
+    ensures told { IfOk result (λ o. IsWrittenOrLong N P notes.now name.now
+        made.now.front.scoped.program (shape_of made.now.conf) o.outcome o.text.items) }
+    ensures refused { IfErr result (λ a. a ≡ Answer.Memory) }
+{
+    match rtl::<N, P>(alloc, name, &made.front.scoped.program, &made.conf, notes) {
+        Ok(text) => Ok(Output {
+            text,
+            outcome: Outcome::Plain(Answer::Ok),
+        }),
+        Err(NoText::Long) => Ok(Output {
+            text: Vec::new(alloc),
+            outcome: Outcome::LongModule,
+        }),
+        Err(NoText::Memory(_)) => Err(Answer::Memory),
+    }
+}
+
+/// The module of a program, with comments that name its streams, unless it is too long.
 pub fn rtl_of<const N: usize, const P: usize>(
     alloc: Global,
     narrowed: bool,
@@ -33,15 +58,9 @@ pub fn rtl_of<const N: usize, const P: usize>(
         Ok(made) => made,
         Err(fault) => return Err(answer_of(&fault)),
     };
-    match rtl::<N, P>(alloc, name, &made.front.scoped.program, &made.conf) {
-        Ok(text) => Ok(Output {
-            text,
-            outcome: Outcome::Plain(Answer::Ok),
-        }),
-        Err(NoText::Long) => Ok(Output {
-            text: Vec::new(alloc),
-            outcome: Outcome::LongModule,
-        }),
-        Err(NoText::Memory(_)) => Err(Answer::Memory),
-    }
+    let notes = match notes_of::<N, P>(alloc, text, narrowed) {
+        Ok(notes) => notes,
+        Err(fault) => return Err(answer_of(&fault)),
+    };
+    module_text::<N, P>(alloc, name, &made, &notes)
 }

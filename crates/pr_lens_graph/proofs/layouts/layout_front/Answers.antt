@@ -6,6 +6,7 @@ use Rattle.pr_cut_units.specs.Nets.{net_of}
 use Rattle.pr_compile.specs.Refusals.{IsNetAnswer, IsFrontAnswer}
 use Rattle.pr_compile.proofs.Ready.{whole_ready, narrowed_ready}
 use Rattle.pr_compile.proofs.Steps.{flat_widths, whole_answer, narrowed_answer}
+use Rattle.pr_place.specs.Placements.{shape_of as placement_shape}
 use Rattle.pr_lens_graph.specs.Layouts.{IsLaidOut}
 use Rattle.pr_lens_graph.proofs.layouts.layout_front.Goals as goal
 
@@ -16,7 +17,7 @@ pub returns-then-not-narrowed-clause-layout : goal.returns-then-not-narrowed-cla
 returns-then-not-narrowed-clause-layout g c =
     let front = c.args.front.now in
     rw c.if-not-narrowed.true
-    (IfOk-weaker c.laid_out.result _ _ (λ x h. whole_ready (λ (es : List EquationShape) (ws : List ℕ) (qs : List Operand). IsLaidOut g.row.N g.row.P (net_of es ws qs) x.net x.stages.items) front.scoped.program front.flat front.widths c.requires.equations c.requires.widths h) c.laid_out.ensures.layout)
+    (IfOk-weaker c.laid_out.result _ _ (λ x h. whole_ready (λ (es : List EquationShape) (ws : List ℕ) (qs : List Operand). IsLaidOut g.row.N g.row.P (net_of es ws qs) x.net (placement_shape x.placement) x.stages.items) front.scoped.program front.flat front.widths c.requires.equations c.requires.widths h) c.laid_out.ensures.layout)
 
 pub returns-then-not-narrowed-clause-refused : goal.returns-then-not-narrowed-clause-refused
 returns-then-not-narrowed-clause-refused g c =
@@ -32,7 +33,7 @@ pub returns-clause-layout : goal.returns-clause-layout
 returns-clause-layout g c =
     let front = c.args.front.now in
     rw c.if-not-narrowed.false
-    (IfOk-weaker c.laid_out-2.result _ _ (λ x h. narrowed_ready (λ (es : List EquationShape) (ws : List ℕ) (qs : List Operand). IsLaidOut g.row.N g.row.P (net_of es ws qs) x.net x.stages.items) front.scoped.program front.flat front.widths c.requires.equations c.requires.widths c.in_ok-flat.flat c.in_ok-flat.widths c.in_ok-flat.ensures.narrowed c.in_ok-flat.ensures.outputs h) c.laid_out-2.ensures.layout)
+    (IfOk-weaker c.laid_out-2.result _ _ (λ x h. narrowed_ready (λ (es : List EquationShape) (ws : List ℕ) (qs : List Operand). IsLaidOut g.row.N g.row.P (net_of es ws qs) x.net (placement_shape x.placement) x.stages.items) front.scoped.program front.flat front.widths c.requires.equations c.requires.widths c.in_ok-flat.flat c.in_ok-flat.widths c.in_ok-flat.ensures.narrowed c.in_ok-flat.ensures.outputs h) c.laid_out-2.ensures.layout)
 
 pub returns-clause-refused : goal.returns-clause-refused
 returns-clause-refused g c =

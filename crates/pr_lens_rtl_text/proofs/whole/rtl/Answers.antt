@@ -9,6 +9,7 @@ use Rattle.pr_lens_rtl.specs.Module.{module_of}
 use Rattle.pr_lens_rtl.specs.Kept.{marks_of}
 use Rattle.pr_lens_rtl_text.specs.declared.lines.Way.{Way}
 use Rattle.pr_lens_rtl_text.specs.declared.names.Side.{Side}
+use Rattle.pr_lens_rtl_text.specs.Notes.{note_of}
 use Rattle.pr_lens_rtl_text.specs.Printed.{kept_text}
 use Rattle.pr_lens_rtl_text.specs.Ports.{ports_text, side_lines}
 use Rattle.pr_lens_rtl_text.specs.Modules.{head_text, module_text, ports_by}
@@ -25,8 +26,8 @@ returns-clause-made g c =
     let marks = marks_of g.row.N g.row.P shape in
     let m = module_of g.row.N g.row.P shape in
     let text = eight_pieces (head_text (port_name c.args.name.now) ++ ports_text Side.Input inputs ++ ports_text Side.Output outputs ++ codes "\n);\n") (side_lines Side.Input 0 inputs)
-    (kept_text Way.Declared marks m.registers) (kept_text Way.Wire marks m.wires) (side_lines Side.Output 0 outputs)
-    (codes "always @(posedge clock) begin\n") (kept_text Way.Clocked marks m.registers) (codes "end\nendmodule\n")
+    (kept_text (note_of c.args.notes.now marks) Way.Declared marks m.registers) (kept_text (note_of c.args.notes.now marks) Way.Wire marks m.wires) (side_lines Side.Output 0 outputs)
+    (codes "always @(posedge clock) begin\n") (kept_text (note_of c.args.notes.now marks) Way.Clocked marks m.registers) (codes "end\nendmodule\n")
     c.new-text.ensures.items
     (rw (c.deref.ensures.value, c.deref-2.ensures.value, c.deref-3.ensures.value, c.in_ok-name.ensures, c.in_ok-inputs.ensures.ports, c.in_ok-outputs.ensures.ports) at c.in_ok-put_heading.ensures)
     (rw (c.deref-4.ensures.value, c.in_ok-inputs.ensures.ports) at c.in_ok-put_side_lines.ensures)
@@ -66,8 +67,8 @@ returns-in_err-put_all_registers-clause-refused g c =
     let r = c.from_residual-in_err-put_all_registers in
     at_fault r.result _ _ _ (err_from_is_err_and r.result r.ensures.1)
     (three_within (head_text (port_name c.args.name.now) ++ ports_text Side.Input inputs ++ ports_text Side.Output outputs ++ codes "\n);\n") (side_lines Side.Input 0 inputs)
-    (kept_text Way.Declared marks m.registers) (kept_text Way.Wire marks m.wires) (side_lines Side.Output 0 outputs)
-    (codes "always @(posedge clock) begin\n") (kept_text Way.Clocked marks m.registers) (codes "end\nendmodule\n")
+    (kept_text (note_of c.args.notes.now marks) Way.Declared marks m.registers) (kept_text (note_of c.args.notes.now marks) Way.Wire marks m.wires) (side_lines Side.Output 0 outputs)
+    (codes "always @(posedge clock) begin\n") (kept_text (note_of c.args.notes.now marks) Way.Clocked marks m.registers) (codes "end\nendmodule\n")
     c.new-text.ensures.items
     (rw (c.deref.ensures.value, c.deref-2.ensures.value, c.deref-3.ensures.value, c.in_ok-name.ensures, c.in_ok-inputs.ensures.ports, c.in_ok-outputs.ensures.ports) at c.in_ok-put_heading.ensures)
     (rw (c.deref-4.ensures.value, c.in_ok-inputs.ensures.ports) at c.in_ok-put_side_lines.ensures))
@@ -84,8 +85,8 @@ returns-in_err-put_all_wires-clause-refused g c =
     let r = c.from_residual-in_err-put_all_wires in
     at_fault r.result _ _ _ (err_from_is_err_and r.result r.ensures.1)
     (four_within (head_text (port_name c.args.name.now) ++ ports_text Side.Input inputs ++ ports_text Side.Output outputs ++ codes "\n);\n") (side_lines Side.Input 0 inputs)
-    (kept_text Way.Declared marks m.registers) (kept_text Way.Wire marks m.wires) (side_lines Side.Output 0 outputs)
-    (codes "always @(posedge clock) begin\n") (kept_text Way.Clocked marks m.registers) (codes "end\nendmodule\n")
+    (kept_text (note_of c.args.notes.now marks) Way.Declared marks m.registers) (kept_text (note_of c.args.notes.now marks) Way.Wire marks m.wires) (side_lines Side.Output 0 outputs)
+    (codes "always @(posedge clock) begin\n") (kept_text (note_of c.args.notes.now marks) Way.Clocked marks m.registers) (codes "end\nendmodule\n")
     c.new-text.ensures.items
     (rw (c.deref.ensures.value, c.deref-2.ensures.value, c.deref-3.ensures.value, c.in_ok-name.ensures, c.in_ok-inputs.ensures.ports, c.in_ok-outputs.ensures.ports) at c.in_ok-put_heading.ensures)
     (rw (c.deref-4.ensures.value, c.in_ok-inputs.ensures.ports) at c.in_ok-put_side_lines.ensures)
@@ -103,8 +104,8 @@ returns-in_err-put_all_registers-2-clause-refused g c =
     let r = c.from_residual-in_err-put_all_registers-2 in
     at_fault r.result _ _ _ (err_from_is_err_and r.result r.ensures.1)
     (seven_within (head_text (port_name c.args.name.now) ++ ports_text Side.Input inputs ++ ports_text Side.Output outputs ++ codes "\n);\n") (side_lines Side.Input 0 inputs)
-    (kept_text Way.Declared marks m.registers) (kept_text Way.Wire marks m.wires) (side_lines Side.Output 0 outputs)
-    (codes "always @(posedge clock) begin\n") (kept_text Way.Clocked marks m.registers) (codes "end\nendmodule\n")
+    (kept_text (note_of c.args.notes.now marks) Way.Declared marks m.registers) (kept_text (note_of c.args.notes.now marks) Way.Wire marks m.wires) (side_lines Side.Output 0 outputs)
+    (codes "always @(posedge clock) begin\n") (kept_text (note_of c.args.notes.now marks) Way.Clocked marks m.registers) (codes "end\nendmodule\n")
     c.new-text.ensures.items
     (rw (c.deref.ensures.value, c.deref-2.ensures.value, c.deref-3.ensures.value, c.in_ok-name.ensures, c.in_ok-inputs.ensures.ports, c.in_ok-outputs.ensures.ports) at c.in_ok-put_heading.ensures)
     (rw (c.deref-4.ensures.value, c.in_ok-inputs.ensures.ports) at c.in_ok-put_side_lines.ensures)
@@ -125,8 +126,8 @@ returns-in_err-put_end-clause-refused g c =
     let r = c.from_residual-in_err-put_end in
     at_fault r.result _ _ _ (err_from_is_err_and r.result r.ensures.1)
     (same_length (eight_pieces (head_text (port_name c.args.name.now) ++ ports_text Side.Input inputs ++ ports_text Side.Output outputs ++ codes "\n);\n") (side_lines Side.Input 0 inputs)
-    (kept_text Way.Declared marks m.registers) (kept_text Way.Wire marks m.wires) (side_lines Side.Output 0 outputs)
-    (codes "always @(posedge clock) begin\n") (kept_text Way.Clocked marks m.registers) (codes "end\nendmodule\n")
+    (kept_text (note_of c.args.notes.now marks) Way.Declared marks m.registers) (kept_text (note_of c.args.notes.now marks) Way.Wire marks m.wires) (side_lines Side.Output 0 outputs)
+    (codes "always @(posedge clock) begin\n") (kept_text (note_of c.args.notes.now marks) Way.Clocked marks m.registers) (codes "end\nendmodule\n")
     c.new-text.ensures.items
     (rw (c.deref.ensures.value, c.deref-2.ensures.value, c.deref-3.ensures.value, c.in_ok-name.ensures, c.in_ok-inputs.ensures.ports, c.in_ok-outputs.ensures.ports) at c.in_ok-put_heading.ensures)
     (rw (c.deref-4.ensures.value, c.in_ok-inputs.ensures.ports) at c.in_ok-put_side_lines.ensures)
