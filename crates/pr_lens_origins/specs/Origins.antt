@@ -1,5 +1,5 @@
 -- The streams of a program with the places of their names, and the units that are made for each.
-use Rattle.std.specs.Prelude.{ℕ, ◌≡◌, ◌+◌, Bool, List, [], ◌∷◌, ◌++◌, Option, Some, None, codes, decimal, get_or}
+use Rattle.std.specs.Prelude.{ℕ, ◌≡◌, ◌+◌, Bool, List, [], ◌∷◌, ◌++◌, Option, Some, None, get_or}
 use Rattle.std.specs.List.{slice_get}
 use Rattle.pr_lang.specs.declared.trees.Program.{Program}
 use Rattle.pr_scope_names.specs.declared.streams.Instance.{Instance}
@@ -36,14 +36,10 @@ abbrev pub AreOriginsOrNone : ℕ → Bool → List ℕ → Program → List ℕ
 AreOriginsOrNone columns narrowed text program widths None = AreUntold columns narrowed program widths
 AreOriginsOrNone columns narrowed text program widths (Some origins) = AreOrigins narrowed text program widths origins
 
--- ---- as texts
+-- ---- as a text
 -- a stream by its name with its index
 abbrev pub stream_text : Stream → List ℕ
 stream_text stream = stream.name ++ index_text stream.index
-
--- the line before it, as in `12 s[3]`
-abbrev pub label_of : Stream → List ℕ
-label_of stream = decimal stream.spot.line ++ codes " " ++ stream_text stream
 
 -- ---- a unit
 abbrev pub owned_stream : List Stream → Option (Option ℕ) → Option Stream

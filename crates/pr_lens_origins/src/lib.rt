@@ -15,4 +15,4 @@ mod walks;
 pub use laws::{numbers_law, places_law};
 pub use spots::{Spot, spots_of};
 pub use streams::{Origins, Stream, origins_of, spot_at};
-pub use texts::{labels, put_stream};
+pub use texts::put_stream;

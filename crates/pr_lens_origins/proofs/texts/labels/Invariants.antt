@@ -1,7 +1,0 @@
-use Rattle.std.proofs.Common.{◌≡◌, ℕ, map, take}
-use Rattle.std.specs.Global.{Vec}
-use Rattle.pr_lens_origins.specs.Origins.{label_of}
-use Rattle.pr_lens_origins.proofs.texts.labels.Given as goal
-
-abbrev pub invariant-loop-stream : goal.invariant-loop-stream
-invariant-loop-stream l = map (λ (text : Vec ℕ). text.items) l.labels.items ≡ map label_of (take l.stream-index l.streams)
