@@ -13,7 +13,7 @@ use Rattle.pr_scope_names.specs.Names.{Known, bind}
 use Rattle.pr_expand_spec.specs.Making.{constant}
 use Rattle.pr_probe.specs.Instances as listed
 use Rattle.pr_probe.specs.Instances.{Listing, items_listing, known_after, listing_of}
-use Rattle.pr_lens_origins.specs.Numbers.{Naming, in_turn, item_numbers, item_size, items_numbers, later, naming_of, stmt_step, turns}
+use Rattle.pr_lens_origins.specs.Numbers.{Naming, in_turn, item_size, items_numbers, later, naming_of, stmt_step, turns}
 
 abbrev HasAsMany : Naming → Listing → Type 0
 HasAsMany n f = (at : ℕ) (known : Known) → length (n.numbers at known) ≡ length (f known)

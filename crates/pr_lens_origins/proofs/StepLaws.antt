@@ -1,5 +1,5 @@
 -- The numbers of names, step by step.
-use Rattle.std.proofs.Common.{◌≡◌, ◌∙◌, ◌+◌, ◌-◌, ◌<◌, ℕ, suc, List, ◌∷◌, ◌++◌, map, drop, get_or, length, Vec, Global, sym, ap, arith, append_assoc}
+use Rattle.std.proofs.Common.{◌≡◌, ◌∙◌, ◌+◌, ◌-◌, ◌<◌, ℕ, suc, List, ◌∷◌, ◌++◌, map, drop, get_or, length, sym, ap, arith, append_assoc}
 use Rattle.std.proofs.lemmas.List.{at_drop_more}
 use Rattle.pr_lang.specs.declared.trees.Item.{Item}
 use Rattle.pr_lang.specs.declared.trees.Stmt.{Stmt}

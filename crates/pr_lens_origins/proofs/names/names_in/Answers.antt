@@ -1,4 +1,3 @@
-use Rattle.std.proofs.Common.{arith}
 use Rattle.pr_lens_origins.specs.Spots.{is_stream_name}
 use Rattle.pr_lens_origins.proofs.PlaceLaws.{names_step}
 use Rattle.pr_lens_origins.proofs.names.names_in.Goals as goal

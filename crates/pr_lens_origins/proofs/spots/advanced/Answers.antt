@@ -1,6 +1,5 @@
-use Rattle.std.proofs.Common.{◌≡◌, ◌∙◌, ap, arith}
+use Rattle.std.proofs.Common.{ap, arith}
 use Rattle.pr_lens_origins.specs.declared.spots.Cursor.{Cursor}
-use Rattle.pr_lens_origins.specs.Spots.{column_behind, line_behind}
 use Rattle.pr_lens_origins.proofs.PlaceLaws.{columns_few, cursor_on, lines_few}
 use Rattle.pr_lens_origins.proofs.spots.advanced.Goals as goal
 
