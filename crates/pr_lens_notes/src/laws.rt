@@ -1,6 +1,6 @@
 //! What is known of comments. Nothing here runs.
 
-ghost use Rattle.std.specs.Prelude.{◌≡◌, ◌<◌, ◌≤◌, ⊥, ℕ, None, option_map};
+ghost use Rattle.std.specs.Prelude.{◌≡◌, ◌<◌, ◌≤◌, ℕ, None, option_map};
 ghost use Rattle.pr_net.specs.Shape.{NetShape};
 ghost use Rattle.pr_net.specs.Nets.{IsNet};
 ghost use Rattle.pr_place.specs.Placements.{PlacementShape, column_of, stage_of};
