@@ -1,5 +1,5 @@
 //! Real files as a shelf.
-ghost use Rattle.std.specs.Prelude.{◌≡◌, ◌≢◌, ℕ, ◌^◌, ◌<◌, ◌≤◌, ◌+◌, ◌-◌, List, length, take, min, vec_len, None, IfOk, IsErr, OnErr};
+ghost use Rattle.std.specs.Prelude.{◌≡◌, ◌≢◌, ℕ, ◌^◌, ◌<◌, ◌≤◌, ◌+◌, ◌-◌, List, length, take, min, vec_len, None, IfOk, IsErr, OnErr, OnOk};
 ghost use Rattle.pr_edge.specs.Count.{Rose};
 ghost use Rattle.pr_system.specs.Slots.{IsReadOn, IsSlotFor, IsInTurn, IsTurn};
 
@@ -106,7 +106,17 @@ impl<'a, R: Files, W: Write + Drop> Shelf for FileShelf<'a, R, W> {
 
     ghost counted = { λ s. s.in_range };
 
-    fn read_at(&mut self, name: &str, place: u64, buf: &mut [u8]) -> Result<usize, Failed> {
+    fn read_at(&mut self, name: &str, place: u64, buf: &mut [u8]) -> Result<usize, Failed>
+        ensures bound { IfOk result (λ k. k ≤ length buf.new) }
+        ensures cause { OnErr result (Rose self.old.faults self.new.faults) }
+        ensures later { self.old.faults ≤ self.new.faults }
+        ensures steady { OnOk result (self.new.faults ≡ self.old.faults) }
+
+        // What the file gave, where that is known, and which slots changed.
+        ensures read { IfOk result (λ k.
+            IsReadOn R.File.remaining self.old.slots.items self.new.slots.items name.now place k (take k buf.new)) }
+        ensures turn { IsTurn self.old.slots.items self.new.slots.items self.old.next self.new.next name.now }
+    {
         match self.read(name, place, buf) {
             Ok(count) => Ok(count),
             Err(_) => {
