@@ -10,9 +10,9 @@ use Rattle.pr_lens_source.specs.Tokens.{kind_of}
 use Rattle.pr_lens_extents.specs.declared.verdicts.Verdict.{Verdict}
 use Rattle.pr_lens_extents.specs.declared.verdicts.Verdict.TheVariants.{Unseen, Always, Varies, Cut, Negative}
 use Rattle.pr_lens_extents.specs.Programs.{program_verdicts}
+use Rattle.pr_lens_tokens.specs.Kinds.{is_assign, is_colon, is_comparison, is_number}
 use Rattle.pr_lens_warn.specs.declared.remarks.Remark.{Remark}
 use Rattle.pr_lens_warn.specs.declared.remarks.Remark.TheVariants.{Settled, Narrow, Argument}
-use Rattle.pr_lens_warn.specs.Kinds.{is_assign, is_colon, is_comparison, is_number}
 
 -- a declared width behind a name that is assigned: that of a parameter, a function or an input stands before other symbols
 abbrev pub is_declared : List Token → ℕ → Bool

@@ -6,7 +6,7 @@ use Rattle.pr_lens_source.specs.Introduced.{is_fn, is_name, is_same_name}
 use Rattle.pr_lens_source.specs.Items.{is_semi}
 use Rattle.pr_lens_source.specs.Spans.{item_of}
 use Rattle.pr_lens_source.specs.Tokens.{kind_of, first_of}
-use Rattle.pr_lens_warn.specs.Kinds.{assigns, yields}
+use Rattle.pr_lens_tokens.specs.Kinds.{assigns, yields}
 
 -- a statement is named by one of its tokens: the word before a result, or a name that is assigned
 abbrev pub is_result : List Token → ℕ → Bool

@@ -1,6 +1,7 @@
 //! Remarks on a program.
 
 use pr_flat::Form;
+use pr_lens_products::CheapProduct;
 use pr_lens_reach::{Extent, Reach};
 
 /// What is pointed out.
@@ -33,6 +34,10 @@ pub enum Remark {
     /// The amount of a shift is a stream, and always this number.
     Amount {
         number: u64,
+    },
+    /// Shifts make a product with fewer units.
+    Product {
+        cheap: CheapProduct,
     },
     /// A comparison gives the same for all values of its sides.
     Settled {
