@@ -1,5 +1,5 @@
 //! Files that are read from any place.
-ghost use Rattle.std.specs.Prelude.{◌≡◌, ◌≢◌, ℕ, ◌^◌, ◌<◌, ◌≤◌, ◌⊎◌, List, length, Option, IfOk, OnOk, OnErr, IsErr, IsErrOf};
+ghost use Rattle.std.specs.Prelude.{◌≡◌, ◌≢◌, ℕ, ◌^◌, ◌<◌, ◌≤◌, ◌+◌, ◌⊎◌, List, length, Option, Some, IfOk, IfSome, OnOk, OnErr, IsErr, IsErrOf};
 ghost use Rattle.pr_edge.specs.Files.{Told, OfFile, IsMissing, IsPart, HasReadCause, reach_after};
 
 use crate::Failed;
@@ -67,6 +67,10 @@ pub fn read_all<S: Shelf>(
 
     // A read that fails is not tried again: it ends with ReadFault.
     ensures steady { IsErrOf result ReadAll.ReadFault ⊎ S.faults shelf.new ≡ S.faults shelf.old }
+
+    // It reads at most 4,096 bytes past the limit.
+    ensures near { S.reach shelf.old name.now ≡ Some 0
+        → IfSome (S.reach shelf.new name.now) (λ r. r ≤ limit + 4096) }
 
     ensures same { S.told shelf.new ≡ S.told shelf.old }
     ensures others { (q : List ℕ) → q ≢ name.now → S.reach shelf.new q ≡ S.reach shelf.old q }

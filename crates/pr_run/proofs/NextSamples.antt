@@ -18,6 +18,7 @@ pub record IsNext (f f' : Feed) (now now' : View) (numbers : List ℕ) (got : Go
   pub file : SameFile f f'
   pub cause : got ≡ Got.ReadFault → HasReadCause now.told (name_of f) now.faults now'.faults
   pub missing : IsMissing now.told (name_of f) → reads_nothing f → got ≡ Got.ReadFault
+  pub steady : got ≢ Got.ReadFault → now'.faults ≡ now.faults
   pub later : now.faults ≤ now'.faults
   pub same : now'.told ≡ now.told
   pub reached : now.reach (name_of f) ≡ Some (place_of f) → now'.reach (name_of f) ≡ Some (place_of f')
@@ -92,6 +93,7 @@ has_next s f f' now now' rows numbers got h n =
       told = n.same ∙ h.told;
       cause = λ e. cause_earlier s.shelf.told (name_of s.feed) s.shelf.faults now.faults now'.faults h.later
           (subst (λ (x : List ℕ). HasReadCause s.shelf.told x now.faults now'.faults) name (subst (λ (t : Told). HasReadCause t (name_of f) now.faults now'.faults) h.told (n.cause e)));
+      steady = λ other. n.steady other ∙ h.steady (λ e. let z = e in cc);
       later = (let a = h.later in let b = n.later in omega arith);
       reached = λ e.
           subst (λ (x : List ℕ). now'.reach x ≡ Some (place_of f')) name (n.reached (subst (λ (x : List ℕ). now.reach x ≡ Some (place_of f)) (sym name) (h.reached e)));

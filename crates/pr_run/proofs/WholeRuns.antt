@@ -60,6 +60,7 @@ on_start {N} {P} s m stands fresh = record {
     missing = λ lost. (fresh.bytes, refl);
     told = refl;
     cause = λ e. absurd (cc);
+    steady = λ other. refl;
     later = omega arith;
     reached = λ e. e;
     others = λ q other. refl;

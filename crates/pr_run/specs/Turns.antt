@@ -77,6 +77,7 @@ pub record HasRead (s : Setting) (f : Feed) (now : View) (rows : List (List ℕ)
   pub missing : IsMissing s.shelf.told (name_of s.feed) → IsUnread last f × (rows ≡ [])
   pub told : now.told ≡ s.shelf.told
   pub cause : last ≡ Got.ReadFault → HasReadCause s.shelf.told (name_of s.feed) s.shelf.faults now.faults
+  pub steady : last ≢ Got.ReadFault → now.faults ≡ s.shelf.faults
   pub later : s.shelf.faults ≤ now.faults
   pub reached : s.shelf.reach (name_of s.feed) ≡ Some (place_of s.feed) → now.reach (name_of s.feed) ≡ Some (place_of f)
   pub others : (q : List ℕ) → q ≢ name_of s.feed → now.reach q ≡ s.shelf.reach q

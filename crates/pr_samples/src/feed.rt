@@ -1,5 +1,5 @@
 //! Samples that are read one after the other from a file of any size.
-ghost use Rattle.std.specs.Prelude.{◌≡◌, ◌≢◌, ◌↔◌, ℕ, ◌+◌, ◌-◌, ◌*◌, ◌^◌, ◌<◌, ◌≤◌, ◌⊎◌, ◌++◌, List, All, false, take, length, nat_lt, vec_len, Option, Some, None, IfOk, IfSome, IfNone, IsErr, IsTrue, OnErr, string_bytes};
+ghost use Rattle.std.specs.Prelude.{◌≡◌, ◌≢◌, ◌↔◌, ℕ, ◌+◌, ◌-◌, ◌*◌, ◌^◌, ◌<◌, ◌≤◌, ◌⊎◌, ◌++◌, List, All, false, take, length, nat_lt, vec_len, Option, Some, None, IfOk, IfSome, IfNone, IsErr, IsTrue, OnErr, OnOk, string_bytes};
 ghost use Rattle.pr_edge.specs.Files.{IsMissing, HasReadCause, IsPart};
 ghost use Rattle.pr_samples.specs.declared.tails.Tail.{Tail};
 ghost use Rattle.pr_samples.specs.declared.scan.Met.{Met};
@@ -339,6 +339,7 @@ impl Feed {
         ensures cause { result ≡ Got.ReadFault
             → HasReadCause (S.told shelf.old) (name_of self.old) (S.faults shelf.old) (S.faults shelf.new) }
         ensures missing { IsMissing (S.told shelf.old) (name_of self.old) → result ≡ Got.ReadFault }
+        ensures steady { result ≢ Got.ReadFault → S.faults shelf.new ≡ S.faults shelf.old }
         ensures later { S.faults shelf.old ≤ S.faults shelf.new }
         ensures same { S.told shelf.new ≡ S.told shelf.old }
         ensures reached { S.reach shelf.old (name_of self.old) ≡ Some (place_of self.old)
@@ -382,6 +383,7 @@ impl Feed {
         ensures missing { IsMissing (S.told shelf.old) (name_of self.old) → reads_nothing self.old →
             result ≡ Got.ReadFault }
         ensures quiet { IsReady self.old → (S.faults shelf.new ≡ S.faults shelf.old) × (result ≢ Got.ReadFault) }
+        ensures steady { result ≢ Got.ReadFault → S.faults shelf.new ≡ S.faults shelf.old }
         ensures later { S.faults shelf.old ≤ S.faults shelf.new }
         ensures same { S.told shelf.new ≡ S.told shelf.old }
         ensures reached { S.reach shelf.old (name_of self.old) ≡ Some (place_of self.old)
@@ -430,6 +432,9 @@ impl Feed {
         ensures missing { IsMissing (S.told shelf.old) (name_of self.old) → reads_nothing self.old →
             result ≡ Got.ReadFault }
         ensures quiet { IsReady self.old → (S.faults shelf.new ≡ S.faults shelf.old) × (result ≢ Got.ReadFault) }
+
+        // A read that fails is not tried again: it is answered with ReadFault.
+        ensures steady { result ≢ Got.ReadFault → S.faults shelf.new ≡ S.faults shelf.old }
         ensures later { S.faults shelf.old ≤ S.faults shelf.new }
 
         ensures same { S.told shelf.new ≡ S.told shelf.old }
@@ -453,6 +458,7 @@ impl Feed {
         ensures file { SameFile self.old self.new }
         ensures cause { OnErr result
             (HasReadCause (S.told shelf.old) (name_of self.old) (S.faults shelf.old) (S.faults shelf.new)) }
+        ensures steady { OnOk result (S.faults shelf.new ≡ S.faults shelf.old) }
         ensures later { S.faults shelf.old ≤ S.faults shelf.new }
         ensures same { S.told shelf.new ≡ S.told shelf.old }
         ensures others { (q : List ℕ) → q ≢ name_of self.old → S.reach shelf.new q ≡ S.reach shelf.old q }

@@ -1,6 +1,8 @@
 //! Real files as a shelf.
-ghost use Rattle.std.specs.Prelude.{◌≡◌, ◌≢◌, ℕ, ◌^◌, ◌<◌, ◌≤◌, ◌+◌, ◌-◌, List, length, take, min, vec_len, None, IfOk, IsErr, OnErr};
+ghost use Rattle.std.specs.Prelude.{◌≡◌, ◌≢◌, ℕ, ◌^◌, ◌<◌, ◌≤◌, ◌+◌, ◌-◌, List, length, take, min, vec_len, IfOk, IsErr, OnErr, OnOk};
 ghost use Rattle.pr_edge.specs.Count.{Rose};
+ghost use Rattle.pr_edge.specs.Files.{OfFile, IsMissing, IsPart, HasReadCause, reach_after};
+ghost use Rattle.pr_system.specs.Files.{untold, unreached};
 ghost use Rattle.pr_system.specs.Slots.{IsReadOn, IsSlotFor, IsInTurn, IsTurn};
 
 use crate::gathering::{Gathering, hand_on};
@@ -98,15 +100,30 @@ impl<'a, R: Files, W: Write + Drop> FileShelf<'a, R, W> {
 }
 
 impl<'a, R: Files, W: Write + Drop> Shelf for FileShelf<'a, R, W> {
-    ghost told = { λ _. None };
+    ghost told = { λ _. untold };
 
-    ghost reach = { λ _ _. None };
+    ghost reach = { λ _. unreached };
 
     ghost faults = { λ s. s.faults };
 
     ghost counted = { λ s. s.in_range };
 
-    fn read_at(&mut self, name: &str, place: u64, buf: &mut [u8]) -> Result<usize, Failed> {
+    fn read_at(&mut self, name: &str, place: u64, buf: &mut [u8]) -> Result<usize, Failed>
+        ensures bound { IfOk result (λ k. k ≤ length buf.new) }
+        ensures part { IfOk result (λ k. OfFile untold name.now (λ file. IsPart file place k buf.new)) }
+        ensures missing { IsMissing untold name.now → IsErr result × (self.new.faults ≡ self.old.faults) }
+        ensures cause { OnErr result (HasReadCause untold name.now self.old.faults self.new.faults) }
+        ensures later { self.old.faults ≤ self.new.faults }
+        ensures steady { OnOk result (self.new.faults ≡ self.old.faults) }
+        ensures same { untold ≡ untold }
+        ensures reached { unreached name.now ≡ reach_after result (unreached name.now) place }
+        ensures others { (q : List ℕ) → q ≢ name.now → unreached q ≡ unreached q }
+
+        // What the file gave, where that is known, and which slots changed.
+        ensures read { IfOk result (λ k.
+            IsReadOn R.File.remaining self.old.slots.items self.new.slots.items name.now place k (take k buf.new)) }
+        ensures turn { IsTurn self.old.slots.items self.new.slots.items self.old.next self.new.next name.now }
+    {
         match self.read(name, place, buf) {
             Ok(count) => Ok(count),
             Err(_) => {

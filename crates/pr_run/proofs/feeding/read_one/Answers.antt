@@ -14,7 +14,7 @@ returns-then-goes_on-clause-on g c = λ s runs turn t set side on.
     let e = c.next-got.ensures in
     let is : c.next-got.result ≡ Got.Sample = is_sample_end c.next-got.result (sym c.goes_on.ensures ∙ c.if-goes_on.true) in
     let next : IsNext c.args.feed.now c.next-got.new.self now new c.next-got.new.into c.next-got.result =
-    record { told = e.told; given = e.given; file = e.file; cause = e.cause; missing = e.missing; later = e.later; same = e.same; reached = e.reached; others = e.others } in
+    record { told = e.told; given = e.given; file = e.file; cause = e.cause; missing = e.missing; steady = e.steady; later = e.later; same = e.same; reached = e.reached; others = e.others } in
     subst (λ (got : Got). IsOn s (λ xs. fed (stages_of s) s.stripes turn (runs xs)) c.offer_sample.new.machine c.next-got.new.self new t got) (sym is)
     (on_sample s runs turn c.args.machine.now c.offer_sample.new.machine c.args.feed.now c.next-got.new.self now new t c.next-got.new.into set side
     (λ h st. has_room s c.args.machine.now h c.requires.room st)
@@ -27,6 +27,6 @@ returns-else-goes_on-clause-on g c = λ s runs turn t set side on.
     let new = view (g.S.Shelf.told c.next-got.new.shelf) (g.S.Shelf.reach c.next-got.new.shelf) (g.S.Shelf.faults c.next-got.new.shelf) in
     let e = c.next-got.ensures in
     let next : IsNext c.args.feed.now c.next-got.new.self now new c.next-got.new.into c.next-got.result =
-    record { told = e.told; given = e.given; file = e.file; cause = e.cause; missing = e.missing; later = e.later; same = e.same; reached = e.reached; others = e.others } in
+    record { told = e.told; given = e.given; file = e.file; cause = e.cause; missing = e.missing; steady = e.steady; later = e.later; same = e.same; reached = e.reached; others = e.others } in
     on_end s runs turn c.args.machine.now c.args.feed.now c.next-got.new.self now new t c.next-got.new.into c.next-got.result (sym c.goes_on.ensures ∙ c.if-goes_on.false) side
     (λ h st. has_room s c.args.machine.now h c.requires.room st) next on

@@ -27,6 +27,7 @@ loop-shelf-preserved g c =
         most = c.advance.ensures.file.most ∙ c.loop-shelf.invariant.file.most;
       };
       spent = refl;
+      steady = c.in_ok-count.ensures.steady ∙ c.loop-shelf.invariant.steady;
       later = omega (arith, c.loop-shelf.invariant.later, c.read_at.ensures.later);
       same = c.read_at.ensures.same ∙ c.loop-shelf.invariant.same;
       others = λ q other. c.read_at.ensures.others q (rw named other) ∙ c.loop-shelf.invariant.others q other;

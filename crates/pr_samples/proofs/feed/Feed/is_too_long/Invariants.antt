@@ -9,6 +9,7 @@ invariant-loop-shelf g l = record {
   seen : (bytes : List ℕ) → IsSeen (g.S.Shelf.told l.initial.shelf) bytes l.initial.self → ReadsOn (g.S.Shelf.told l.initial.shelf) bytes l.initial.self l.self (λ file. ⊤);
   file : SameFile l.initial.self l.self;
   spent : l.self.start ≡ l.self.end;
+  steady : g.S.Shelf.faults l.shelf ≡ g.S.Shelf.faults l.initial.shelf;
   later : g.S.Shelf.faults l.initial.shelf ≤ g.S.Shelf.faults l.shelf;
   same : g.S.Shelf.told l.shelf ≡ g.S.Shelf.told l.initial.shelf;
   others : (q : List ℕ) → q ≢ name_of l.initial.self → g.S.Shelf.reach l.shelf q ≡ g.S.Shelf.reach l.initial.shelf q;

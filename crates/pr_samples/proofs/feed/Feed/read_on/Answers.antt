@@ -108,6 +108,7 @@ loop-cursor-preserved g c =
       into = c.loop-cursor.invariant.into;
       spent = rw c.in_default.is at c.meet-met.ensures.all;
       missing = λ missing. absurd (false≢true (c.in-Ok.ensures.missing (rw (← named, ← c.loop-cursor.invariant.same) at missing)).0);
+      steady = c.in-Ok.ensures.steady ∙ c.loop-cursor.invariant.steady;
       later = omega (arith, c.loop-cursor.invariant.later, c.read_at.ensures.later);
       same = c.read_at.ensures.same ∙ c.loop-cursor.invariant.same;
       reached = λ known.

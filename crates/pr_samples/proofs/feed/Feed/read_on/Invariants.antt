@@ -17,6 +17,7 @@ invariant-loop-cursor g l = record {
   into : l.into ≡ l.initial.into;
   spent : l.self.start ≡ l.self.end;
   missing : IsMissing (g.S.Shelf.told l.initial.shelf) (name_of l.initial.self) → (l.self.tail ≡ Tail.Open) × (l.cursor.phase ≢ Phase.Wrong);
+  steady : g.S.Shelf.faults l.shelf ≡ g.S.Shelf.faults l.initial.shelf;
   later : g.S.Shelf.faults l.initial.shelf ≤ g.S.Shelf.faults l.shelf;
   same : g.S.Shelf.told l.shelf ≡ g.S.Shelf.told l.initial.shelf;
   reached : g.S.Shelf.reach l.initial.shelf (name_of l.initial.self) ≡ Some (place_of l.initial.self) → g.S.Shelf.reach l.shelf (name_of l.initial.self) ≡ Some (place_of l.self);

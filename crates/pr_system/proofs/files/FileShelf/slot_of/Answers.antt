@@ -1,4 +1,4 @@
-use Rattle.std.proofs.Common.{inr, subst, length, refl, ap, sym, ◌∙◌, ◌≡◌, None, is_some, true, false, true≢false, arith}
+use Rattle.std.proofs.Common.{inr, subst, length, refl, ap, sym, ◌∙◌, ◌≡◌, None, is_some, true≢false, arith}
 use Rattle.std.proofs.lemmas.Grind.{common_steps}
 use Rattle.pr_system.specs.Slots.{IsFirst, NoneBefore, slot_in}
 use Rattle.pr_system.proofs.SlotLemmas.{slot_in-none, slot_in-some}
