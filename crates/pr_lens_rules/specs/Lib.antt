@@ -1,6 +1,2 @@
-pub mod Brackets
-pub mod Instances
-pub mod Names
-pub mod Pieces
 pub mod Rules
 pub mod Uses

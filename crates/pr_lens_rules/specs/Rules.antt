@@ -9,11 +9,11 @@ use Rattle.pr_lang.specs.declared.tokens.Token.{Token}
 use Rattle.pr_lens_source.specs.declared.sources.Span.{Span}
 use Rattle.pr_lens_source.specs.Introduced.{is_name, is_open_round}
 use Rattle.pr_lens_source.specs.Tokens.{kind_of}
-use Rattle.pr_lens_rules.specs.declared.names.Introduction.{Introduction}
-use Rattle.pr_lens_rules.specs.Brackets.{parts_in}
-use Rattle.pr_lens_rules.specs.Instances.{instance_text, last_number}
-use Rattle.pr_lens_rules.specs.Names.{introduced_text, introduction_of, introduction_text}
-use Rattle.pr_lens_rules.specs.Pieces.{token_text}
+use Rattle.pr_lens_names.specs.declared.names.Introduction.{Introduction}
+use Rattle.pr_lens_names.specs.Brackets.{parts_in}
+use Rattle.pr_lens_names.specs.Instances.{instance_text, last_number}
+use Rattle.pr_lens_names.specs.Names.{introduced_text, introduction_of, introduction_text}
+use Rattle.pr_lens_names.specs.Pieces.{token_text}
 use Rattle.pr_lens_rules.specs.Uses.{again_text, another_kind_text, early_text}
 
 -- the rule of this number in words

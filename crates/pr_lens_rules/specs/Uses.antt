@@ -11,13 +11,13 @@ use Rattle.pr_lens_source.specs.Introduced.{is_fn}
 use Rattle.pr_lens_source.specs.Ranges.{first_between}
 use Rattle.pr_lens_source.specs.Spans.{item_of}
 use Rattle.pr_lens_source.specs.Tokens.{kind_of, bytes_of, first_of}
-use Rattle.pr_lens_rules.specs.declared.names.Introduction.{Introduction}
-use Rattle.pr_lens_rules.specs.declared.names.Sort.{Sort}
-use Rattle.pr_lens_rules.specs.declared.names.Sort.TheVariants.{Constant, Table, Function, Index, Stream, Parameter}
-use Rattle.pr_lens_rules.specs.Brackets.{square_around}
-use Rattle.pr_lens_rules.specs.Instances.{first_turn_text, instance_text, is_assigned_at, is_same_instance, is_target, target_around}
-use Rattle.pr_lens_rules.specs.Names.{introduction_of, introduction_text}
-use Rattle.pr_lens_rules.specs.Pieces.{place_text, token_text}
+use Rattle.pr_lens_names.specs.declared.names.Introduction.{Introduction}
+use Rattle.pr_lens_names.specs.declared.names.Sort.{Sort}
+use Rattle.pr_lens_names.specs.declared.names.Sort.TheVariants.{Constant, Table, Function, Index, Stream, Parameter}
+use Rattle.pr_lens_names.specs.Brackets.{square_around}
+use Rattle.pr_lens_names.specs.Instances.{first_turn_text, instance_text, is_assigned_at, is_same_instance, is_target, target_around}
+use Rattle.pr_lens_names.specs.Names.{introduction_of, introduction_text}
+use Rattle.pr_lens_names.specs.Pieces.{place_text, token_text}
 
 -- ---- introduced again
 abbrev pub apart_text : Bool → List ℕ

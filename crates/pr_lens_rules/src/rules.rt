@@ -4,12 +4,12 @@ ghost use Rattle.std.specs.Prelude.{◌≡◌, ◌++◌, OnOk};
 ghost use Rattle.pr_lens_source.specs.Introduced.{is_open_round};
 ghost use Rattle.pr_lens_rules.specs.Rules.{below_text, bounds_text, broken_text, call_by, call_text, counts_text, divisor_text, ends_text, entries_text, entry_text, has_input, initial_text, is_call, is_input, is_minus, last_turn_text, number_text, offence_text, parameter_text, params_text, past_text, recurrence_text, rule_text, step_text, table_text};
 
-use crate::brackets::{kind_behind, parts_behind};
-use crate::instances::{last_number, put_instance};
-use crate::names::{Introduction, introduction_of, put_introduced, put_introduction};
-use crate::pieces::put_quoted;
 use crate::uses::{introduced_again, of_another_kind, used_too_early};
 use pr_lang::{Keyword, Kind, Symbol};
+use pr_lens_names::{
+    Introduction, introduction_of, kind_behind, last_number, parts_behind, put_instance,
+    put_introduced, put_introduction, put_quoted,
+};
 use pr_lens_source::Source;
 use pr_lens_text::{put, put_counted};
 use std::alloc::AllocError;

@@ -4,13 +4,12 @@ ghost use Rattle.std.specs.Prelude.{◌≡◌, ◌<◌, ◌++◌, OnOk, length};
 ghost use Rattle.pr_lens_source.specs.Introduced.{is_fn};
 ghost use Rattle.pr_lens_rules.specs.Uses.{again_behind, again_text, alone_text, another_kind_text, apart_text, assign_text, behind_text, called_text, early_behind, early_text, halves_text, instance_of_own_text, is_apart, is_at, is_crossed, is_outside, is_rec, is_recurrence_of, is_signed, is_table_index, is_table_sort, known_text, other_text, outside_text, own_text, recurrence_behind, sort_in, stands_in_rec, stream_text, unassigned_by, unassigned_text, unknown_by, unknown_text, usage_before, usage_text};
 
-use crate::brackets::{kind_behind, square_around};
-use crate::instances::{
-    is_assigned_at, is_same_instance, is_target, put_first_turn, put_instance, target_around,
-};
-use crate::names::{Introduction, Sort, introduction_of, put_introduction};
-use crate::pieces::{put_place, put_quoted};
 use pr_lang::{Keyword, Kind, Symbol};
+use pr_lens_names::{
+    Introduction, Sort, introduction_of, is_assigned_at, is_same_instance, is_target, kind_behind,
+    put_first_turn, put_instance, put_introduction, put_place, put_quoted, square_around,
+    target_around,
+};
 use pr_lens_source::Source;
 use pr_lens_text::put;
 use std::alloc::AllocError;

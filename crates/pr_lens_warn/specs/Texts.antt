@@ -6,7 +6,7 @@ use Rattle.pr_lens_reach.specs.declared.extents.Extent.{Extent}
 use Rattle.pr_lens_reach.specs.declared.reaches.Reach.{Reach}
 use Rattle.pr_lens_reach.specs.Reaches.{whole}
 use Rattle.pr_lens_source.specs.Tokens.{start_of}
-use Rattle.pr_lens_rules.specs.Pieces.{line_of, token_text}
+use Rattle.pr_lens_names.specs.Pieces.{line_of, token_text}
 use Rattle.pr_lens_warn.specs.declared.remarks.Remark.{Remark}
 use Rattle.pr_lens_warn.specs.declared.remarks.Remark.TheVariants.{Negative, Wrapping, Unneeded, Long, Amount, Settled, Narrow, Argument}
 use Rattle.pr_lens_warn.specs.declared.remarks.Warning.{Warning}

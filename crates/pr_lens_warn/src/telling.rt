@@ -7,7 +7,7 @@ use crate::remarks::{Remark, Warning};
 use itoa::Buffer;
 use pr_flat::Form;
 use pr_lens_reach::{Extent, Reach, whole_of};
-use pr_lens_rules::put_quoted;
+use pr_lens_names::put_quoted;
 use pr_lens_source::Source;
 use pr_lens_text::{line_at, put, put_counted};
 use std::alloc::AllocError;
@@ -325,7 +325,7 @@ fn put_argument(
 }
 
 /// Tells the line of a token.
-#[tactic(auto, unfolding(crate::specs::Texts::line_text, pr_lens_rules::specs::Pieces::line_of))]
+#[tactic(auto, unfolding(crate::specs::Texts::line_text, pr_lens_names::specs::Pieces::line_of))]
 fn put_line(message: &mut Vec<u8>, source: &Source, token: usize) -> Result<(), AllocError>
     ensures { OnOk result (message.new.items
         ≡ message.old.items ++ line_text source.now.text.now source.now.tokens.now token) }

@@ -12,7 +12,7 @@ use Rattle.pr_lang.specs.declared.tokens.Symbol.TheVariants.{Assign, OpenRound, 
 use Rattle.pr_lang.specs.declared.tokens.Token.{Token}
 use Rattle.pr_lang.specs.Spelling.{is_digit, is_letter, keyword_text, symbol_text}
 use Rattle.pr_lens_find.specs.declared.expected.Expected.{Expected}
-use Rattle.pr_lens_rules.specs.Pieces.{quoted, token_text}
+use Rattle.pr_lens_names.specs.Pieces.{quoted, token_text}
 use Rattle.pr_lens_source.specs.Tokens.{kind_of, end_of, bytes_of}
 use Rattle.pr_lens_why.specs.declared.slips.Slip.{Slip}
 use Rattle.pr_lens_why.specs.declared.slips.Slip.TheVariants as slip

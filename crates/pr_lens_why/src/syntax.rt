@@ -3,7 +3,7 @@
 ghost use Rattle.std.specs.Prelude.{◌≡◌, ◌≤◌, ◌++◌, OnOk, true, length};
 ghost use Rattle.std.specs.List.{flat_map, list_any, slice_get};
 ghost use Rattle.pr_lens_source.specs.Tokens.{end_of};
-ghost use Rattle.pr_lens_rules.specs.Pieces.{quoted};
+ghost use Rattle.pr_lens_names.specs.Pieces.{quoted};
 ghost use Rattle.pr_lens_why.specs.Syntax.{advice_text, bad_number_text, bad_text, chain_text, comma_before, expected_pieces, file_text, follows_text, has, help_text, in_expression_text, is_bad, is_beginning, is_cat, is_comparison, is_digit_there, is_first_behind, is_letter_there, is_nothing, is_operator, is_update_near, joined, listed_text, lone_slip, missing_before, near_slip, no_token_text, operand_pieces, operand_text, operator_text, piece_where, slip_at, symbol_piece, symbol_text_for, syntax_text, whole_file_text, word_piece, word_text_for, wrong_text};
 ghost use Rattle.pr_lens_why.specs.Messages.{TellsSyntax};
 
@@ -13,7 +13,7 @@ use crate::slips::{
 };
 use pr_lang::{Keyword, Kind, Symbol};
 use pr_lens_find::{Expected, expected_at};
-use pr_lens_rules::{put_in_quotes, put_quoted};
+use pr_lens_names::{put_in_quotes, put_quoted};
 use pr_lens_source::Source;
 use pr_lens_text::put;
 use std::alloc::{AllocError, Global};

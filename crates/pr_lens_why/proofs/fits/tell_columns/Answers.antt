@@ -1,6 +1,6 @@
 use Rattle.std.proofs.Common.{◌∙◌, ◌++◌, List, ℕ, codes, decimal, refl, ap}
 use Rattle.std.proofs.lemmas.Result.{on_ok_weaker}
-use Rattle.pr_lens_rules.proofs.PieceLemmas.{six_put}
+use Rattle.pr_lens_names.proofs.PieceLemmas.{six_put}
 use Rattle.pr_lens_why.specs.Limits.{columns_text, narrower_text, wide_text}
 use Rattle.pr_lens_why.proofs.fits.tell_columns.Goals as goal
 

@@ -1,0 +1,4 @@
+pub mod Brackets
+pub mod Instances
+pub mod Names
+pub mod Pieces

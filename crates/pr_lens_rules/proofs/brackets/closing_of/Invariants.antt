@@ -1,5 +1,0 @@
-use Rattle.pr_lens_rules.proofs.BracketLemmas.{IsDeepAt}
-use Rattle.pr_lens_rules.proofs.brackets.closing_of.Given as goal
-
-abbrev pub invariant-loop-at : goal.invariant-loop-at
-invariant-loop-at l = IsDeepAt l.source.tokens.now l.from l.at l.depth

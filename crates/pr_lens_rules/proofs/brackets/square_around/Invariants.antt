@@ -1,8 +1,0 @@
-use Rattle.pr_lens_rules.proofs.BracketLemmas.{IsPastAt}
-use Rattle.pr_lens_rules.proofs.brackets.square_around.Given as goal
-
-abbrev pub invariant-loop-at : goal.invariant-loop-at
-invariant-loop-at l = IsPastAt l.source.tokens.now l.token l.at l.closed
-
-abbrev pub decreases-loop-at : goal.decreases-loop-at
-decreases-loop-at l = l.at
