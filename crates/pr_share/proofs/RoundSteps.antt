@@ -1,5 +1,5 @@
 -- Turns and rounds of programs.
-use Rattle.std.proofs.Common.{◌≡◌, ℕ, ◌+◌, ◌*◌, ◌≤◌, ltb, cond, true, false, List, [], ◌++◌, length, map, take, Option, Some, None, is_some, slice_get, refl, sym, ap, ◌∙◌, subst, arith, length-append, true≢false, inl, inr, ◌^◌}
+use Rattle.std.proofs.Common.{◌≡◌, ◌≢◌, ℕ, ◌+◌, ◌*◌, ◌≤◌, ltb, cond, true, false, List, [], ◌++◌, length, map, take, Option, Some, None, is_some, slice_get, refl, sym, ap, ◌∙◌, subst, arith, length-append, true≢false, inl, inr, ◌^◌}
 use Rattle.std.proofs.Math.Nat.{mul-le-mul_left}
 use Rattle.std.proofs.Math.ListN.{set}
 use Rattle.std.proofs.lemmas.Bool.{cases_eq, lt-ltb, cond-true}
@@ -16,7 +16,7 @@ use Rattle.pr_share_text.specs.Turns.{so_far}
 use Rattle.pr_share_text.proofs.TurnLaws.{turn_added, turn_skipped, round_over, nothing_yet, all_over}
 use Rattle.pr_share.specs.declared.items.ShareItem.{ShareItem}
 use Rattle.pr_share.specs.Fed.{HasFed}
-use Rattle.pr_share.specs.Items.{conf_in, last_of, IsReady, AreReady, HasTaken, turn_rows, World, world, IsTurn, Given, part_of, parts_of, has_failed, read_faults, IsMember, IsSharing, AreShared}
+use Rattle.pr_share.specs.Items.{conf_in, last_of, IsReady, AreReady, HasTaken, turn_rows, World, world, IsTurn, Given, part_of, parts_of, has_failed, read_faults, IsMember, IsSharing, AreShared, NoneFailed}
 use Rattle.pr_run.proofs.Lines.{nothing_appended}
 use Rattle.pr_share.proofs.ListFacts.{got_at, got_within, set_same, set_other, same_some, mapped_at}
 use Rattle.pr_share.proofs.Parts.{more_results, part_rows, length-turn, parts_at, length-parts, parts_set, quotas_set, quotas_first, turns_other, turns_this, turns_yet, turns_none, rose_more, faults_set, no_faults}
@@ -140,6 +140,24 @@ module _ {N P : ℕ} (told : Told) (firsts items : List (ShareItem N P)) (start 
   unfolding taken_here
   turn_here now' b' t' going later turn = sharing_turn told firsts items start b t r k st first_here.0 now first_here.1 ei now' b' t' going later turn
 
+-- a program that goes on takes a turn: where then the samples of no program have ended with a failed read, they had not before
+pub none_before : {N P : ℕ} (items : List (ShareItem N P)) (k : ℕ) (now now' : ShareItem N P) → slice_get items k ≡ Some now → now.ended ≡ None → NoneFailed (set items k now') → NoneFailed items
+none_before {N} {P} items k now now' here going all i item e = elim (cases_eq i k) [
+  | inl same ↦ λ failed. (
+      let is = same_some (slice_get items k) now item here (ap (slice_get items) (sym same) ∙ e) in
+      let none : None ≡ Some Got.ReadFault = sym going ∙ (ap (λ (x : ShareItem N P). x.ended) is ∙ failed) in
+      cc)
+  | inr other ↦ all i item (set_other items k i now' other ∙ e)
+]
+
+-- the program itself is among them
+pub none_here : {N P : ℕ} (items : List (ShareItem N P)) (k : ℕ) (now now' : ShareItem N P) → slice_get items k ≡ Some now → NoneFailed (set items k now') → now'.ended ≢ Some Got.ReadFault
+none_here {N} {P} items k now now' here all =
+    let within = got_within items k now here in
+    let at = got_at (set items k now') k (let n = length-set items k now' in omega arith) in
+    let is = set_same items k now' at.0 at.1 in
+    all k now' (at.1 ∙ ap Some (sym is))
+
 -- what the shelf tells stays
 pub told_same : {N P : ℕ} (told told' : Told) (firsts items : List (ShareItem N P)) (start : World) (b : ℕ) (t : Tape) (r k : ℕ) → told' ≡ told → IsSharing firsts items start (world told b t) r k → IsSharing firsts items start (world told' b t) r k
 told_same told told' firsts items start b t r k e st = subst (λ (x : Told). IsSharing firsts items start (world x b t) r k) (sym e) st
@@ -221,14 +239,15 @@ some_last None e = absurd (true≢false (sym e))
 some_last (Some got) e = refl
 
 pub sharing_end : {N P : ℕ} (told : Told) (firsts items : List (ShareItem N P)) (start : World) (b : ℕ) (t : Tape) (r : ℕ) → IsSharing firsts items start (world told b t) r 0
-    → ((i : ℕ) (now : ShareItem N P) → slice_get items i ≡ Some now → is_some now.ended ≡ true) → AreShared firsts items start (world told b t)
-sharing_end {N} {P} told firsts items start b t r st over = record {
+    → ((i : ℕ) (now : ShareItem N P) → slice_get items i ≡ Some now → is_some now.ended ≡ true) → (NoneFailed items → b ≡ start.faults) → AreShared firsts items start (world told b t)
+sharing_end {N} {P} told firsts items start b t r st over steady = record {
   givens = st.givens;
   items_count = st.items_count;
   givens_count = st.givens_count;
   each = λ i f x g a b c. (let m = st.each i f x g a b c in record { taken = m.resting.taken; ended = some_last x.ended (over i x b) ∙ ap Some (sym m.resting.last) });
   text = subst (λ xs. Appends start.tape t xs) (all_over r (parts_of firsts st.givens) st.quotas few) st.text;
   faults = st.faults;
+  steady = steady;
 }
   where
     few : (i : ℕ) (part : Part) → slice_get (parts_of firsts st.givens) i ≡ Some part → length part.rows ≤ r * part.quota

@@ -74,6 +74,10 @@ is_read_fault (Got.BadSample line) = false
 is_read_fault Got.ReadFault = true
 is_read_fault (Got.Limit cap) = false
 
+-- the samples of no program ended with a read that failed
+abbrev pub NoneFailed : {N P : ℕ} → List (ShareItem N P) → Type 0
+NoneFailed {N} {P} items = (i : ℕ) (item : ShareItem N P) → slice_get items i ≡ Some item → item.ended ≢ Some Got.ReadFault
+
 -- the shelf tells that it has no such file
 abbrev pub is_lost : Told → List ℕ → Bool
 is_lost None name = false
@@ -181,7 +185,7 @@ pub record IsShared {N P : ℕ} (told : Told) (first now : ShareItem N P) (given
   pub ended : now.ended ≡ Some given.last
 
 -- all programs have ended, and what was written is the text of their turns. At most as many reads failed as the count
--- of the shelf's faults rose by
+-- of the shelf's faults rose by, and it did not rise where the samples of no program ended so
 pub record AreShared {N P : ℕ} (firsts items : List (ShareItem N P)) (start now : World) : Type 0 where
   pub givens : List Given
   pub items_count : length items ≡ length firsts
@@ -190,6 +194,7 @@ pub record AreShared {N P : ℕ} (firsts items : List (ShareItem N P)) (start no
       → slice_get items i ≡ Some item → slice_get givens i ≡ Some given → IsShared now.told first item given
   pub text : Appends start.tape now.tape (share_text (parts_of firsts givens))
   pub faults : RoseBy start.faults now.faults (read_faults now.told firsts givens)
+  pub steady : NoneFailed items → now.faults ≡ start.faults
 
 -- ---- a write fault
 -- a program that was given samples may come to be given more, where its feed gave a sample last

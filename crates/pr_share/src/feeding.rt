@@ -40,6 +40,8 @@ fn read_one<const N: usize, const P: usize, S: Shelf>(
         (S.told shelf.new) t result }
     ensures count { result.count ≤ used.count + 1 }
     ensures unread { is_sample result.last ≡ true → result.ended ≡ false }
+    ensures fault { result.last ≡ Got.ReadFault → result.ended ≡ true }
+    ensures steady { result.last ≢ Got.ReadFault → S.faults shelf.new ≡ S.faults shelf.old }
     ensures cause { result.last ≡ Got.ReadFault
         → HasReadCause (S.told shelf.old) (name_of feed.old) (S.faults shelf.old) (S.faults shelf.new) }
     ensures later { S.faults shelf.old ≤ S.faults shelf.new }
@@ -86,6 +88,8 @@ fn read_sample<const N: usize, const P: usize, S: Shelf>(
         (S.told shelf.new) t result }
     ensures count { result.count ≤ used.count + 1 }
     ensures unread { is_sample result.last ≡ true → result.ended ≡ false }
+    ensures fault { result.last ≡ Got.ReadFault → result.ended ≡ true }
+    ensures steady { result.last ≢ Got.ReadFault → S.faults shelf.new ≡ S.faults shelf.old }
     ensures cause { result.last ≡ Got.ReadFault
         → HasReadCause (S.told shelf.old) (name_of feed.old) (S.faults shelf.old) (S.faults shelf.new) }
     ensures later { S.faults shelf.old ≤ S.faults shelf.new }
@@ -111,12 +115,16 @@ pub(crate) fn feed_step<const N: usize, const P: usize, S: Shelf>(
     requires inputs { widths_of feed.old ≡ (conf_of machine.old).inputs }
     requires quota { used.count ≤ quota }
     requires spent { used.ended ≡ true → is_sample used.last ≡ true → used.count ≡ quota }
+    requires fault { used.last ≡ Got.ReadFault → used.ended ≡ true }
     ensures turning { (s : Setting) (runs : List (List ℕ) → Run (List ℕ)) (t : Tape) → 0 < stages_of s
         → IsTurning s runs machine.old feed.old (S.told shelf.old) t used
         → IsTurning s (λ xs. fed (stages_of s) s.stripes free (runs xs)) machine.new feed.new
         (S.told shelf.new) t result }
     ensures quota { result.count ≤ quota }
     ensures spent { result.ended ≡ true → is_sample result.last ≡ true → result.count ≡ quota }
+    ensures fault { result.last ≡ Got.ReadFault → result.ended ≡ true }
+    ensures steady { result.last ≢ Got.ReadFault
+        → (used.last ≢ Got.ReadFault) × (S.faults shelf.new ≡ S.faults shelf.old) }
     ensures cause { result.last ≡ Got.ReadFault
         → (used.last ≡ Got.ReadFault)
         ⊎ HasReadCause (S.told shelf.old) (name_of feed.old) (S.faults shelf.old) (S.faults shelf.new) }

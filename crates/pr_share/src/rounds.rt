@@ -1,10 +1,11 @@
 //! Rounds of programs.
-ghost use Rattle.std.specs.Prelude.{ℕ, ◌≡◌, ◌≢◌, ◌≤◌, ◌<◌, ◌+◌, true, false, List, OnOk, OnErr, length, None};
+ghost use Rattle.std.specs.Prelude.{ℕ, ◌≡◌, ◌≢◌, ◌≤◌, ◌<◌, ◌+◌, true, false, List, OnOk, OnErr, length, None, Some};
 ghost use Rattle.pr_edge.specs.Count.{Rose};
 ghost use Rattle.pr_samples.specs.Feed.{name_of};
 ghost use Rattle.pr_share.specs.declared.items.ShareItem.{ShareItem};
 ghost use Rattle.pr_share.specs.Items.{World, world, ended_after, HasTaken, IsTurn, IsHalf, IsSharing};
-ghost use Rattle.pr_share.specs.Items.{AreReady, AreShared, AreStopped, IsGoing, AreEnded, names_of, IsNoneOf};
+ghost use Rattle.pr_share.specs.Items.{AreReady, AreShared, AreStopped, IsGoing, AreEnded, NoneFailed, names_of, IsNoneOf};
+ghost use Rattle.pr_samples.specs.declared.feed.Got.{Got};
 
 use crate::items::ShareItem;
 use crate::turns::Walk;
@@ -50,6 +51,8 @@ fn take_turn<const N: usize, const P: usize, S: Shelf, K: Sink>(
         let new = world (S.told shelf.new) (S.faults shelf.new) (K.told out.new) in
         (first : ShareItem N P) (rows : List (List ℕ)) → HasTaken old.told first item.old rows
         → OnErr result (IsHalf first item.new rows number old new) }
+    ensures steady { OnOk result
+        (item.new.ended ≢ Some Got.ReadFault → S.faults shelf.new ≡ S.faults shelf.old) }
     ensures cause { OnErr result (Rose (K.faults out.old) (K.faults out.new)) }
     ensures told { S.told shelf.new ≡ S.told shelf.old }
     ensures others { (q : List ℕ) → q ≢ name_of item.old.feed → S.reach shelf.new q ≡ S.reach shelf.old q }
@@ -101,6 +104,8 @@ fn take_place<const N: usize, const P: usize, S: Shelf, K: Sink>(
         let new = world (S.told shelf.new) (S.faults shelf.new) (K.told out.new) in
         (firsts : List (ShareItem N P)) (start : World) (r : ℕ) → IsSharing firsts items.old start old r number
         → OnErr result (AreStopped firsts items.new start new) }
+    ensures steady { OnOk result
+        (NoneFailed items.new → NoneFailed items.old × (S.faults shelf.new ≡ S.faults shelf.old)) }
     ensures count { length items.new ≡ length items.old }
     ensures cause { OnErr result (Rose (K.faults out.old) (K.faults out.new)) }
     ensures told { S.told shelf.new ≡ S.told shelf.old }
@@ -134,6 +139,8 @@ fn make_round<const N: usize, const P: usize, S: Shelf, K: Sink>(
         let new = world (S.told shelf.new) (S.faults shelf.new) (K.told out.new) in
         (firsts : List (ShareItem N P)) (start : World) (r : ℕ) → IsSharing firsts items.old start old r 0
         → OnErr result (AreStopped firsts items.new start new) }
+    ensures steady { OnOk result
+        (NoneFailed items.new → NoneFailed items.old × (S.faults shelf.new ≡ S.faults shelf.old)) }
     ensures count { length items.new ≡ length items.old }
     ensures cause { OnErr result (Rose (K.faults out.old) (K.faults out.new)) }
     ensures told { S.told shelf.new ≡ S.told shelf.old }

@@ -66,6 +66,7 @@ impl<'a> Walk<'a> {
             → OnErr result (IsCut N P s feed.new (S.told shelf.new) (K.told out.new) self.old.quota
             (S.faults shelf.old) (S.faults shelf.new)) }
         ensures idle { OnOk result (IsIdle machine.new) }
+        ensures steady { IfOk result (λ last. last ≢ Got.ReadFault → S.faults shelf.new ≡ S.faults shelf.old) }
         ensures read_fault { IfOk result (λ last. last ≡ Got.ReadFault
             → HasReadCause (S.told shelf.old) (name_of feed.old) (S.faults shelf.old) (S.faults shelf.new)) }
         ensures cause { OnErr result (Rose (K.faults out.old) (K.faults out.new)) }

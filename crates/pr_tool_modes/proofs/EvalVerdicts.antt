@@ -20,7 +20,7 @@ use Rattle.pr_tool_answers.specs.declared.answers.Answer.{Answer}
 use Rattle.pr_tool_answers.specs.Owed.{IsOwed}
 use Rattle.pr_tool_answers.proofs.OwedLemmas.{owed_by}
 use Rattle.pr_tool_modes.specs.Calls.{Call}
-use Rattle.pr_tool_modes.specs.Files.{IsText, IsUnread, IsFileRefusal, IsRefusedFile}
+use Rattle.pr_tool_modes.specs.Files.{IsText, ShowsFault, IsUnread, IsFileRefusal, IsRefusedFile}
 use Rattle.pr_tool_modes.specs.Programs.{inputs_of, front_answer, IsBadProgram, HasProgram, IsLoaded}
 use Rattle.pr_tool_modes.specs.Samples.{fed_in, ended_by, whole_file_verdict}
 use Rattle.pr_tool_modes.specs.Evaluations.{HasSamples, IsWhole, IsEnd, IsEvaluated, answer_by, AreResults, IsPut, IsEvalVerdict}
@@ -82,8 +82,8 @@ put_end name program bytes text end k a file short results (inr broken) =
       broken.rose,
     )
 
-pub evaluated : (first second : List ℕ) (f : Front) (k : Call) (a : Answer) → IsLoaded k.before.told first f → IsEnd second f.scoped.program k a → IsEvaluated first second k a
-evaluated first second f k a loaded end = inr (record { program = f.scoped.program; widths = f.widths; has = program_of k.before.told first f loaded; end = end })
+pub evaluated : (first second : List ℕ) (f : Front) (k : Call) (a : Answer) → IsLoaded k.before.told first f → IsEnd second f.scoped.program k a → ShowsFault k.before.faults k.now.faults a → IsEvaluated first second k a
+evaluated first second f k a loaded end shown = inr (record { program = f.scoped.program; widths = f.widths; has = program_of k.before.told first f loaded; end = end; shown = shown })
 
 -- ---- the verdict
 text_verdict : (widths text : List ℕ) (file : Option (List ℕ)) → file ≡ Some text → length text ≤ 16777216 → whole_file_verdict widths file ≡ ended_by (fed_in widths text).ending

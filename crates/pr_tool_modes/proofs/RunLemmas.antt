@@ -102,6 +102,7 @@ all_of : {N P : ℕ} (b : Begun N P) (f : Feed) (rows : List (List ℕ)) (last :
     → ((file : List ℕ) → EndsBy last f file → IsOver f file ending) → HasAll (course_of b) rows ending
 all_of b f rows last ending read unread over = record {
   there = λ lost. unread (read.missing lost).0;
+  steady = read.steady (λ fault. unread (subst (λ (got : Got). IsUnread got f) (sym fault) tt));
   all = λ file tells. rows_all b f rows last ending read file tells (over file (read.samples file tells).ends);
   ends = λ file tells. sym (ap (λ k. k.ending) (last_fed b f read.file file)) ∙ (over file (read.samples file tells).ends).ends;
 }

@@ -64,6 +64,7 @@ pub record HasResult (first second : List ℕ) (k : Call) (answer : Answer) : Ty
   pub widths : List ℕ
   pub has : HasProgram k.before.told first program widths
   pub end : IsEnd second program k answer
+  pub shown : ShowsFault k.before.faults k.now.faults answer
 
 abbrev pub IsEvaluated : List ℕ → List ℕ → Call → Answer → Type 0
 IsEvaluated first second k answer = HasNoResult first k answer ⊎ HasResult first second k answer

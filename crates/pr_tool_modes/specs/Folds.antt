@@ -1,5 +1,5 @@
 -- What a mode comes to that writes a checkpoint: a configuration is run on samples, and its results are dropped.
-use Rattle.std.specs.Prelude.{◌≡◌, ◌⊎◌, ◌+◌, ℕ, false, List, length, Option, Some, ⊤}
+use Rattle.std.specs.Prelude.{◌≡◌, ◌⊎◌, ◌+◌, ℕ, false, List, length, Option, Some}
 use Rattle.pr_edge.specs.Files.{HasReadCause}
 use Rattle.pr_edge.specs.Tape.{Appends, AppendsFront}
 use Rattle.pr_conf.specs.Shape.{Shape}
@@ -36,12 +36,12 @@ pub record HasEnded (r : Course) (ending : Ending) : Type 0 where
   pub rows : List (List ℕ)
   pub all : HasAll r rows ending
 
--- why no checkpoint comes of samples: they end otherwise, they could not be read, or memory was wanting
+-- why no checkpoint comes of samples: they end otherwise, they could not be read, or they are all good and memory was wanting
 abbrev pub IsUnmarked : Course → Answer → Type 0
 IsUnmarked r (Answer.BadSample line) = HasEnded r (BadSample line)
 IsUnmarked r (Answer.Limit which) = HasEnded r (Limit which)
 IsUnmarked r Answer.ReadFault = HasReadCause r.start.told r.name r.start.faults r.now.faults
-IsUnmarked r Answer.Memory = ⊤
+IsUnmarked r Answer.Memory = HasEnded r End
 IsUnmarked r answer = ⊥
 
 -- a run of this configuration whose results are dropped; `end` says what came of its samples

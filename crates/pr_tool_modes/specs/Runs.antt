@@ -70,9 +70,10 @@ abbrev pub ends_well : Ending → Bool
 ends_well End = true
 ends_well ending = false
 
--- the file is not told to be missing, and where it is told these are all its samples, and they end so
+-- the file is not told to be missing, no read of it failed, and where it is told these are all its samples, and they end so
 pub record HasAll (r : Course) (rows : List (List ℕ)) (ending : Ending) : Type 0 where
   pub there : IsMissing r.start.told r.name → ⊥
+  pub steady : r.now.faults ≡ r.start.faults
   pub all : (file : List ℕ) → Tells r.start.told r.name file → rows ≡ (fed_at_most r.most r.conf.inputs file).samples
   pub ends : (file : List ℕ) → Tells r.start.told r.name file → (fed_at_most r.most r.conf.inputs file).ending ≡ ending
 

@@ -1,5 +1,5 @@
 //! The results of a program on the samples of a file.
-ghost use Rattle.std.specs.Prelude.{◌≡◌, ◌≢◌, ◌≤◌, ◌↔◌, ℕ, List, length, vec_len, IfOk, IfErr, IsTrue};
+ghost use Rattle.std.specs.Prelude.{◌≡◌, ◌≢◌, ◌≤◌, ◌↔◌, ℕ, List, length, vec_len, IfOk, IfErr, IsTrue, OnErr, OnOk};
 ghost use Rattle.pr_samples.specs.declared.feed.Got.{Got};
 ghost use Rattle.pr_base.specs.declared.caps.Cap.{Cap};
 ghost use Rattle.pr_edge.specs.Files.{IsMissing, HasReadCause};
@@ -7,7 +7,7 @@ ghost use Rattle.pr_flat.specs.Widths.{AreWidths};
 ghost use Rattle.pr_expand_spec.specs.Programs.{equations_of};
 ghost use Rattle.pr_compile_front.specs.Passed.{HasEquations};
 ghost use Rattle.pr_samples.specs.Feed.{name_of, SameFile};
-ghost use Rattle.pr_tool_modes.specs.Files.{IsUnread};
+ghost use Rattle.pr_tool_modes.specs.Files.{ShowsFault, IsUnread};
 ghost use Rattle.pr_tool_modes.specs.Programs.{inputs_of};
 ghost use Rattle.pr_tool_modes.specs.Evaluations.{IsShortFeed, HasEvaluated, HasLines};
 
@@ -55,6 +55,8 @@ fn results_in<S: Shelf>(
     ensures cause { IfOk result
         (λ r. r.end ≡ Got.ReadFault
         → HasReadCause (S.told shelf.old) (name_of feed.old) (S.faults shelf.old) (S.faults shelf.new)) }
+    ensures steady { IfOk result (λ r. r.end ≢ Got.ReadFault → S.faults shelf.new ≡ S.faults shelf.old) }
+    ensures kept { OnErr result (S.faults shelf.new ≡ S.faults shelf.old) }
     ensures file { SameFile feed.old feed.new }
     ensures later { S.faults shelf.old ≤ S.faults shelf.new }
     ensures same { S.told shelf.new ≡ S.told shelf.old }
@@ -90,6 +92,8 @@ fn evaluate<S: Shelf>(
     ensures cause { IfOk result
         (λ r. r.end ≡ Got.ReadFault
         → HasReadCause (S.told shelf.old) (name_of feed.old) (S.faults shelf.old) (S.faults shelf.new)) }
+    ensures steady { IfOk result (λ r. r.end ≢ Got.ReadFault → S.faults shelf.new ≡ S.faults shelf.old) }
+    ensures kept { OnErr result (S.faults shelf.new ≡ S.faults shelf.old) }
     ensures file { SameFile feed.old feed.new }
     ensures later { S.faults shelf.old ≤ S.faults shelf.new }
     ensures same { S.told shelf.new ≡ S.told shelf.old }
@@ -114,6 +118,11 @@ pub fn results_of<S: Shelf>(
         (λ r. HasLines (S.told shelf.old) samples.now front.now.scoped.program r.text.items r.end) }
     ensures refused { IfErr result
         (IsUnread 16777216 Cap.SampleBytes (S.told shelf.old) samples.now (S.faults shelf.old) (S.faults shelf.new)) }
+
+    // A read that fails is not tried again: it ends with ReadFault.
+    ensures steady { OnOk result (S.faults shelf.new ≡ S.faults shelf.old) }
+    ensures shown { IfErr result (ShowsFault (S.faults shelf.old) (S.faults shelf.new)) }
+
     ensures later { S.faults shelf.old ≤ S.faults shelf.new }
     ensures same { S.told shelf.new ≡ S.told shelf.old }
     ensures others { (q : List ℕ) → q ≢ samples.now → S.reach shelf.new q ≡ S.reach shelf.old q }

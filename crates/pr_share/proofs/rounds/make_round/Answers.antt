@@ -4,13 +4,14 @@ use Rattle.pr_share.proofs.RoundSteps.{sharing_round}
 use Rattle.pr_share.proofs.rounds.make_round.Goals as goal
 
 pub loop-number-init : goal.loop-number-init
-loop-number-init g c = record { sharing = λ firsts start r st. st; count = refl; told = refl; others = λ q none. refl; names = refl; shelf_later = omega arith; out_later = omega arith }
+loop-number-init g c = record { sharing = λ firsts start r st. st; steady = λ all. (all, refl); count = refl; told = refl; others = λ q none. refl; names = refl; shelf_later = omega arith; out_later = omega arith }
 
 pub loop-number-preserved : goal.loop-number-preserved
 loop-number-preserved g c =
     let inv = c.loop-number.invariant in
     record {
       sharing = λ firsts start r st. c.in-Ok.ensures.next firsts start r (inv.sharing firsts start r st);
+      steady = λ all. (let step = c.in-Ok.ensures.steady all in let earlier = inv.steady step.0 in (earlier.0, step.1 ∙ earlier.1));
       count = c.take_place.ensures.count ∙ inv.count;
       told = c.take_place.ensures.told ∙ inv.told;
       others = λ q none. c.take_place.ensures.others q (subst (λ (ns : List (List ℕ)). IsNoneOf ns q) (sym inv.names) none) ∙ inv.others q none;
@@ -35,3 +36,6 @@ returns-clause-round g c = λ firsts start r st.
 
 pub returns-in-Err-clause-others : goal.returns-in-Err-clause-others
 returns-in-Err-clause-others g c = λ q none. c.take_place.ensures.others q (subst (λ (ns : List (List ℕ)). IsNoneOf ns q) (sym c.loop-number.invariant.names) none) ∙ c.loop-number.invariant.others q none
+
+pub returns-clause-steady : goal.returns-clause-steady
+returns-clause-steady g c = λ all. c.loop-number.invariant.steady all

@@ -6,6 +6,7 @@ use Rattle.pr_share.proofs.rounds.share.Goals as goal
 pub loop-init : goal.loop-init
 loop-init g c = record {
   sharing = sharing_start (g.S.Shelf.told c.args.shelf.now) c.args.parts.now (g.S.Shelf.faults c.args.shelf.now) (g.K.Sink.told c.args.out.now) c.requires.ready;
+  steady = λ all. refl;
   count = refl;
   few = omega arith;
   told = refl;
@@ -18,7 +19,7 @@ loop-init g c = record {
 pub returns-then-not-is_going-clause-shared : goal.returns-then-not-is_going-clause-shared
 returns-then-not-is_going-clause-shared g c = λ done.
     let start = world (g.S.Shelf.told c.args.shelf.now) (g.S.Shelf.faults c.args.shelf.now) (g.K.Sink.told c.args.out.now) in
-    sharing_end (g.S.Shelf.told c.loop.shelf) c.args.parts.now c.loop.parts start (g.S.Shelf.faults c.loop.shelf) (g.K.Sink.told c.loop.out) c.loop.counter c.loop.invariant.sharing (c.is_going.ensures.over cc)
+    sharing_end (g.S.Shelf.told c.loop.shelf) c.args.parts.now c.loop.parts start (g.S.Shelf.faults c.loop.shelf) (g.K.Sink.told c.loop.out) c.loop.counter c.loop.invariant.sharing (c.is_going.ensures.over cc) c.loop.invariant.steady
 
 pub returns-in-Err-clause-stopped : goal.returns-in-Err-clause-stopped
 returns-in-Err-clause-stopped g c = λ fault.
@@ -33,6 +34,7 @@ loop-preserved g c =
     let few = few_rounds (g.S.Shelf.told c.loop.shelf) c.args.parts.now c.loop.parts start (g.S.Shelf.faults c.loop.shelf) (g.K.Sink.told c.loop.out) c.loop.counter going.place going.item inv.sharing going.here going.going in
     record {
       sharing = c.in-Ok.ensures.round c.args.parts.now start c.loop.counter inv.sharing;
+      steady = λ all. (let round = c.in-Ok.ensures.steady all in round.1 ∙ inv.steady round.0);
       count = c.make_round.ensures.count ∙ inv.count;
       few = omega (arith, few);
       told = c.make_round.ensures.told ∙ inv.told;

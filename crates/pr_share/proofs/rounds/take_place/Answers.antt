@@ -1,4 +1,4 @@
-use Rattle.std.proofs.Common.{◌+◌, slice_set, get_or, is_some, sym, ap, ◌∙◌, subst, arith}
+use Rattle.std.proofs.Common.{◌+◌, slice_set, get_or, is_some, refl, sym, ap, ◌∙◌, subst, arith}
 use Rattle.std.proofs.lemmas.List.{get_or_default}
 use Rattle.pr_edge.specs.Files.{Told}
 use Rattle.pr_samples.proofs.ResultLemmas.{on_ok, on_err}
@@ -6,7 +6,7 @@ use Rattle.pr_samples.specs.Feed.{name_of}
 use Rattle.pr_share.specs.declared.items.ShareItem.{ShareItem}
 use Rattle.pr_share.specs.Items.{world, IsTurn, IsHalf}
 use Rattle.pr_share.proofs.ListFacts.{got_from, got_any, map_at, map_set, none_from}
-use Rattle.pr_share.proofs.RoundSteps.{taken_here, skip_here, turn_here, told_same}
+use Rattle.pr_share.proofs.RoundSteps.{taken_here, skip_here, turn_here, told_same, none_before, none_here}
 use Rattle.pr_share.proofs.StopSteps.{stop_here, stop_told}
 use Rattle.pr_share.proofs.rounds.take_place.Goals as goal
 
@@ -82,3 +82,15 @@ pub returns-clause-names : goal.returns-clause-names
 returns-clause-names g c =
     let here = got_any c.args.items.now c.args.number c.index-items-number-2.result c.requires.at in
     map_set (λ (x : ShareItem g.row.N g.row.P). name_of x.feed) c.args.items.now c.args.number _ c.take_turn.new.item here c.take_turn.ensures.name
+
+pub returns-then-is_some-clause-steady : goal.returns-then-is_some-clause-steady
+returns-then-is_some-clause-steady g c = λ all. (all, refl)
+
+pub returns-clause-steady : goal.returns-clause-steady
+returns-clause-steady g c =
+    let now = get_or c.args.items.now c.args.number c.index-items-number-2.result in
+    let here = got_any c.args.items.now c.args.number c.index-items-number-2.result c.requires.at in
+    let going = ap (λ (x : ShareItem g.row.N g.row.P). is_some x.ended) (get_or_default c.args.items.now c.args.number c.index-items-number-2.result c.index-items-number.result c.requires.at) ∙ (sym c.is_some.ensures ∙ c.if-is_some.false) in
+    on_ok c.take_turn.result _ _
+    (λ steady all. (none_before c.args.items.now c.args.number now c.take_turn.new.item here (none_from now.ended going) all, steady (none_here c.args.items.now c.args.number now c.take_turn.new.item here all)))
+    c.take_turn.ensures.steady

@@ -72,3 +72,6 @@ returns-in-Err-clause-half g c = λ first rows h.
     subst (λ (o : Option (Parked g.row.N g.row.P)). IsHalf first (record { parked = o; feed = c.run_turn.new.feed; quota = c.args.item.now.quota; ended = c.args.item.now.ended }) rows c.args.number (world told b t) (world told' b' t')) (sym c.take.ensures.after)
     (subst (λ (w : Told). IsHalf first left rows c.args.number (world w b t) (world told' b' t')) same
     (half_item told' first c.args.item.now rows c.args.number (stripes_of m) t t' (subst (λ (w : Told). HasTaken w first c.args.item.now rows) (sym same) h) (conf_of m) is c.run_turn.new.feed b b' c.requires.going (c.in-Err.ensures.cut s begins)))
+
+pub returns-clause-steady : goal.returns-clause-steady
+returns-clause-steady g c = λ other. c.in-Ok.ensures.steady (λ e. other (c.ended_by-item.ensures ∙ ap ended_after e))

@@ -1,4 +1,4 @@
-use Rattle.std.proofs.Common.{subst, refl, inl}
+use Rattle.std.proofs.Common.{◌∙◌, subst, refl, inl, inr}
 use Rattle.pr_base.specs.declared.caps.Cap.{Cap}
 use Rattle.pr_edge.specs.Files.{Told}
 use Rattle.pr_run.specs.Setting.{view}
@@ -6,6 +6,7 @@ use Rattle.pr_tool_modes.specs.Calls.{call}
 use Rattle.pr_tool_modes.specs.Files.{IsUnread}
 use Rattle.pr_tool_modes.specs.Evaluations.{HasLines}
 use Rattle.pr_tool_modes.proofs.EvalVerdicts.{file_end, put_end, evaluated}
+use Rattle.pr_tool_modes.proofs.FileLemmas.{shown_earlier}
 use Rattle.pr_tool_modes.proofs.evaluations.eval.Goals as goal
 
 -- the program is refused
@@ -18,6 +19,7 @@ returns-clause-ended g c =
     let refused = subst (λ (t : Told). IsUnread 16777216 Cap.SampleBytes t c.args.samples.now (g.S.Shelf.faults c.load_program.new.shelf) (g.S.Shelf.faults c.results_of.new.shelf) c.in-Err-results_of.answer) c.load_program.ensures.same c.in-Err-results_of.ensures.refused in
     evaluated c.args.program.now c.args.samples.now c.in-Ok.front k c.in-Err-results_of.answer c.in-Ok.ensures.loaded
     (file_end c.args.samples.now c.in-Ok.front.scoped.program k (g.S.Shelf.faults c.load_program.new.shelf) c.in-Err-results_of.answer c.load_program.ensures.later refused refl)
+    (shown_earlier _ _ _ _ c.in-Ok.ensures.steady c.in-Err-results_of.ensures.shown)
 
 pub returns-in-Ok-results_of-clause-ended : goal.returns-in-Ok-results_of-clause-ended
 returns-in-Ok-results_of-clause-ended g c =
@@ -26,3 +28,4 @@ returns-in-Ok-results_of-clause-ended g c =
     let lines = subst (λ (t : Told). HasLines t c.args.samples.now program c.in-Ok-results_of.results.text.items c.in-Ok-results_of.results.end) c.load_program.ensures.same c.in-Ok-results_of.ensures.results in
     evaluated c.args.program.now c.args.samples.now c.in-Ok.front k c.put_results.result c.in-Ok.ensures.loaded
     (put_end c.args.samples.now program lines.bytes c.in-Ok-results_of.results.text.items c.in-Ok-results_of.results.end k c.put_results.result lines.file lines.short lines.results c.put_results.ensures.put)
+    (inr (c.in-Ok-results_of.ensures.steady ∙ c.in-Ok.ensures.steady))

@@ -17,6 +17,15 @@ returns-in-Ok-clause-marked g c =
     let run = run_of b c.finish.new.machine c.finish.new.feed (RunEnd.Done c.in-Done.cycles c.in-Done.stalls c.in-Done.results) c.in-Done.ensures.ran in
     marked (course_of b) c.finish.new.machine run.rows run.history c.args.before c.in-Ok.text.items set.some set.two run.stands run.end.1.events run.end.0 c.in-Ok.ensures.mark
 
+pub returns-in-Done-clause-unmarked : goal.returns-in-Done-clause-unmarked
+returns-in-Done-clause-unmarked g c =
+    let ready = c.args.ready in
+    let start = view (g.S.Shelf.told c.args.shelf.now) (g.S.Shelf.reach c.args.shelf.now) (g.S.Shelf.faults c.args.shelf.now) in
+    let now = view (g.S.Shelf.told c.finish.new.shelf) (g.S.Shelf.reach c.finish.new.shelf) (g.S.Shelf.faults c.finish.new.shelf) in
+    let b : Begun g.row.N g.row.P = record { machine = ready.machine; stall = ready.stall; log = false; feed = ready.feed; start = start; now = now; old = untold; new = untold; ready = c.requires.ready } in
+    let run = run_of b c.finish.new.machine c.finish.new.feed (RunEnd.Done c.in-Done.cycles c.in-Done.stalls c.in-Done.results) c.in-Done.ensures.ran in
+    record { rows = run.rows; all = run.end.0 }
+
 pub returns-in-BadSample-clause-unmarked : goal.returns-in-BadSample-clause-unmarked
 returns-in-BadSample-clause-unmarked g c =
     let ready = c.args.ready in

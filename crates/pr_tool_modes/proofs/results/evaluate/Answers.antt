@@ -10,6 +10,12 @@ returns-in_err-sample-clause-there g c = IfOk-from_err _ _ c.from_residual.ensur
 pub returns-in_err-sample-clause-cause : goal.returns-in_err-sample-clause-cause
 returns-in_err-sample-clause-cause g c = IfOk-from_err _ _ c.from_residual.ensures.0
 
+pub returns-in_err-sample-clause-steady : goal.returns-in_err-sample-clause-steady
+returns-in_err-sample-clause-steady g c = IfOk-from_err _ _ c.from_residual.ensures.0
+
+pub returns-in_err-row-clause-steady : goal.returns-in_err-row-clause-steady
+returns-in_err-row-clause-steady g c = IfOk-from_err _ _ c.from_residual-in_err-row.ensures.0
+
 pub returns-in_err-row-clause-results : goal.returns-in_err-row-clause-results
 returns-in_err-row-clause-results g c = IfOk-from_err _ _ c.from_residual-in_err-row.ensures.0
 

@@ -1,4 +1,4 @@
-use Rattle.std.proofs.Common.{All, ◌≡◌, ◌≢◌, ℕ, List, length, nat_lt, refl, sym, subst, ◌∙◌, inl, arith}
+use Rattle.std.proofs.Common.{All, ◌≡◌, ◌≢◌, ℕ, List, length, nat_lt, refl, sym, subst, ◌∙◌, inl, inr, arith}
 use Rattle.std.proofs.lemmas.Bool.{false≢true}
 use Rattle.pr_edge.specs.Files.{Told}
 use Rattle.pr_samples.specs.declared.feed.Got.{Got}
@@ -52,3 +52,13 @@ returns-in-Ok-false-clause-results g c =
     } in
     lines_of_short (g.S.Shelf.told c.args.shelf.now) c.args.samples.now c.args.front.now.scoped.program first f f' results.text.items results.end (c.in-Ok-evaluate.ensures.results no_fault) named (λ missing. c.in-Ok-evaluate.ensures.there no_fault (rw (← c.in-Ok.ensures.name) at missing))
     (limit_of f) c.in-Ok-false.field-0 (c.evaluate.ensures.file.limit ∙ c.in-Ok.ensures.limit) c.in-Ok-false.field-0-test short last
+
+pub returns-in-Ok-false-clause-steady : goal.returns-in-Ok-false-clause-steady
+returns-in-Ok-false-clause-steady g c =
+    let no_fault : c.in-Ok-evaluate.results.end ≢ Got.ReadFault = λ fault. false≢true (sym c.if-is_read_fault.false ∙ c.is_read_fault.ensures.1 fault) in
+    c.in-Ok-false.ensures.steady ∙ c.in-Ok-evaluate.ensures.steady no_fault
+
+pub returns-in-Ok-true-clause-shown : goal.returns-in-Ok-true-clause-shown
+returns-in-Ok-true-clause-shown g c =
+    let no_fault : c.in-Ok-evaluate.results.end ≢ Got.ReadFault = λ fault. false≢true (sym c.if-is_read_fault.false ∙ c.is_read_fault.ensures.1 fault) in
+    inr (c.in-Ok-true.ensures.steady ∙ c.in-Ok-evaluate.ensures.steady no_fault)

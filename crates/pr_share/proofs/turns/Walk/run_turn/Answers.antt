@@ -14,6 +14,8 @@ loop-init g c = record {
   on = λ s b. turn_begin s c.args.machine.now c.args.feed.now (g.S.Shelf.told c.args.shelf.now) (g.K.Sink.told c.args.out.now) c.args.self.now.number b c.requires.resumed;
   count = omega arith;
   spent = λ e. absurd (cc);
+  fault = λ e. absurd (cc);
+  steady = λ other. refl;
   cause = λ e. absurd (cc);
   inputs = c.requires.inputs;
   file = record { name = refl; widths = refl; limit = refl; most = refl };
@@ -85,6 +87,8 @@ loop-preserved g c =
           (sym (c.is_over.ensures.test s drained.history drained.shown.stands) ∙ c.if-is_over.false) (c.cycle-turn.ensures.stands s.conf s.stripes drained.history drained.shown.stands));
       count = c.feed_step-used.ensures.quota;
       spent = c.feed_step-used.ensures.spent;
+      fault = c.feed_step-used.ensures.fault;
+      steady = λ other. (let e = c.feed_step-used.ensures.steady other in e.1 ∙ inv.steady e.0);
       cause = cause_on (g.S.Shelf.told c.args.shelf.now) (g.S.Shelf.told c.loop.shelf) (name_of c.args.feed.now) (name_of c.loop.feed) (g.S.Shelf.faults c.args.shelf.now) (g.S.Shelf.faults c.loop.shelf) (g.S.Shelf.faults c.feed_step-used.new.shelf) c.loop.used.last c.feed_step-used.result.last
           inv.told inv.file.name inv.shelf_later c.feed_step-used.ensures.later inv.cause c.feed_step-used.ensures.cause;
       inputs = file.widths ∙ (c.requires.inputs ∙ ap (λ (k : Configuration g.row.N g.row.P). (shape_of k).inputs) (sym conf));
@@ -112,3 +116,6 @@ returns-in-Err-clause-others g c = λ q other. c.feed_step-used.ensures.others q
 
 pub returns-then-is_over-clause-others : goal.returns-then-is_over-clause-others
 returns-then-is_over-clause-others g c = λ q other. c.feed_step-used.ensures.others q (λ e. other (e ∙ c.loop.invariant.file.name)) ∙ c.loop.invariant.others q other
+
+pub returns-then-is_over-clause-steady : goal.returns-then-is_over-clause-steady
+returns-then-is_over-clause-steady g c = λ other. (let e = c.feed_step-used.ensures.steady other in e.1 ∙ c.loop.invariant.steady e.0)

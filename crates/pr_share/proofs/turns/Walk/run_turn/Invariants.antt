@@ -14,6 +14,8 @@ invariant-loop g l = record {
       → IsTurning s (λ xs. turns (stages_of s) s.stripes [] l.counter (begun xs)) l.machine l.feed (g.S.Shelf.told l.shelf) (g.K.Sink.told l.out) l.used;
   count : l.used.count ≤ l.quota;
   spent : l.used.ended ≡ true → is_sample l.used.last ≡ true → l.used.count ≡ l.quota;
+  fault : l.used.last ≡ Got.ReadFault → l.used.ended ≡ true;
+  steady : l.used.last ≢ Got.ReadFault → g.S.Shelf.faults l.shelf ≡ g.S.Shelf.faults l.initial.shelf;
   cause : l.used.last ≡ Got.ReadFault → HasReadCause (g.S.Shelf.told l.initial.shelf) (name_of l.initial.feed) (g.S.Shelf.faults l.initial.shelf) (g.S.Shelf.faults l.shelf);
   inputs : widths_of l.feed ≡ (conf_of l.machine).inputs;
   file : SameFile l.initial.feed l.feed;
