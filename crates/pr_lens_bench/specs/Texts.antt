@@ -2,7 +2,6 @@
 use Rattle.std.specs.Prelude.{ℕ, List, ◌++◌, codes, decimal, length}
 use Rattle.pr_lang.specs.declared.trees.Program.{Program}
 use Rattle.pr_lang_meaning.specs.Programs.{out}
-use Rattle.pr_lens_rtl_text.specs.declared.ports.Port.{Port}
 use Rattle.pr_lens_bench.specs.declared.pieces.Piece.{Piece}
 use Rattle.pr_lens_bench.specs.declared.texts.Plan.{Plan}
 use Rattle.pr_lens_bench.specs.Pieces.{pieces_text}

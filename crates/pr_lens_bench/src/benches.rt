@@ -1,12 +1,14 @@
 //! The bench of a program on the samples of a file.
 
-ghost use Rattle.std.specs.Prelude.{◌≡◌, ◌≢◌, ◌≤◌, ℕ, List, length, vec_len, IfErr, IfOk};
+ghost use Rattle.std.specs.Prelude.{◌≡◌, ◌≢◌, ◌≤◌, ℕ, List, length, vec_len, ◌⊎◌, IfErr, IfOk, IsErrOf, OnErr};
 ghost use Rattle.pr_edge.specs.Files.{HasReadCause, IsMissing};
 ghost use Rattle.pr_samples.specs.declared.feed.Got.{Got};
 ghost use Rattle.pr_samples.specs.Feed.{name_of};
+ghost use Rattle.pr_tool_answers.specs.declared.answers.Answer.{Answer};
 ghost use Rattle.pr_tool_modes.specs.Programs.{inputs_of};
 ghost use Rattle.pr_lens_signals.specs.Reading.{IsLongFeed};
 ghost use Rattle.pr_lens_rtl_text.specs.Limits.{most_text_bytes};
+ghost use Rattle.pr_lens_bench.specs.declared.trials.NoBench.TheVariants.{Ended};
 ghost use Rattle.pr_lens_bench.specs.Reading.{HasLines, IsCut, IsFit, IsNotShort, IsShort};
 ghost use Rattle.pr_lens_bench.specs.Benches.{IsBench, IsUnbenched};
 
@@ -47,6 +49,8 @@ fn lines_of<S: Shelf>(
         → HasReadCause (S.told shelf.old) (name_of feed.old) (S.faults shelf.old) (S.faults shelf.new)) }
     ensures cut { IfErr result
         (IsCut (S.told shelf.old) trial.now.front.scoped.program trial.now.plan feed.old feed.new) }
+    ensures steady { IfOk result (λ r. r.end ≢ Got.ReadFault → S.faults shelf.new ≡ S.faults shelf.old) }
+    ensures kept { OnErr result (S.faults shelf.new ≡ S.faults shelf.old) }
     ensures name { name_of feed.new ≡ name_of feed.old }
     ensures later { S.faults shelf.old ≤ S.faults shelf.new }
     ensures same { S.told shelf.new ≡ S.told shelf.old }
@@ -84,6 +88,10 @@ pub fn bench<S: Shelf>(
     ensures refused { IfErr result
         (IsUnbenched (S.told shelf.old) samples.now trial.now.front.scoped.program trial.now.plan
         (S.faults shelf.old) (S.faults shelf.new)) }
+
+    // A read that fails is not tried again: it ends with ReadFault.
+    ensures steady { IsErrOf result (Ended Answer.ReadFault) ⊎ S.faults shelf.new ≡ S.faults shelf.old }
+
     ensures later { S.faults shelf.old ≤ S.faults shelf.new }
     ensures same { S.told shelf.new ≡ S.told shelf.old }
     ensures others { (q : List ℕ) → q ≢ samples.now → S.reach shelf.new q ≡ S.reach shelf.old q }

@@ -1,6 +1,6 @@
 //! The lines of a bench, which are made while the samples are read.
 
-ghost use Rattle.std.specs.Prelude.{◌≡◌, ◌≢◌, ◌≤◌, ℕ, List, length, vec_len, IfErr, IfOk};
+ghost use Rattle.std.specs.Prelude.{◌≡◌, ◌≢◌, ◌≤◌, ℕ, List, length, vec_len, IfErr, IfOk, OnErr};
 ghost use Rattle.pr_edge.specs.Files.{HasReadCause, IsMissing};
 ghost use Rattle.pr_samples.specs.declared.feed.Got.{Got};
 ghost use Rattle.pr_samples.specs.Feed.{name_of, SameFile};
@@ -50,6 +50,8 @@ pub fn lines_in<S: Shelf>(
         → HasReadCause (S.told shelf.old) (name_of feed.old) (S.faults shelf.old) (S.faults shelf.new)) }
     ensures cut { IfErr result
         (IsCut (S.told shelf.old) trial.now.front.scoped.program trial.now.plan feed.old feed.new) }
+    ensures steady { IfOk result (λ r. r.end ≢ Got.ReadFault → S.faults shelf.new ≡ S.faults shelf.old) }
+    ensures kept { OnErr result (S.faults shelf.new ≡ S.faults shelf.old) }
     ensures file { SameFile feed.old feed.new }
     ensures later { S.faults shelf.old ≤ S.faults shelf.new }
     ensures same { S.told shelf.new ≡ S.told shelf.old }

@@ -32,6 +32,7 @@ use Rattle.pr_samples.proofs.ResultLemmas.{put_front}
 use Rattle.pr_samples.proofs.SeenLemmas.{begins_itself, both_of}
 use Rattle.pr_tool_answers.specs.declared.answers.Answer.{Answer}
 use Rattle.pr_tool_modes.specs.Evaluations.{EndsBy, answer_by}
+use Rattle.pr_tool_modes.specs.Files.{ShowsFault}
 use Rattle.pr_tool_modes.specs.Programs.{inputs_of}
 use Rattle.pr_tool_modes.specs.Samples.{fed_in}
 use Rattle.pr_tool_modes.proofs.FileLemmas.{rose_earlier}
@@ -232,3 +233,11 @@ pub shown-never : (manner : Manner) (name : List ℕ) (program : Program) (told 
 shown-never manner name program told rb rn wb wn tape (Answer.Limit which) is = inl (is.0, is.1, refl)
 shown-never manner name program told rb rn wb wn tape Answer.Memory is = inl refl
 shown-never manner name program told rb rn wb wn tape answer is = absurd is
+
+-- a failed read of samples is answered
+pub fault-shown : (end : Got) (before now : ℕ) → (end ≢ Got.ReadFault → now ≡ before) → ShowsFault before now (answer_by end)
+fault-shown Got.ReadFault before now steady = inl refl
+fault-shown Got.Sample before now steady = inr (steady (λ e. cc))
+fault-shown Got.End before now steady = inr (steady (λ e. cc))
+fault-shown (Got.BadSample line) before now steady = inr (steady (λ e. cc))
+fault-shown (Got.Limit which) before now steady = inr (steady (λ e. cc))

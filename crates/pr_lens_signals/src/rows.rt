@@ -101,6 +101,8 @@ pub fn put_rows<S: Shelf, K: Sink>(
         work.old.feed work.new.feed (λ rows. AppendsFront (K.told out.old) (K.told out.new)
         (rows_text work.old.pen.form work.old.pen.tracks.items rows))) }
     ensures cause { IfErr result (IsWriteCause (K.faults out.old) (K.faults out.new)) }
+    ensures steady { IfOk result (λ end. end ≢ Got.ReadFault → S.faults shelf.new ≡ S.faults shelf.old) }
+    ensures kept { OnErr result (S.faults shelf.new ≡ S.faults shelf.old) }
     ensures file { SameFile work.old.feed work.new.feed }
     ensures later { S.faults shelf.old ≤ S.faults shelf.new }
     ensures same { S.told shelf.new ≡ S.told shelf.old }

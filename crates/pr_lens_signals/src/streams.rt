@@ -9,6 +9,7 @@ ghost use Rattle.pr_flat.specs.Widths.{AreWidths};
 ghost use Rattle.pr_expand_spec.specs.Programs.{equations_of};
 ghost use Rattle.pr_samples.specs.Feed.{name_of};
 ghost use Rattle.pr_source.specs.Standing.{Stands};
+ghost use Rattle.pr_tool_modes.specs.Files.{ShowsFault};
 ghost use Rattle.pr_tool_modes.specs.Programs.{inputs_of};
 ghost use Rattle.pr_lens_tracks.specs.Texts.{head_text};
 ghost use Rattle.pr_lens_signals.specs.Calls.{call};
@@ -93,6 +94,7 @@ fn show<S: Shelf, K: Sink>(
         → IsSetUp manner program showing.now pen → IsShown manner samples.now program (call
         (S.told shelf.old) (S.faults shelf.old) (S.faults shelf.new)
         (K.told out.old) (K.told out.new) (K.faults out.old) (K.faults out.new)) result }
+    ensures fault { ShowsFault (S.faults shelf.old) (S.faults shelf.new) result }
     ensures later { S.faults shelf.old ≤ S.faults shelf.new }
     ensures same { S.told shelf.new ≡ S.told shelf.old }
     ensures others { (q : List ℕ) → q ≢ samples.now → S.reach shelf.new q ≡ S.reach shelf.old q }
@@ -148,6 +150,8 @@ pub fn signals<S: Shelf, K: Sink>(
     ensures shown { IfOk result (λ answer. IsShown (manner_of style.now) samples.now front.scoped.program (call
         (S.told shelf.old) (S.faults shelf.old) (S.faults shelf.new)
         (K.told out.old) (K.told out.new) (K.faults out.old) (K.faults out.new)) answer) }
+    // A read that fails is answered with ReadFault, and is not tried again.
+    ensures fault { IfOk result (ShowsFault (S.faults shelf.old) (S.faults shelf.new)) }
     // A name that is to be shown as two's complement is that of no stream, and nothing is read or written.
     ensures foreign { IfErr result (λ e. IsForeign (manner_of style.now) front.scoped.program e.place) }
     ensures unwritten { OnErr result (K.told out.new ≡ K.told out.old) }

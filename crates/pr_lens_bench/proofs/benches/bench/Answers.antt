@@ -1,11 +1,11 @@
-use Rattle.std.proofs.Common.{◌≡◌, ◌≢◌, ℕ, List, sym, subst, ◌∙◌}
+use Rattle.std.proofs.Common.{◌≡◌, ◌≢◌, Err, inl, inr, sym, ap, subst, ◌∙◌}
 use Rattle.std.proofs.lemmas.Result.{IfErr-weaker, IfOk-weaker, err_from_is_err_and}
 use Rattle.pr_samples.specs.declared.feed.Got.{Got}
-use Rattle.pr_samples.specs.Feed.{name_of}
 use Rattle.pr_tool_answers.specs.declared.answers.Answer.{Answer}
 use Rattle.pr_lens_bench.specs.declared.trials.NoBench.TheVariants.{Ended}
 use Rattle.pr_lens_bench.specs.Benches.{IsUnbenched}
 use Rattle.pr_lens_bench.proofs.BenchLemmas.{made_bench, not_short_unbenched, unbenched, unbenched_by, unbenched_cut, unbenched_memory, whole_long}
+use Rattle.pr_lens_signals.proofs.SignalLemmas.{fault-shown}
 use Rattle.pr_lens_bench.proofs.benches.bench.Goals as goal
 
 pub returns-in_err-feed-clause-refused : goal.returns-in_err-feed-clause-refused
@@ -47,3 +47,17 @@ returns-clause-refused g c =
     subst (λ (a : Answer). IsUnbenched told c.args.samples.now c.args.trial.now.front.scoped.program c.args.trial.now.plan (g.S.Shelf.faults c.args.shelf.now) (g.S.Shelf.faults c.lines_of.new.shelf) (Ended a)) (sym c.answer_of.ensures)
     (unbenched told c.args.samples.now c.args.trial.now.front.scoped.program c.args.trial.now.plan c.in_ok-feed.feed c.lines_of.new.feed c.in_ok-feed.ensures.feed (c.lines_of.ensures.name ∙ name) _ _ lines.text.items lines.count lines.end
     c.in_ok-lines.ensures.lines c.in_ok-lines.ensures.short (λ other missing. c.in_ok-lines.ensures.there other (rw (← name) at missing)) (λ fault. rw name at (c.in_ok-lines.ensures.cause fault)) c.in_default.not-End)
+
+pub returns-in_err-lines-clause-steady : goal.returns-in_err-lines-clause-steady
+returns-in_err-lines-clause-steady g c = inr c.in_err-lines.ensures.kept
+
+pub returns-in-End-clause-steady : goal.returns-in-End-clause-steady
+returns-in-End-clause-steady g c =
+    let no_fault : c.in_ok-lines.lines.end ≢ Got.ReadFault = λ fault. (let other : Got.End ≡ Got.ReadFault = sym c.in-End.is ∙ fault in cc) in
+    inr (c.in_ok-lines.ensures.steady no_fault)
+
+pub returns-clause-steady : goal.returns-clause-steady
+returns-clause-steady g c = elim (fault-shown c.in_ok-lines.lines.end (g.S.Shelf.faults c.args.shelf.now) (g.S.Shelf.faults c.lines_of.new.shelf) c.in_ok-lines.ensures.steady) [
+  | inl fault ↦ inl (ap (λ (a : Answer). Err (Ended a)) (c.answer_of.ensures ∙ fault))
+  | inr same ↦ inr same
+]

@@ -17,6 +17,12 @@ returns-in_err-sample-clause-cause g c = IfOk-from_err _ _ c.from_residual.ensur
 pub returns-in_err-sample-clause-cut : goal.returns-in_err-sample-clause-cut
 returns-in_err-sample-clause-cut g c = cut_memory _ _ _ _ _ c.from_residual.result (err_from_is_err_and c.from_residual.result c.from_residual.ensures.1)
 
+pub returns-in_err-sample-clause-steady : goal.returns-in_err-sample-clause-steady
+returns-in_err-sample-clause-steady g c = IfOk-from_err _ _ c.from_residual.ensures.0
+
+pub returns-in_err-row-clause-steady : goal.returns-in_err-row-clause-steady
+returns-in_err-row-clause-steady g c = IfOk-from_err _ _ c.from_residual-in_err-row.ensures.0
+
 pub returns-in_err-row-clause-lines : goal.returns-in_err-row-clause-lines
 returns-in_err-row-clause-lines g c = IfOk-from_err _ _ c.from_residual-in_err-row.ensures.0
 

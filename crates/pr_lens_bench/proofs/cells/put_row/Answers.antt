@@ -1,5 +1,4 @@
-use Rattle.std.proofs.Common.{ap, arith, codes, length}
-use Rattle.std.proofs.lemmas.List.{length-append}
+use Rattle.std.proofs.Common.{codes}
 use Rattle.std.proofs.lemmas.Result.{on_ok_weaker}
 use Rattle.pr_lens_bench.proofs.CellLemmas.{four_pieces, four_more}
 use Rattle.pr_lens_bench.proofs.cells.put_row.Goals as goal

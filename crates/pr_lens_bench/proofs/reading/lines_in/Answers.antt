@@ -1,4 +1,4 @@
-use Rattle.std.proofs.Common.{◌≡◌, ◌+◌, ◌<◌, ◌≤◌, ℕ, List, length, refl, sym, ap, subst, ◌∙◌, arith}
+use Rattle.std.proofs.Common.{◌≡◌, ◌+◌, ℕ, List, length, refl, sym, ap, subst, ◌∙◌, arith}
 use Rattle.std.proofs.lemmas.Result.{IfOk-from_err, err_from_is_err_and}
 use Rattle.pr_edge.specs.Files.{Told, IsMissing}
 use Rattle.pr_flat.specs.Shape.{EquationShape, shapes_of}
@@ -28,6 +28,7 @@ samples-init g c =
       sample = c.requires.sample;
       row = c.requires.row;
       file = record { name = refl; widths = refl; limit = refl; most = refl };
+      steady = refl;
       later = omega arith;
       same = refl;
       others = λ q other. refl;
@@ -77,6 +78,7 @@ samples-preserved g c =
       sample = c.next.auto.into ∙ c.samples.invariant.sample;
       row = c.next-in-Sample.auto.into ∙ c.samples.invariant.row;
       file = same;
+      steady = c.next.ensures.steady (λ fault. let no : Got.Sample ≡ Got.ReadFault = sym c.in-Sample.is ∙ fault in cc) ∙ c.samples.invariant.steady;
       later = omega (arith, c.samples.invariant.later, c.next.ensures.later);
       same = c.next.ensures.same ∙ c.samples.invariant.same;
       others = λ q other. c.next.ensures.others q (rw c.samples.invariant.file.name other) ∙ c.samples.invariant.others q other;
@@ -109,6 +111,15 @@ returns-in_default-clause-there g c = λ no_fault missing. no_fault (c.next.ensu
 pub returns-in_default-clause-cause : goal.returns-in_default-clause-cause
 returns-in_default-clause-cause g c = λ fault.
     cause_earlier (g.S.Shelf.told c.args.shelf.now) (name_of c.args.feed.now) _ _ _ c.samples.invariant.later (rw (c.samples.invariant.file.name, c.samples.invariant.same) at (c.next.ensures.cause fault))
+
+pub returns-in_default-clause-steady : goal.returns-in_default-clause-steady
+returns-in_default-clause-steady g c = λ no_fault. c.next.ensures.steady no_fault ∙ c.samples.invariant.steady
+
+pub returns-in_err-evaluator-clause-steady : goal.returns-in_err-evaluator-clause-steady
+returns-in_err-evaluator-clause-steady g c = IfOk-from_err _ _ c.from_residual.ensures.0
+
+pub returns-in_err-put_row-in-Sample-clause-steady : goal.returns-in_err-put_row-in-Sample-clause-steady
+returns-in_err-put_row-in-Sample-clause-steady g c = IfOk-from_err _ _ c.from_residual-in_err-put_row-in-Sample.ensures.0
 
 pub returns-in_err-evaluator-clause-lines : goal.returns-in_err-evaluator-clause-lines
 returns-in_err-evaluator-clause-lines g c = IfOk-from_err _ _ c.from_residual.ensures.0

@@ -16,6 +16,7 @@ invariant-samples g l = record {
   sample : length l.sample ≡ vec_len l.trial.front.scoped.inputs;
   row : length l.row ≡ vec_len l.trial.front.flat.outputs;
   file : SameFile l.initial.feed l.feed;
+  steady : g.S.Shelf.faults l.shelf ≡ g.S.Shelf.faults l.initial.shelf;
   later : g.S.Shelf.faults l.initial.shelf ≤ g.S.Shelf.faults l.shelf;
   same : g.S.Shelf.told l.shelf ≡ g.S.Shelf.told l.initial.shelf;
   others : (q : List ℕ) → q ≢ name_of l.initial.feed → g.S.Shelf.reach l.shelf q ≡ g.S.Shelf.reach l.initial.shelf q;

@@ -35,6 +35,7 @@ samples-init g c =
       sample = c.requires.sample;
       row = c.requires.row;
       file = record { name = refl; widths = refl; limit = refl; most = refl };
+      steady = refl;
       later = omega arith;
       same = refl;
       others = λ q other. refl;
@@ -104,6 +105,7 @@ samples-preserved g c =
       sample = c.next.auto.into ∙ c.samples.invariant.sample;
       row = c.next-in-Sample.auto.into ∙ c.samples.invariant.row;
       file = same;
+      steady = c.next.ensures.steady (λ fault. let no : Got.Sample ≡ Got.ReadFault = sym c.in-Sample.is ∙ fault in cc) ∙ c.samples.invariant.steady;
       later = omega (arith, c.samples.invariant.later, c.next.ensures.later);
       same = c.next.ensures.same ∙ c.samples.invariant.same;
       others = λ q other. c.next.ensures.others q (rw c.samples.invariant.file.name other) ∙ c.samples.invariant.others q other;
@@ -144,6 +146,12 @@ returns-in_default-clause-there g c = λ no_fault missing. no_fault (c.next.ensu
 pub returns-in_default-clause-read : goal.returns-in_default-clause-read
 returns-in_default-clause-read g c = λ fault.
     cause_earlier (g.S.Shelf.told c.args.shelf.now) (name_of c.args.work.now.feed) _ _ _ c.samples.invariant.later (rw (c.samples.invariant.file.name, c.samples.invariant.same) at (c.next.ensures.cause fault))
+
+pub returns-in_default-clause-steady : goal.returns-in_default-clause-steady
+returns-in_default-clause-steady g c = λ no_fault. c.next.ensures.steady no_fault ∙ c.samples.invariant.steady
+
+pub returns-in-Err-clause-kept : goal.returns-in-Err-clause-kept
+returns-in-Err-clause-kept g c = c.next.ensures.steady (λ fault. let no : Got.Sample ≡ Got.ReadFault = sym c.in-Sample.is ∙ fault in cc) ∙ c.samples.invariant.steady
 
 pub returns-in-Err-clause-cut : goal.returns-in-Err-clause-cut
 returns-in-Err-clause-cut g c =

@@ -1,8 +1,9 @@
-use Rattle.std.proofs.Common.{refl, inl, ◌∙◌, sym, subst}
+use Rattle.std.proofs.Common.{refl, inl, inr, ◌∙◌, sym, subst}
 use Rattle.pr_tool_answers.specs.declared.answers.Answer.{Answer}
+use Rattle.pr_tool_modes.specs.Files.{ShowsFault}
 use Rattle.pr_lens_signals.specs.Calls.{call}
 use Rattle.pr_lens_signals.specs.Signals.{IsShown}
-use Rattle.pr_lens_signals.proofs.SignalLemmas.{shown-cut, shown-nameless, shown-read, write-earlier}
+use Rattle.pr_lens_signals.proofs.SignalLemmas.{fault-shown, shown-cut, shown-nameless, shown-read, write-earlier}
 use Rattle.pr_lens_signals.proofs.streams.show.Goals as goal
 
 pub returns-in-Err-clause-shown : goal.returns-in-Err-clause-shown
@@ -28,3 +29,11 @@ returns-clause-shown g c = λ manner program lawful is.
     shown-cut manner program c.args.showing.now c.args.pen lawful is (g.S.Shelf.told c.args.shelf.now) c.args.samples.now c.in-Ok.start.work.feed c.put_rows.new.work.feed c.in-Ok.ensures.feed (c.put_rows.ensures.file.name ∙ c.in-Ok.ensures.name) _ _ _ _ _ _
     (g.K.Sink.told c.put_start.new.out) c.in-Err-put_rows.answer (rw c.in-Ok.ensures.pen at c.in-Ok-put_start.ensures.all) (rw c.in-Ok.ensures.pen at c.in-Err-put_rows.ensures.cut)
     (write-earlier _ _ _ c.in-Err-put_rows.answer c.put_start.ensures.later c.in-Err-put_rows.ensures.cause)
+
+pub returns-in-Ok-put_rows-clause-fault : goal.returns-in-Ok-put_rows-clause-fault
+returns-in-Ok-put_rows-clause-fault g c =
+    subst (λ (a : Answer). ShowsFault (g.S.Shelf.faults c.args.shelf.now) (g.S.Shelf.faults c.put_rows.new.shelf) a) (sym c.answer_of.ensures)
+    (fault-shown c.in-Ok-put_rows.end (g.S.Shelf.faults c.args.shelf.now) (g.S.Shelf.faults c.put_rows.new.shelf) c.in-Ok-put_rows.ensures.steady)
+
+pub returns-clause-fault : goal.returns-clause-fault
+returns-clause-fault g c = inr c.in-Err-put_rows.ensures.kept
