@@ -2,7 +2,7 @@
 use Rattle.std.proofs.Common.{◌≡◌, ◌++◌, ◌+◌, ◌<◌, ◌≤◌, ◌∙◌, ℕ, suc, List, [], ◌∷◌, codes, length, drop, get_or, min, refl, sym, ap, arith, append_assoc, append-nil, inl, inr}
 use Rattle.std.proofs.lemmas.List.{at_drop_more, drop_all, length-append}
 use Rattle.std.proofs.lemmas.Bool.{cases_lt}
-use Rattle.pr_lens_rtl_text.specs.declared.names.Side.{Side}
+use Rattle.pr_lens_rtl_names.specs.declared.names.Side.{Side}
 use Rattle.pr_lens_rtl_text.specs.declared.ports.Port.{Port}
 use Rattle.pr_lens_bench.specs.Cells.{cell_text, cells_text, row_text, rows_text}
 

@@ -1,5 +1,5 @@
--- What a bench has for each port. The memory s_x has the samples of the port x, w_y the wanted results of y; p_x and p_y are
--- what stands at the ports.
+-- What a bench has for each port. The memory s_x has the samples of the port x, w_y the wanted results of y; p_x and
+-- p_y are what stands at the ports.
 use Rattle.std.specs.Prelude.{ℕ, ◌-◌, List, ◌++◌, codes, decimal}
 use Rattle.std.specs.List.{flat_map}
 use Rattle.pr_lens_rtl_text.specs.declared.ports.Port.{Port}

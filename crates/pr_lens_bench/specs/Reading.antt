@@ -31,7 +31,8 @@ pub record HasLines (told : Told) (program : Program) (plan : Plan) (first now :
   pub lines : text ≡ lines_on program plan samples
   pub counted : count ≡ length samples
 
--- a feed was read so far, the file is there, and the lines on these first samples of each file that begins so have too many bytes
+-- a feed was read so far, the file is there, and the lines on these first samples of each file that begins so have too
+-- many bytes
 pub record HasLongLines (told : Told) (program : Program) (plan : Plan) (first now : Feed) : Type 0 where
   pub samples : List (List ℕ)
   pub reads : ReadsOn told [] first now (λ file. AreFirst first file samples)

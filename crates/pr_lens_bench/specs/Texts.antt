@@ -7,8 +7,8 @@ use Rattle.pr_lens_bench.specs.declared.texts.Plan.{Plan}
 use Rattle.pr_lens_bench.specs.Pieces.{pieces_text}
 use Rattle.pr_lens_bench.specs.Cells.{rows_text}
 
--- how many samples were offered and how many results taken; of a hundred clocks in how many a sample is offered, and a result
--- taken; and what decides it
+-- how many samples were offered and how many results taken; of a hundred clocks in how many a sample is offered, and a
+-- result taken; and what decides it
 unfoldable pub head_text : (seed count : ℕ) → List ℕ
 head_text seed count =
     codes "`timescale 1ns/1ps\n/* verilator lint_off WIDTH */\nmodule bench;\n"

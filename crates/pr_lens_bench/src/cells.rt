@@ -7,7 +7,8 @@ use crate::pieces::put_named;
 use crate::texts::Plan;
 use itoa::Buffer;
 use pr_base::Num;
-use pr_lens_rtl_text::{Port, Side};
+use pr_lens_rtl_names::Side;
+use pr_lens_rtl_text::Port;
 use pr_lens_text::{put, put_counted};
 use std::alloc::AllocError;
 

@@ -15,8 +15,8 @@ ghost use Rattle.pr_lens_notes.specs.Noted.{AreNotesFor};
 
 use pr_place::placement_law;
 
-/// In the placement of the greedy rule, the column in which a cell of a unit stands has the label of the stream that the unit
-/// is made for, if it is made for one. A column in which no cell stands has no label.
+/// In the placement of the greedy rule, the column in which a cell of a unit stands has the label of the stream that
+/// the unit is made for, if it is made for one. A column in which no cell stands has no label.
 pub fn notes_law()
     ensures named { (N P : ℕ) (net : NetShape) (p : PlacementShape) (origins : Origins) (notes : Notes)
         → IsNet N net → 2 ≤ P → IsGreedy N P net p → AreNotesFor N p origins notes → (u i : ℕ) → IsCell net u i

@@ -62,9 +62,10 @@ fn notes_by(
     }
 }
 
-/// The comments of the module of the program of a text on N columns and P registers, with its equations narrowed where that is
-/// asked for: each column has the line and the name of the stream that its unit is made for. There are none where the
-/// program leaves no turn of the walk, or its net passes a limit. Else why the program has no configuration, as the compiler answers.
+/// The comments of the module of the program of a text on N columns and P registers, with its equations narrowed where
+/// that is asked for: each column has the line and the name of the stream that its unit is made for. There are none
+/// where the program leaves no turn of the walk, or its net passes a limit. Else why the program has no configuration,
+/// as the compiler answers.
 pub fn notes_of<const N: usize, const P: usize>(
     alloc: Global,
     text: &[u8],

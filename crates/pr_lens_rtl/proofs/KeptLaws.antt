@@ -488,7 +488,8 @@ module _ (K : Net → Bool) (m : Module) (d : IsDriven m) (closed : IsClosed K m
         ∙ ap (λ q. (if is_one (part Net.OutReady) && is_one (part Net.OutValid) then q ∷ [] else []) ++ results_in c (next_values m now after) (rest_of (next_values m now after) rest)) (result_same now part b)
         ∙ ap (λ q. (if is_one (part Net.OutReady) && is_one (part Net.OutValid) then result_at c part ∷ [] else []) ++ q) (results_same (next_values m now after) after rest (step_beside now part after b r.0) r.2)
 
-    -- to each run of the part that is kept there is one of the whole that takes in the same samples and gives the same results
+    -- to each run of the part that is kept there is one of the whole that takes in the same samples and gives the same
+    -- results
     pub whole_run : (first now : Values) (rest : List Values) → IsRunFromReset (kept K m) first now rest
         → (first' : Values) × (now' : Values) × (rest' : List Values) × IsRunFromReset m first' now' rest'
         × (samples_in c now' rest' ≡ samples_in c now rest) × (results_in c now' rest' ≡ results_in c now rest)

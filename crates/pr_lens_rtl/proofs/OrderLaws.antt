@@ -1,4 +1,5 @@
--- The vectors of a configuration's module are driven once, and its wires stand in an order in which each reads what comes before it.
+-- The vectors of a configuration's module are driven once, and its wires stand in an order in which each reads what
+-- comes before it.
 use Rattle.std.proofs.Common.{◌≡◌, ◌<◌, ◌≤◌, ℕ, zero, suc, ◌+◌, ◌-◌, ◌*◌, ◌==◌, Bool, true, false, List, [], ◌∷◌, ◌++◌, length, refl, subst, arith, if◌then◌else◌}
 use Rattle.std.specs.List.{list_all}
 use Rattle.std.proofs.Math.Nat.{mul-le-mul_right}

@@ -34,8 +34,8 @@ kept_of K (a ∷ rest) = if K a.net then a ∷ kept_of K rest else kept_of K res
 abbrev pub kept : (Net → Bool) → Module → Module
 kept K m = record { wires = kept_of K m.wires; registers = kept_of K m.registers }
 
--- Which vectors a port needs is marked stage by stage, from the last one down, and in a stage from the last vector down:
--- what is assigned to a marked vector marks what it reads.
+-- Which vectors a port needs is marked stage by stage, from the last one down, and in a stage from the last vector
+-- down: what is assigned to a marked vector marks what it reads.
 -- the place of a vector in this order: those of a stage have 2048 places, from 2048 times the stage on
 abbrev pub place_in : Part → ℕ → ℕ
 place_in Part.State k = k

@@ -33,8 +33,8 @@ source_expr N s (Source.Bus place) = Expr.Read (Net.In place)
 abbrev pub shifted_expr : Expr → Expr → ℕ → Expr
 shifted_expr hi lo shift = if shift == 0 then hi else Expr.Or (Expr.Left hi shift) (Expr.Right lo (8 - shift))
 
--- the function of two bytes that is, at each bit place, the first of these bits where both have 0 there, the second where
--- a alone has 1, the third where b alone has 1, and the fourth where both have
+-- the function of two bytes that is, at each bit place, the first of these bits where both have 0 there, the second
+-- where a alone has 1, the third where b alone has 1, and the fourth where both have
 abbrev pub two_input : Bool → Bool → Bool → Bool → Expr → Expr → Expr
 two_input false false false false a b = Expr.Byte 0
 two_input true false false false a b = Expr.Not (Expr.Or a b)
@@ -122,13 +122,15 @@ result_net Mode.Plain s col = Net.Of Part.X s col
 result_net Mode.Sum s col = Net.Of Part.Sum s col
 result_net Mode.Zero s col = Net.Of Part.X s col
 
--- how many of the lowest bits a mask leaves, where those are fewer than eight: 3 for the mask 7. It is 0 for any other mask
+-- how many of the lowest bits a mask leaves, where those are fewer than eight: 3 for the mask 7. It is 0 for any other
+-- mask
 abbrev pub low_bits : ℕ → ℕ
 low_bits mask =
     if mask == 1 then 1 else if mask == 3 then 2 else if mask == 7 then 3 else if mask == 15 then 4 else if mask == 31 then 5
     else if mask == 63 then 6 else if mask == 127 then 7 else 0
 
--- the output has a mask even where that keeps all bits: a sum to which a carry is added. Yosys then joins both additions into one
+-- the output has a mask even where that keeps all bits: a sum to which a carry is added. Yosys then joins both
+-- additions into one
 abbrev pub is_always_masked : Mode → Carry → Bool
 is_always_masked Mode.Plain carry = false
 is_always_masked Mode.Sum carry = has_carry_in carry

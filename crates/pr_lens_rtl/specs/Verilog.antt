@@ -1,6 +1,6 @@
--- A part of Verilog: unsigned vectors, expressions over them, continuous assignments, and registers that take their next
--- values at a clock. The meaning is that of IEEE 1364 for values without x and z: an expression that is assigned is worked
--- out at the greater of its own width and that of its target, and then cut to its target.
+-- A part of Verilog: unsigned vectors, expressions over them, continuous assignments, and registers that take their
+-- next values at a clock. The meaning is that of IEEE 1364 for values without x and z: an expression that is assigned
+-- is worked out at the greater of its own width and that of its target, and then cut to its target.
 use Rattle.std.specs.Prelude.{◌≡◌, ◌<◌, ℕ, ◌+◌, ◌-◌, ◌*◌, ◌/◌, ◌%◌, ◌^◌, ◌==◌, max, Bool, List, [], ◌∷◌, bit_and, bit_or, bit_xor, if◌then◌else◌}
 use Rattle.std.specs.Int.{bit_at}
 use Rattle.pr_lens_rtl.specs.declared.vectors.Part.{Part}
@@ -72,7 +72,8 @@ Values = Net → ℕ
 abbrev pub bit_of : Bool → ℕ
 bit_of b = if b then 1 else 0
 
--- the value of an expression that is worked out at w bits. A condition, and what is compared with a byte, has its own width
+-- the value of an expression that is worked out at w bits. A condition, and what is compared with a byte, has its own
+-- width
 abbrev pub value : Values → Expr → ℕ → ℕ
 value now (Expr.Byte k) w = k % 256
 value now (Expr.Bit b) w = bit_of b

@@ -26,7 +26,8 @@ pub fn table_law()
 pub fn module_law()
     ensures clock { (N P : ℕ) (c : Shape) → IsLawful N P c → has_bytes c ≡ true → (now after : Values)
         → IsClock (module_of N P c) now after → now Net.Reset ≡ 0
-        → all_held N P after 0 (length c.stages) ≡ clock (steps_of N P c) (all_held N P now 0 (length c.stages)) (pins c now) }
+        → all_held N P after 0 (length c.stages)
+        ≡ clock (steps_of N P c) (all_held N P now 0 (length c.stages)) (pins c now) }
     ensures trace { (N P : ℕ) (c : Shape) → IsLawful N P c → has_bytes c ≡ true
         → (first now : Values) (rest : List Values)
         → IsRunFromReset (module_of N P c) first now rest
@@ -34,8 +35,9 @@ pub fn module_law()
 {}
 
 /// The same of any part of the module that has its ports and, with a vector, all that is read for it: what is left out
-/// changes no result. The part is ready for a sample unless a result stands at its end and is not taken. Once no sample is
-/// offered, all results have left after as many clocks in which the module is ready as there are stages. Whatever such a part's registers and inputs hold, there are settled wires and a next clock.
+/// changes no result. The part is ready for a sample unless a result stands at its end and is not taken. Once no sample
+/// is offered, all results have left after as many clocks in which the module is ready as there are stages. Whatever
+/// such a part's registers and inputs hold, there are settled wires and a next clock.
 ///
 /// The marks of a configuration are such a part.
 pub fn kept_law()
@@ -56,15 +58,16 @@ pub fn kept_law()
         → (now : Values) → IsSettled (kept K (module_of N P c)) now → IsReadyForMore now }
     ensures settles { (N P : ℕ) (c : Shape) → IsLawful N P c → has_bytes c ≡ true → (K : Net → Bool)
         → (first : Values) → Fit first
-        → (now : Values) × IsSettled (kept K (module_of N P c)) now × AgreeAtInputs first now × AgreeAtRegisters first now }
+        → (now : Values) × IsSettled (kept K (module_of N P c)) now × AgreeAtInputs first now
+        × AgreeAtRegisters first now }
     ensures next { (N P : ℕ) (c : Shape) → IsLawful N P c → has_bytes c ≡ true → (K : Net → Bool)
         → (now ports : Values)
         → IsSettled (kept K (module_of N P c)) now → Fit ports
         → (after : Values) × IsClock (kept K (module_of N P c)) now after × AgreeAtInputs ports after }
 {}
 
-/// Each vector of the module, and of any part of it, is driven once. What is driven from outside is not driven inside. The
-/// numbers of a vector have 32 bits.
+/// Each vector of the module, and of any part of it, is driven once. What is driven from outside is not driven inside.
+/// The numbers of a vector have 32 bits.
 pub fn driven_law()
     ensures once { (N P : ℕ) (c : Shape) → IsLawful N P c → has_bytes c ≡ true → (K : Net → Bool)
         → AllPairs (λ m n. m ≢ n) (driven (kept K (module_of N P c))) }

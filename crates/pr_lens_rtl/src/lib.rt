@@ -1,4 +1,5 @@
-//! A compiled pipeline as a Verilog module: what the module is, and that it makes of samples what the configuration does.
+//! A compiled pipeline as a Verilog module: what the module is, and that it makes of samples what the configuration
+//! does.
 #![tactic(auto)]
 
 mod laws;

@@ -141,8 +141,8 @@ pub fn carry_in_atom(columns: u32, stage: u32, col: u32, c: Bit, carry: Carry) -
     }
 }
 
-/// The function of two vectors that is, at each bit place, the first of these where both have 0 there, the second where a
-/// alone has 1, the third where b alone has 1, and the fourth where both have.
+/// The function of two vectors that is, at each bit place, the first of these where both have 0 there, the second where
+/// a alone has 1, the third where b alone has 1, and the fourth where both have.
 fn two_input(neither: bool, a_alone: bool, b_alone: bool, both: bool, a: Net, b: Net) -> Form
     ensures { form_expr result ≡ two_input neither a_alone b_alone both (Expr.Read a) (Expr.Read b) }
 {
@@ -261,7 +261,8 @@ fn result_net(mode: Mode, stage: u32, col: u32) -> Net
     }
 }
 
-/// How many of the lowest bits a mask leaves, where those are fewer than eight: 3 for the mask 7. It is 0 for any other mask.
+/// How many of the lowest bits a mask leaves, where those are fewer than eight: 3 for the mask 7. It is 0 for any other
+/// mask.
 fn low_bits(mask: u8) -> u8
     ensures { result ≡ low_bits mask }
 {

@@ -4,7 +4,7 @@ use Rattle.std.specs.List.{list_all}
 use Rattle.std.proofs.lemmas.Bool.{and_parts, false≢true, ne_eqb}
 use Rattle.pr_lens_rtl.specs.Verilog.{Assign, Module}
 use Rattle.pr_lens_rtl_text.specs.declared.lines.Way.{Way}
-use Rattle.pr_lens_rtl_text.specs.declared.names.Side.{Side}
+use Rattle.pr_lens_rtl_names.specs.declared.names.Side.{Side}
 use Rattle.pr_lens_rtl_text.specs.declared.ports.Port.{Port}
 use Rattle.pr_lens_rtl_text.specs.Notes.{Comments, is_note_byte, tail_text}
 use Rattle.pr_lens_rtl_text.specs.Printed.{declared_text, expr_text, line_text, lines_text, wire_text}

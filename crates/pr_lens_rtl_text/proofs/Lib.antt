@@ -1,9 +1,7 @@
 pub mod TextLemmas
-pub mod NameLemmas
 pub mod PortLemmas
 pub mod WholeLemmas
 pub mod StageTexts
-pub mod WordLaws
 pub mod NamingLaws
 pub mod LimitLemmas
 pub mod CommentLemmas

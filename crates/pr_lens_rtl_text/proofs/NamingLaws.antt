@@ -13,9 +13,9 @@ use Rattle.pr_lens_rtl.specs.declared.vectors.Part.{Part}
 use Rattle.pr_lens_rtl.specs.declared.vectors.Net.{Net}
 use Rattle.pr_lens_rtl.specs.Driven.{IsBelow}
 use Rattle.pr_lens_rtl.proofs.DrivenLaws.{pairs_both}
-use Rattle.pr_lens_rtl_text.specs.Names.{handshake_text, is_handshake, is_reserved, language_text, port_name, IsName}
+use Rattle.pr_lens_rtl_names.specs.Names.{handshake_text, is_handshake, is_reserved, language_text, port_name, IsName}
 use Rattle.pr_lens_rtl_text.specs.Printed.{net_text, part_text}
-use Rattle.pr_lens_rtl_text.proofs.WordLaws.{has, has_both, dollar_reserved, port_differs, port_handshake, port_reserved, port_cases}
+use Rattle.pr_lens_rtl_names.proofs.WordLaws.{has, has_both, dollar_reserved, port_differs, port_handshake, port_reserved, port_cases}
 
 -- ---- the text of a vector, read again
 abbrev until : ℕ → List ℕ → List ℕ

@@ -5,7 +5,7 @@ use Rattle.std.proofs.lemmas.List.{at_drop_more, drop_all}
 use Rattle.std.proofs.lemmas.Bool.{and_parts, cases_lt, leb-true, ltb-true}
 use Rattle.pr_base.specs.Numbers.{slices_of}
 use Rattle.pr_conf.specs.Rules.{are_lawful_inputs, bytes_in, is_lawful_width}
-use Rattle.pr_lens_rtl_text.specs.declared.names.Side.{Side}
+use Rattle.pr_lens_rtl_names.specs.declared.names.Side.{Side}
 use Rattle.pr_lens_rtl_text.specs.declared.ports.Port.{Port}
 use Rattle.pr_lens_rtl_text.specs.Ports.{byte_lines, side_lines, zipped}
 

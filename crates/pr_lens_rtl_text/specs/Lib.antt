@@ -1,7 +1,6 @@
 pub mod Notes
 pub mod Printed
 pub mod Signs
-pub mod Names
 pub mod Ports
 pub mod Limits
 pub mod Modules

@@ -8,11 +8,11 @@ use Rattle.pr_code.specs.Spelling.{has_bytes}
 use Rattle.pr_lens_rtl.specs.Verilog.{Module}
 use Rattle.pr_lens_rtl.specs.Kept.{kept_module, marks_of}
 use Rattle.pr_lens_rtl_text.specs.declared.lines.Way.{Way}
-use Rattle.pr_lens_rtl_text.specs.declared.names.Side.{Side}
+use Rattle.pr_lens_rtl_names.specs.declared.names.Side.{Side}
 use Rattle.pr_lens_rtl_text.specs.declared.ports.Port.{Port}
 use Rattle.pr_lens_rtl_text.specs.declared.notes.Notes.{Notes}
 use Rattle.pr_lens_rtl_text.specs.Notes.{Comments, note_of}
-use Rattle.pr_lens_rtl_text.specs.Names.{names_in, port_name}
+use Rattle.pr_lens_rtl_names.specs.Names.{names_in, port_name}
 use Rattle.pr_lens_rtl_text.specs.Ports.{ports_text, side_lines, zipped}
 use Rattle.pr_lens_rtl_text.specs.Printed.{lines_text}
 
@@ -39,7 +39,8 @@ module_text note name inputs outputs m =
 abbrev pub comments_of : ℕ → ℕ → Notes → Shape → Comments
 comments_of N P notes conf = note_of notes (marks_of N P conf)
 
--- the module that is written for a program and its configuration; a name that no port may have gets an underscore behind it
+-- the module that is written for a program and its configuration; a name that no port may have gets an underscore
+-- behind it
 abbrev pub rtl_text : ℕ → ℕ → Comments → List ℕ → Program → Shape → List ℕ
 rtl_text N P note name program conf =
     module_text note (port_name name) (ports_by Side.Input program conf.inputs) (ports_by Side.Output program (output_widths conf)) (kept_module N P conf)

@@ -47,8 +47,8 @@ abbrev pub is_repeated : Notes → List Bool → Part → (stage col : ℕ) → 
 is_repeated notes marks part stage col =
     if col == 0 then false else is_kept marks (Net.Of part stage (col - 1)) && option_eq nat_eq (place_at notes stage (col - 1)) (place_at notes stage col)
 
--- What is noted of a vector, where these are written: the label of its column. One label serves for all columns side by side that
--- have it
+-- What is noted of a vector, where these are written: the label of its column. One label serves for all columns side by
+-- side that have it
 unfoldable pub note_of : Notes → List Bool → Comments
 note_of notes marks (Net.Of part stage col) = if is_noted part && not (is_repeated notes marks part stage col) then label_of notes stage col else None
 note_of notes marks other = None

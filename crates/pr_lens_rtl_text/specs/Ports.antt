@@ -2,7 +2,7 @@
 use Rattle.std.specs.Prelude.{ℕ, zero, suc, ◌+◌, ◌*◌, ◌-◌, ◌==◌, min, List, [], ◌∷◌, ◌++◌, codes, decimal, if◌then◌else◌}
 use Rattle.std.specs.List.{flat_map}
 use Rattle.pr_base.specs.Numbers.{slices_of}
-use Rattle.pr_lens_rtl_text.specs.declared.names.Side.{Side}
+use Rattle.pr_lens_rtl_names.specs.declared.names.Side.{Side}
 use Rattle.pr_lens_rtl_text.specs.declared.ports.Port.{Port}
 
 -- names with their widths

@@ -93,8 +93,8 @@ declared_text kind n = kind ++ range_text (width n) ++ net_text n
 abbrev pub wire_text : Net → List ℕ
 wire_text n = if is_port n then codes "assign " ++ net_text n else declared_text (codes "wire ") n
 
--- the line of a wire, the line where a register is declared, and the line of what it takes at the clock; the first two end in
--- the comment of the vector
+-- the line of a wire, the line where a register is declared, and the line of what it takes at the clock; the first two
+-- end in the comment of the vector
 abbrev pub line_text : Comments → Way → Assign → List ℕ
 line_text note Way.Wire a = wire_text a.net ++ codes " = " ++ expr_text true a.expr ++ codes ";" ++ tail_text (note a.net) ++ codes "\n"
 line_text note Way.Declared a = declared_text (codes "reg ") a.net ++ codes ";" ++ tail_text (note a.net) ++ codes "\n"

@@ -10,7 +10,7 @@ ghost use Rattle.pr_lens_rtl.specs.Verilog.{Values, Fit, IsSettled, IsClock};
 ghost use Rattle.pr_lens_rtl.specs.Kept.{kept_module};
 ghost use Rattle.pr_lens_rtl.specs.Driven.{driven, IsBelow};
 ghost use Rattle.pr_lens_rtl.specs.Traces.{samples_in, results_in, IsRunFromReset, end_of, offers_none, ready_clocks, AgreeAtInputs, AgreeAtRegisters, IsReadyForMore};
-ghost use Rattle.pr_lens_rtl_text.specs.Names.{IsName, is_reserved, port_name};
+ghost use Rattle.pr_lens_rtl_names.specs.Names.{IsName, is_reserved, port_name};
 ghost use Rattle.pr_lens_rtl_text.specs.Notes.{Comments};
 ghost use Rattle.pr_lens_rtl_text.specs.Printed.{net_text};
 ghost use Rattle.pr_lens_rtl_text.specs.Modules.{IsRtlText, rtl_text};
@@ -18,8 +18,8 @@ ghost use Rattle.pr_lens_rtl_text.specs.Uncommented.{uncommented};
 
 use pr_lens_rtl::{driven_law, kept_law};
 
-/// The clock, the ports of distinct names and distinct vectors have distinct names, and none of these is a word of Verilog or
-/// of SystemVerilog. No module has the name of a test bench.
+/// The clock, the ports of distinct names and distinct vectors have distinct names, and none of these is a word of
+/// Verilog or of SystemVerilog. No module has the name of a test bench.
 pub fn names_law()
     ensures apart { (names : List (List ℕ)) (nets : List Net) → All IsName names → AllPairs (λ a b. a ≢ b) names
         → All (IsBelow (2 ^ 32)) nets → AllPairs (λ m n. m ≢ n) nets
@@ -29,11 +29,12 @@ pub fn names_law()
     ensures bench { (name : List ℕ) → port_name name ≢ codes "bench" }
 {}
 
-/// What is known of a text that was written for a program and its configuration: in every run of its module from a reset,
-/// the results that leave are the first ones of what the configuration makes of the samples that entered, and all of them
-/// after as many clocks in which the module is ready as there are stages. It is ready unless a result stands at its end and
-/// is not taken. There is such a run, whatever its registers and inputs hold. Each of its vectors is driven once, and no two of
-/// them have one name. Whatever else is noted of its vectors, it is the same text but for the comments.
+/// What is known of a text that was written for a program and its configuration: in every run of its module from a
+/// reset, the results that leave are the first ones of what the configuration makes of the samples that entered, and
+/// all of them after as many clocks in which the module is ready as there are stages. It is ready unless a result
+/// stands at its end and is not taken. There is such a run, whatever its registers and inputs hold. Each of its vectors
+/// is driven once, and no two of them have one name. Whatever else is noted of its vectors, it is the same text but for
+/// the comments.
 pub fn written_law()
     ensures trace { (N P : ℕ) (note : Comments) (name : List ℕ) (program : Program) (c : Shape)
         → (text : List ℕ) → IsRtlText N P note name program c text

@@ -113,7 +113,8 @@ fn close_text(whole: bool) -> &'static str
 
 /// Adds a bit of a vector.
 fn put_pick(text: &mut Vec<u8>, net: Net, place: u8) -> Result<(), AllocError>
-    ensures { OnOk result (text.new.items ≡ text.old.items ++ (net_text net ++ codes "[" ++ decimal place ++ codes "]")) }
+    ensures { OnOk result (text.new.items
+        ≡ text.old.items ++ (net_text net ++ codes "[" ++ decimal place ++ codes "]")) }
 {
     put_net(text, net)?;
     put_counted(text, "[", usize::from(place))?;
@@ -247,7 +248,8 @@ fn put_two(
     other: Factor,
 ) -> Result<(), AllocError>
     ensures { OnOk result (text.new.items ≡ text.old.items
-        ++ between_text whole (sign_text sign) (expr_text false (factor_expr one)) (expr_text false (factor_expr other))) }
+        ++ between_text whole (sign_text sign) (expr_text false (factor_expr one))
+        (expr_text false (factor_expr other))) }
 {
     put(text, open_text(whole))?;
     put_factor(text, false, one)?;
@@ -259,7 +261,8 @@ fn put_two(
 /// Adds the complement of an operator between two factors.
 fn put_not_two(text: &mut Vec<u8>, sign: Sign, one: Factor, other: Factor) -> Result<(), AllocError>
     ensures { OnOk result (text.new.items ≡ text.old.items ++ (codes "~"
-        ++ between_text false (sign_text sign) (expr_text false (factor_expr one)) (expr_text false (factor_expr other)))) }
+        ++ between_text false (sign_text sign) (expr_text false (factor_expr one))
+        (expr_text false (factor_expr other)))) }
 {
     put(text, "~")?;
     put_two(text, false, sign, one, other)
@@ -292,7 +295,8 @@ fn put_choice(text: &mut Vec<u8>, condition: Net, one: Form, other: Form) -> Res
 /// Adds a sum.
 fn put_sum(text: &mut Vec<u8>, one: Atom, two: Atom, three: Atom) -> Result<(), AllocError>
     ensures { OnOk result (text.new.items ≡ text.old.items ++ (codes "(" ++ expr_text false (atom_expr one)
-        ++ codes " + " ++ expr_text false (atom_expr two) ++ codes ")" ++ codes " + " ++ expr_text false (atom_expr three))) }
+        ++ codes " + " ++ expr_text false (atom_expr two) ++ codes ")"
+        ++ codes " + " ++ expr_text false (atom_expr three))) }
 {
     put(text, "(")?;
     put_atom(text, one)?;

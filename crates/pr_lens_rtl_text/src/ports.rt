@@ -4,9 +4,9 @@ ghost use Rattle.std.specs.Prelude.{◌≡◌, ◌+◌, ◌*◌, ◌-◌, ◌^�
 ghost use Rattle.pr_base.specs.Numbers.{slices_of};
 ghost use Rattle.pr_lens_rtl_text.specs.Ports.{bits_text, byte_bits, byte_text, byte_lines, port_text, ports_text, side_line, side_lines, side_words, zipped};
 
-use crate::names::Side;
 use pr_base::slices;
 use pr_lang::Name;
+use pr_lens_rtl_names::Side;
 use pr_lens_text::{put, put_counted};
 use std::alloc::{AllocError, Global};
 

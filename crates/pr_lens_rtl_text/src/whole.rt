@@ -5,11 +5,11 @@ ghost use Rattle.pr_conf.specs.Configuration.{pes_of, shape_of};
 ghost use Rattle.pr_conf.specs.Through.{output_widths};
 ghost use Rattle.pr_lens_rtl.specs.Module.{module_of, stages_registers, stages_wires};
 ghost use Rattle.pr_lens_rtl_text.specs.declared.lines.Way.{Way};
-ghost use Rattle.pr_lens_rtl_text.specs.declared.names.Side.{Side};
+ghost use Rattle.pr_lens_rtl_names.specs.declared.names.Side.{Side};
 ghost use Rattle.pr_lens_rtl_text.specs.Notes.{note_of};
 ghost use Rattle.pr_lens_rtl_text.specs.Printed.{kept_text};
 ghost use Rattle.pr_lens_rtl_text.specs.Ports.{ports_text};
-ghost use Rattle.pr_lens_rtl_text.specs.Names.{port_name};
+ghost use Rattle.pr_lens_rtl_names.specs.Names.{port_name};
 ghost use Rattle.pr_lens_rtl_terms.specs.Terms.{assigns_of};
 ghost use Rattle.pr_lens_rtl_text.specs.Limits.{IsTooLong, most_text_bytes};
 ghost use Rattle.pr_lens_rtl_text.specs.Modules.{comments_of, head_text, ports_by, rtl_text, IsRtlText};
@@ -17,11 +17,11 @@ ghost use Rattle.pr_lens_rtl_text.specs.Modules.{comments_of, head_text, ports_b
 use crate::bytes::see_bytes;
 use crate::faults::NoText;
 use crate::lines::{Way, put_lines};
-use crate::names::{Side, port_bytes, port_names};
 use crate::notes::Notes;
 use crate::ports::{Port, ports_of, put_ports, put_side_lines};
 use pr_conf::{Configuration, Output, Stage};
 use pr_lang::Program;
+use pr_lens_rtl_names::{Side, port_bytes, port_names};
 use pr_lens_rtl_terms::{
     Line, hand_lines, last_stage, marks_of, stage_registers, stage_wires, tap_lines,
 };
@@ -90,7 +90,8 @@ fn put_stages<const N: usize>(
     ensures text { OnOk result (text.new.items
         ≡ text.old.items ++ kept_text (note_of notes.now marks.now) Way.Wire marks.now
         (stages_wires N 0 (map pes_of stages.now))) }
-    ensures refused { IfErr result (IsTooLong (text.old.items ++ kept_text (note_of notes.now marks.now) Way.Wire marks.now
+    ensures refused { IfErr result (IsTooLong (text.old.items
+        ++ kept_text (note_of notes.now marks.now) Way.Wire marks.now
         (stages_wires N 0 (map pes_of stages.now)))) }
 {
     for number in 0..stages.len() {
@@ -130,7 +131,8 @@ fn put_all_wires<const N: usize, const P: usize>(
     ensures text { OnOk result (text.new.items
         ≡ text.old.items ++ kept_text (note_of notes.now marks.now) Way.Wire marks.now
         (module_of N P (shape_of conf.now)).wires) }
-    ensures refused { IfErr result (IsTooLong (text.old.items ++ kept_text (note_of notes.now marks.now) Way.Wire marks.now
+    ensures refused { IfErr result (IsTooLong (text.old.items
+        ++ kept_text (note_of notes.now marks.now) Way.Wire marks.now
         (module_of N P (shape_of conf.now)).wires)) }
 {
     let taps = tap_lines::<N, P>(alloc, conf)?;

@@ -8,8 +8,8 @@ use Rattle.pr_conf.specs.Shape.{Shape}
 use Rattle.pr_conf.specs.Through.{output_widths}
 use Rattle.pr_tool_words.specs.Lawful.{Text}
 use Rattle.pr_tool_modes.specs.Files.{IsText}
-use Rattle.pr_lens_rtl_text.specs.declared.names.Side.{Side}
-use Rattle.pr_lens_rtl_text.specs.Names.{port_name}
+use Rattle.pr_lens_rtl_names.specs.declared.names.Side.{Side}
+use Rattle.pr_lens_rtl_names.specs.Names.{port_name}
 use Rattle.pr_lens_rtl_text.specs.Modules.{ports_by}
 use Rattle.pr_lens_bench.specs.declared.texts.Plan.{Plan}
 use Rattle.pr_lens_bench.specs.declared.trials.NoBench.{NoBench}

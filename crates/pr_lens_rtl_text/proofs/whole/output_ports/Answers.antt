@@ -4,8 +4,8 @@ use Rattle.std.proofs.lemmas.Result.{IfOk-weaker}
 use Rattle.pr_conf.specs.declared.outputs.Output.{Output}
 use Rattle.pr_lang.specs.declared.trees.Item.{Item}
 use Rattle.std.proofs.Common.{List}
-use Rattle.pr_lens_rtl_text.specs.declared.names.Side.{Side}
-use Rattle.pr_lens_rtl_text.specs.Names.{names_in, port_name}
+use Rattle.pr_lens_rtl_names.specs.declared.names.Side.{Side}
+use Rattle.pr_lens_rtl_names.specs.Names.{names_in, port_name}
 use Rattle.pr_lens_rtl_text.specs.Ports.{zipped}
 use Rattle.pr_lens_rtl_text.proofs.PortLemmas.{zipped_few}
 use Rattle.pr_lens_rtl_terms.proofs.TapLemmas.{few_outputs, same_widths}

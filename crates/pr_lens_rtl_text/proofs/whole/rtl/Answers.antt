@@ -2,13 +2,13 @@ use Rattle.std.proofs.Common.{◌<◌, ◌≤◌, ◌++◌, arith, codes, length
 use Rattle.std.proofs.lemmas.List.{length-map}
 use Rattle.std.proofs.lemmas.Result.{err_from_is_err_and}
 use Rattle.pr_conf.specs.Configuration.{pes_of}
-use Rattle.pr_lens_rtl_text.specs.Names.{port_name}
+use Rattle.pr_lens_rtl_names.specs.Names.{port_name}
 use Rattle.pr_conf.specs.Configuration.{shape_of}
 use Rattle.pr_conf.specs.Through.{output_widths}
 use Rattle.pr_lens_rtl.specs.Module.{module_of}
 use Rattle.pr_lens_rtl.specs.Kept.{marks_of}
 use Rattle.pr_lens_rtl_text.specs.declared.lines.Way.{Way}
-use Rattle.pr_lens_rtl_text.specs.declared.names.Side.{Side}
+use Rattle.pr_lens_rtl_names.specs.declared.names.Side.{Side}
 use Rattle.pr_lens_rtl_text.specs.Notes.{note_of}
 use Rattle.pr_lens_rtl_text.specs.Printed.{kept_text}
 use Rattle.pr_lens_rtl_text.specs.Ports.{ports_text, side_lines}

@@ -1,7 +1,7 @@
 use Rattle.std.proofs.Common.{◌-◌, arith}
-use Rattle.pr_lens_rtl_text.proofs.NameLemmas.{stem_empty, stem_found, stem_more}
-use Rattle.pr_lens_rtl_text.proofs.names.stem.Goals as goal
-use Rattle.pr_lens_rtl_text.proofs.names.stem.Goals.{then-loop-end-test+else-name-end-eq95, else-loop-end-test}
+use Rattle.pr_lens_rtl_names.proofs.NameLemmas.{stem_empty, stem_found, stem_more}
+use Rattle.pr_lens_rtl_names.proofs.names.stem.Goals as goal
+use Rattle.pr_lens_rtl_names.proofs.names.stem.Goals.{then-loop-end-test+else-name-end-eq95, else-loop-end-test}
 
 pub loop-end-preserved : goal.loop-end-preserved
 loop-end-preserved c = record {

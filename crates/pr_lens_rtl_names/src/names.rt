@@ -1,7 +1,7 @@
 //! The names of ports.
 
 ghost use Rattle.std.specs.Prelude.{◌≡◌, ◌++◌, IfOk, OnOk, map, option_map, option_to_list};
-ghost use Rattle.pr_lens_rtl_text.specs.Names.{begins, handshake_text, is_word, language_text, name_in, names_in, occurs, port_name, spaced, stem};
+ghost use Rattle.pr_lens_rtl_names.specs.Names.{begins, handshake_text, is_word, language_text, name_in, names_in, occurs, port_name, spaced, stem};
 
 use pr_lang::{Item, Name};
 use std::alloc::{AllocError, Global};

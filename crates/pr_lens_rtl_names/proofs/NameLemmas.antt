@@ -3,9 +3,9 @@ use Rattle.std.proofs.Common.{◌≡◌, ◌++◌, ◌+◌, ◌-◌, ◌||◌, �
 use Rattle.std.proofs.lemmas.Grind.{flat_map-append}
 use Rattle.std.proofs.lemmas.List.{at_drop_more, length-drop, map-append, take_all, take_more}
 use Rattle.pr_lang.specs.declared.trees.Item.{Item}
-use Rattle.pr_lens_rtl_text.specs.declared.names.Side.{Side}
+use Rattle.pr_lens_rtl_names.specs.declared.names.Side.{Side}
 use Rattle.std.proofs.lemmas.Bool.{ne_eqb}
-use Rattle.pr_lens_rtl_text.specs.Names.{begins, name_in, names_in, occurs, port_name, stem, stem_behind}
+use Rattle.pr_lens_rtl_names.specs.Names.{begins, name_in, names_in, occurs, port_name, stem, stem_behind}
 
 -- an underscore at the end changes no stem
 pub stem_less : (xs : List ℕ) → stem (xs ++ 95 ∷ []) ≡ stem xs

@@ -3,8 +3,8 @@ use Rattle.std.proofs.Common.{◌≡◌, ◌++◌, ◌==◌, ◌||◌, ◌&&◌,
 use Rattle.std.proofs.lemmas.Bool.{and_parts, eqb-true}
 use Rattle.std.proofs.lemmas.List.{append_cancel_right}
 use Rattle.std.proofs.lemmas.Slice.Eq.{bytes_eq-Decides}
-use Rattle.pr_lens_rtl_text.specs.Names.{begins, handshake_text, is_handshake, is_reserved, is_word, language_text, occurs, port_name, spaced, stem, stem_behind}
-use Rattle.pr_lens_rtl_text.proofs.NameLemmas.{stem_less}
+use Rattle.pr_lens_rtl_names.specs.Names.{begins, handshake_text, is_handshake, is_reserved, is_word, language_text, occurs, port_name, spaced, stem, stem_behind}
+use Rattle.pr_lens_rtl_names.proofs.NameLemmas.{stem_less}
 
 or_left : (a b : Bool) → a ≡ true → (a || b) ≡ true
 or_left a b h = ap (λ q. q || b) h

@@ -1,6 +1,6 @@
 use Rattle.std.proofs.Common.{◌≡◌, ◌≤◌, length, take}
-use Rattle.pr_lens_rtl_text.specs.Names.{stem}
-use Rattle.pr_lens_rtl_text.proofs.names.stem.Given as goal
+use Rattle.pr_lens_rtl_names.specs.Names.{stem}
+use Rattle.pr_lens_rtl_names.proofs.names.stem.Given as goal
 
 abbrev pub invariant-loop-end : goal.invariant-loop-end
 invariant-loop-end l = record {
