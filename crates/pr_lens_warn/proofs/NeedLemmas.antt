@@ -8,7 +8,7 @@ use Rattle.pr_lang.specs.declared.tokens.Token.{Token}
 use Rattle.pr_lens_source.specs.declared.sources.Span.{Span}
 use Rattle.pr_lens_source.specs.Ranges.{one_where}
 use Rattle.pr_lens_source.specs.Tokens.{kind_of}
-use Rattle.pr_lens_warn.specs.Kinds.{yields}
+use Rattle.pr_lens_tokens.specs.Kinds.{yields}
 use Rattle.pr_lens_warn.specs.Needs.{AreNeeded, AreSettled, AreSound, IsNeeded, IsSettled, IsUnusedBetween, IsUsed, Yields, Serves, Uses, is_assigned, is_marked, unmarked}
 
 -- a mark that is set is one less that is not

@@ -1,4 +1,5 @@
--- Comparisons that are settled, declared widths that cut bits off, and arguments that are read by `signed`, by their tokens.
+-- Comparisons that are settled, declared widths that cut bits off, and arguments that are read by `signed`, by their
+-- tokens.
 use Rattle.std.specs.Prelude.{ℕ, zero, suc, ◌+◌, ◌-◌, ◌&&◌, ◌||◌, ◌≡◌, ◌≢◌, Bool, not, length, unwrap_or, slice_index_or, List, [], ◌∷◌, Option, None, Some, MatchOption, if◌then◌else◌}
 use Rattle.pr_lang.specs.declared.tokens.Token.{Token}
 use Rattle.pr_lang.specs.declared.trees.Program.{Program}
@@ -10,11 +11,12 @@ use Rattle.pr_lens_source.specs.Tokens.{kind_of}
 use Rattle.pr_lens_extents.specs.declared.verdicts.Verdict.{Verdict}
 use Rattle.pr_lens_extents.specs.declared.verdicts.Verdict.TheVariants.{Unseen, Always, Varies, Cut, Negative}
 use Rattle.pr_lens_extents.specs.Programs.{program_verdicts}
+use Rattle.pr_lens_tokens.specs.Kinds.{is_assign, is_colon, is_comparison, is_number}
 use Rattle.pr_lens_warn.specs.declared.remarks.Remark.{Remark}
 use Rattle.pr_lens_warn.specs.declared.remarks.Remark.TheVariants.{Settled, Narrow, Argument}
-use Rattle.pr_lens_warn.specs.Kinds.{is_assign, is_colon, is_comparison, is_number}
 
--- a declared width behind a name that is assigned: that of a parameter, a function or an input stands before other symbols
+-- a declared width behind a name that is assigned: that of a parameter, a function or an input stands before other
+-- symbols
 abbrev pub is_declared : List Token → ℕ → Bool
 is_declared tokens at =
     is_number (kind_of tokens at) && (is_colon (kind_of tokens (at - 1)) && is_assign (kind_of tokens (at + 1)))
@@ -28,7 +30,8 @@ is_call tokens at =
 unfoldable pub is_judged : List Token → ℕ → Bool
 is_judged tokens at = is_comparison (kind_of tokens at) || (is_declared tokens at || is_call tokens at)
 
--- a verdict for each of so many tokens from one on, where the first token among them that has a verdict has the one of this number
+-- a verdict for each of so many tokens from one on, where the first token among them that has a verdict has the one of
+-- this number
 abbrev pub verdicts_from : List Token → List Verdict → ℕ → ℕ → ℕ → List Verdict
 verdicts_from tokens verdicts zero at n = []
 verdicts_from tokens verdicts (suc k) at n =

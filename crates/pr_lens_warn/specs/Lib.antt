@@ -1,4 +1,3 @@
-pub mod Kinds
 pub mod Constants
 pub mod Needs
 pub mod Lines

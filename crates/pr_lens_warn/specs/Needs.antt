@@ -6,7 +6,7 @@ use Rattle.pr_lens_source.specs.Introduced.{is_fn, is_name, is_same_name}
 use Rattle.pr_lens_source.specs.Items.{is_semi}
 use Rattle.pr_lens_source.specs.Spans.{item_of}
 use Rattle.pr_lens_source.specs.Tokens.{kind_of, first_of}
-use Rattle.pr_lens_warn.specs.Kinds.{assigns, yields}
+use Rattle.pr_lens_tokens.specs.Kinds.{assigns, yields}
 
 -- a statement is named by one of its tokens: the word before a result, or a name that is assigned
 abbrev pub is_result : List Token → ℕ → Bool
@@ -27,7 +27,8 @@ unfoldable pub is_use : List ℕ → List Token → List Span → ℕ → ℕ �
 is_use text tokens spans assigned at =
     is_same_name text tokens at assigned && (scope_of tokens spans at == scope_of tokens spans assigned)
 
--- the name that is assigned at a token stands in the statement of another one: behind that one, and before the semicolon
+-- the name that is assigned at a token stands in the statement of another one: behind that one, and before the
+-- semicolon
 pub record Uses (text : List ℕ) (tokens : List Token) (spans : List Span) (statement assigned : ℕ) : Type 0 where
   pub at : ℕ
   pub behind : statement < at

@@ -4,11 +4,11 @@ use Rattle.pr_lang.specs.declared.tokens.Token.{Token}
 use Rattle.pr_lens_source.specs.declared.sources.Span.{Span}
 use Rattle.pr_lens_source.specs.Introduced.{introduced_before, is_name}
 use Rattle.pr_lens_source.specs.Tokens.{kind_of}
+use Rattle.pr_lens_tokens.specs.declared.constants.Named.{Named}
+use Rattle.pr_lens_tokens.specs.Constants.{number_by}
+use Rattle.pr_lens_tokens.specs.Kinds.{goes_on, is_shift}
 use Rattle.pr_lens_warn.specs.declared.remarks.Remark.{Remark}
 use Rattle.pr_lens_warn.specs.declared.remarks.Remark.TheVariants.{Amount}
-use Rattle.pr_lens_warn.specs.declared.constants.Named.{Named}
-use Rattle.pr_lens_warn.specs.Constants.{number_by}
-use Rattle.pr_lens_warn.specs.Kinds.{goes_on, is_shift}
 
 -- a name that a shift has for its amount
 unfoldable pub is_amount : List Token → ℕ → Bool

@@ -2,13 +2,14 @@
 use Rattle.std.specs.Prelude.{ℕ, ◌+◌, ◌-◌, ◌==◌, Bool, true, false, nat_eq, List, Option, None, Some, ◌++◌, codes, decimal, if◌then◌else◌}
 use Rattle.pr_lang.specs.declared.tokens.Token.{Token}
 use Rattle.pr_flat.specs.declared.forms.Form.{Form}
+use Rattle.pr_lens_products.specs.Texts.{cheap_text}
 use Rattle.pr_lens_reach.specs.declared.extents.Extent.{Extent}
 use Rattle.pr_lens_reach.specs.declared.reaches.Reach.{Reach}
 use Rattle.pr_lens_reach.specs.Reaches.{whole}
 use Rattle.pr_lens_source.specs.Tokens.{start_of}
 use Rattle.pr_lens_names.specs.Pieces.{line_of, token_text}
 use Rattle.pr_lens_warn.specs.declared.remarks.Remark.{Remark}
-use Rattle.pr_lens_warn.specs.declared.remarks.Remark.TheVariants.{Negative, Wrapping, Unneeded, Long, Amount, Settled, Narrow, Argument}
+use Rattle.pr_lens_warn.specs.declared.remarks.Remark.TheVariants.{Negative, Wrapping, Unneeded, Long, Amount, Product, Settled, Narrow, Argument}
 use Rattle.pr_lens_warn.specs.declared.remarks.Warning.{Warning}
 
 -- a short word for the kind of a remark, which never changes
@@ -18,6 +19,7 @@ code_of (Wrapping by width left) = codes "wrapping-difference"
 code_of Unneeded = codes "unneeded"
 code_of (Long first last) = codes "long-delay"
 code_of (Amount number) = codes "constant-shift"
+code_of (Product cheap) = codes "cheap-product"
 code_of (Settled answer left right) = codes "constant-comparison"
 code_of (Narrow form reach) = codes "cut-bits"
 code_of (Argument argument number width below function) = codes "signed-constant"
@@ -28,6 +30,7 @@ heading_of (Wrapping by width left) = codes "warning: wrapping-difference\n"
 heading_of Unneeded = codes "warning: unneeded\n"
 heading_of (Long first last) = codes "warning: long-delay\n"
 heading_of (Amount number) = codes "warning: constant-shift\n"
+heading_of (Product cheap) = codes "warning: cheap-product\n"
 heading_of (Settled answer left right) = codes "warning: constant-comparison\n"
 heading_of (Narrow form reach) = codes "warning: cut-bits\n"
 heading_of (Argument argument number width below function) = codes "warning: signed-constant\n"
@@ -144,6 +147,7 @@ remark_text text tokens token (Wrapping by width left) = wrap_text by width left
 remark_text text tokens token Unneeded = unneeded_text text tokens token
 remark_text text tokens token (Long first last) = long_text text tokens token first last
 remark_text text tokens token (Amount number) = amount_text text tokens token number
+remark_text text tokens token (Product cheap) = cheap_text text tokens cheap
 remark_text text tokens token (Settled answer left right) = settled_text answer left right
 remark_text text tokens token (Narrow form reach) = narrow_text form reach
 remark_text text tokens token (Argument argument number width below function) =

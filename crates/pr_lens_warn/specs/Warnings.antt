@@ -3,14 +3,17 @@ use Rattle.std.specs.Prelude.{ℕ, ◌≡◌, ◌+◌, ◌-◌, ◌&&◌, Bool, 
 use Rattle.std.specs.List.{range_with_len}
 use Rattle.pr_lang.specs.declared.tokens.Token.{Token}
 use Rattle.pr_lens_source.specs.declared.sources.Span.{Span}
+use Rattle.pr_lens_products.specs.Factors.{is_product}
+use Rattle.pr_lens_products.specs.Products.{cheap_product}
 use Rattle.pr_lens_extents.specs.declared.verdicts.Verdict.{Verdict}
 use Rattle.pr_lens_extents.specs.declared.verdicts.Verdict.TheVariants.{Unseen}
 use Rattle.pr_lens_waste.specs.declared.lines.Tail.{Tail}
 use Rattle.pr_lens_waste.specs.Lines.{Tails}
+use Rattle.pr_lens_tokens.specs.Constants.{constant_at}
 use Rattle.pr_lens_warn.specs.declared.remarks.Remark.{Remark}
-use Rattle.pr_lens_warn.specs.declared.remarks.Remark.TheVariants.{Unneeded}
+use Rattle.pr_lens_warn.specs.declared.remarks.Remark.TheVariants.{Product, Unneeded}
 use Rattle.pr_lens_warn.specs.declared.remarks.Warning.{Warning}
-use Rattle.pr_lens_warn.specs.Constants.{constant_at, is_difference, is_signed_token, negative_of, wrapping_of}
+use Rattle.pr_lens_warn.specs.Constants.{is_difference, is_signed_token, negative_of, wrapping_of}
 use Rattle.pr_lens_warn.specs.Comparisons.{by_tokens, settled}
 use Rattle.pr_lens_warn.specs.Lines.{long, token_tails}
 use Rattle.pr_lens_warn.specs.Shifts.{amount_remark, is_amount}
@@ -53,6 +56,10 @@ verdict_warning text tokens spans verdicts at =
 abbrev pub amount_warning : List ℕ → List Token → List Span → ℕ → Option Warning
 amount_warning text tokens spans at = option_map (warning at at) (amount_remark text tokens spans at)
 
+-- on the sign of a product
+abbrev pub product_warning : List ℕ → List Token → List Span → ℕ → Option Warning
+product_warning text tokens spans at = option_map (λ cheap. warning at at (Product cheap)) (cheap_product text tokens spans at)
+
 abbrev pub last_warning : List ℕ → List Token → List Span → List Bool → List Verdict → List (Option Tail) → ℕ → Option Warning
 last_warning text tokens spans needed verdicts tails at =
     if is_assigned tokens at then assigned_warning tokens needed tails at else verdict_warning text tokens spans verdicts at
@@ -63,6 +70,7 @@ warning_at text tokens spans needed verdicts tails at =
     if is_signed_token text tokens at then signed_warning text tokens spans at
     else if is_difference tokens at then difference_warning text tokens spans at
     else if is_amount tokens at then amount_warning text tokens spans at
+    else if is_product tokens spans at then product_warning text tokens spans at
     else last_warning text tokens spans needed verdicts tails at
 
 -- in the order of the text

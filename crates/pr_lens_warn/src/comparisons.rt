@@ -6,11 +6,13 @@ ghost use Rattle.pr_lang.specs.Tokens.{tokens_of};
 ghost use Rattle.pr_lens_extents.specs.declared.verdicts.Verdict.TheVariants.{Unseen};
 ghost use Rattle.pr_lens_warn.specs.Comparisons.{AreVerdicts, by_tokens, introduction_of, is_call, is_declared, is_judged, settled};
 
-use crate::kinds::{is_assign, is_colon, is_comparison, is_fn, is_name, is_number, is_open_round};
 use crate::remarks::Remark;
 use pr_lang::Token;
 use pr_lens_extents::{Verdict, verdicts_of};
 use pr_lens_source::{Source, introduced_before};
+use pr_lens_tokens::{
+    is_assign, is_colon, is_comparison, is_fn, is_name, is_number, is_open_round,
+};
 use pr_parse::{ParseFault, parse};
 use std::alloc::{AllocError, Global};
 

@@ -1,13 +1,13 @@
 //! What a careful reader points out in a program that is accepted all the same.
 //!
-//! What is pointed out is decided on the tokens of the text and its names, of comparisons and declared widths by what
-//! `pr_lens_extents` knows of expressions, and of delay lines by what `pr_lens_waste` knows of the instances of names.
+//! What is pointed out is decided on the tokens of the text and its names, of products by what `pr_lens_products`
+//! counts, of comparisons and declared widths by what `pr_lens_extents` knows of expressions, and of delay lines by
+//! what `pr_lens_waste` knows of the instances of names.
 #![tactic(auto)]
 
 mod comparisons;
 mod constants;
 mod findings;
-mod kinds;
 mod lines;
 mod needs;
 mod remarks;

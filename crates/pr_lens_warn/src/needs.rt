@@ -3,12 +3,12 @@
 ghost use Rattle.std.specs.Prelude.{◌≡◌, ◌+◌, ◌<◌, ◌≤◌, ℕ, true, false, length, map, IfOk, IsFalse, IsTrue};
 ghost use Rattle.pr_lens_source.specs.Introduced.{is_same_name};
 ghost use Rattle.pr_lens_source.specs.Ranges.{one_where};
-ghost use Rattle.pr_lens_warn.specs.Kinds.{yields};
+ghost use Rattle.pr_lens_tokens.specs.Kinds.{yields};
 ghost use Rattle.pr_lens_warn.specs.Needs.{AreNeeded, AreSettled, AreSound, IsSettled, IsUnusedBetween, IsUsed, Uses, is_assigned, is_marked, is_use, scope_of, unmarked};
 
-use crate::kinds::{assigns, is_fn, is_name, is_semi, yields};
 use pr_lang::Token;
 use pr_lens_source::Source;
+use pr_lens_tokens::{assigns, is_fn, is_name, is_semi, yields};
 use std::alloc::{AllocError, Global};
 
 /// Whether a name is assigned at this token, or read from a sample.
@@ -158,7 +158,8 @@ fn results(alloc: Global, tokens: &[Token]) -> Result<Vec<bool>, AllocError>
     tokens.iter().map(|token| yields(token.kind)).collect(alloc)
 }
 
-/// Marks of the statements that a result needs: of the words before results, and of the names that are assigned in others.
+/// Marks of the statements that a result needs: of the words before results, and of the names that are assigned in
+/// others.
 pub fn needed(alloc: Global, source: &Source) -> Result<Vec<bool>, AllocError>
     ensures { let source = source.now in IfOk result (λ marks.
         AreNeeded source.text.now source.tokens.now source.spans.now marks.items) }

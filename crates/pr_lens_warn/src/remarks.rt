@@ -1,6 +1,7 @@
 //! Remarks on a program.
 
 use pr_flat::Form;
+use pr_lens_products::CheapProduct;
 use pr_lens_reach::{Extent, Reach};
 
 /// What is pointed out.
@@ -34,6 +35,10 @@ pub enum Remark {
     Amount {
         number: u64,
     },
+    /// Shifts make a product with fewer units.
+    Product {
+        cheap: CheapProduct,
+    },
     /// A comparison gives the same for all values of its sides.
     Settled {
         answer: bool,
@@ -63,6 +68,7 @@ pub enum Remark {
 /// A remark on a few tokens.
 #[derive(Clone, Copy, PartialEq, Eq, Debug)]
 pub struct Warning {
+    /// What is pointed out.
     pub remark: Remark,
     /// The first token to look at.
     pub first: usize,

@@ -6,8 +6,9 @@ ghost use Rattle.pr_lens_warn.specs.Texts.{amount_text, answer_text, argument_te
 use crate::remarks::{Remark, Warning};
 use itoa::Buffer;
 use pr_flat::Form;
-use pr_lens_reach::{Extent, Reach, whole_of};
 use pr_lens_names::put_quoted;
+use pr_lens_products::put_cheap;
+use pr_lens_reach::{Extent, Reach, whole_of};
 use pr_lens_source::Source;
 use pr_lens_text::{line_at, put, put_counted};
 use std::alloc::AllocError;
@@ -22,6 +23,7 @@ pub fn code_of(remark: &Remark) -> &'static [u8]
         Remark::Unneeded => b"unneeded",
         Remark::Long { .. } => b"long-delay",
         Remark::Amount { .. } => b"constant-shift",
+        Remark::Product { .. } => b"cheap-product",
         Remark::Settled { .. } => b"constant-comparison",
         Remark::Narrow { .. } => b"cut-bits",
         Remark::Argument { .. } => b"signed-constant",
@@ -38,6 +40,7 @@ pub fn heading_of(remark: &Remark) -> &'static [u8]
         Remark::Unneeded => b"warning: unneeded\n",
         Remark::Long { .. } => b"warning: long-delay\n",
         Remark::Amount { .. } => b"warning: constant-shift\n",
+        Remark::Product { .. } => b"warning: cheap-product\n",
         Remark::Settled { .. } => b"warning: constant-comparison\n",
         Remark::Narrow { .. } => b"warning: cut-bits\n",
         Remark::Argument { .. } => b"warning: signed-constant\n",
@@ -389,6 +392,7 @@ pub fn put_message(
         Remark::Unneeded => put_unneeded(message, source, warning.first),
         Remark::Long { first, last } => put_long(message, source, warning.first, first, last),
         Remark::Amount { number } => put_amount(message, source, warning.first, number),
+        Remark::Product { cheap } => put_cheap(message, source, &cheap),
         Remark::Settled {
             answer,
             left,

@@ -3,16 +3,18 @@
 ghost use Rattle.std.specs.Prelude.{◌≡◌, ◌<◌, IfOk, filter_map, length};
 ghost use Rattle.std.specs.List.{range_with_len};
 ghost use Rattle.pr_lens_waste.specs.Lines.{lines_in};
-ghost use Rattle.pr_lens_warn.specs.Warnings.{AreWarnings, amount_warning, assigned_warning, difference_warning, last_warning, line_warning, name_warning, signed_warning, verdict_warning, warning_at};
+ghost use Rattle.pr_lens_warn.specs.Warnings.{AreWarnings, amount_warning, assigned_warning, difference_warning, last_warning, line_warning, name_warning, product_warning, signed_warning, verdict_warning, warning_at};
 
 use crate::comparisons::{by_tokens, settled};
-use crate::constants::{constant_at, is_difference, is_signed_token, negative_of, wrapping_of};
+use crate::constants::{is_difference, is_signed_token, negative_of, wrapping_of};
 use crate::lines::token_tails;
 use crate::needs::{is_assigned, needed};
 use crate::remarks::{Remark, Warning};
 use crate::shifts::{amount_remark, is_amount};
 use pr_lens_extents::Verdict;
+use pr_lens_products::{cheap_product, is_product};
 use pr_lens_source::Source;
+use pr_lens_tokens::constant_at;
 use pr_lens_waste::{Lines, Tail};
 use std::alloc::{AllocError, Global};
 
@@ -105,6 +107,20 @@ fn amount_warning(source: &Source, at: usize) -> Option<Warning>
     })
 }
 
+/// The warning at the sign of a product.
+fn product_warning(source: &Source, at: usize) -> Option<Warning>
+    requires { at < length source.now.tokens.now }
+    ensures { let source = source.now in result
+        ≡ product_warning source.text.now source.tokens.now source.spans.now at }
+{
+    let cheap = cheap_product(source, at)?;
+    Some(Warning {
+        remark: Remark::Product { cheap },
+        first: at,
+        last: at,
+    })
+}
+
 /// The warning at a token with a verdict.
 fn verdict_warning(source: &Source, verdicts: &[Verdict], at: usize) -> Option<Warning>
     requires { at < length verdicts.now }
@@ -164,11 +180,14 @@ fn warning_at(
     if is_amount(source, at) {
         return amount_warning(source, at);
     }
+    if is_product(source, at) {
+        return product_warning(source, at);
+    }
     last_warning(source, needed, verdicts, tails, at)
 }
 
-/// The warnings at all tokens, where these marks are those of needed statements, and these verdicts and ends of delay lines
-/// stand by tokens.
+/// The warnings at all tokens, where these marks are those of needed statements, and these verdicts and ends of delay
+/// lines stand by tokens.
 fn warnings_by(
     alloc: Global,
     source: &Source,
@@ -193,11 +212,11 @@ fn warnings_by(
 }
 
 /// What is pointed out in a program, in the order of its text: `signed` of a constant whose highest bit is 1, a
-/// difference of constants that wraps around, a name that no result needs, the last instances of another one, where they
-/// are delays that no output needs, a shift by a stream that is one number, and by their verdicts a comparison that gives
-/// always the same, a declared width that cuts bits off, and a call with such a constant for an argument that is read by
-/// `signed`. The verdicts are those on the comparisons, declared widths and calls of the text, one after the other; the
-/// lines are those of its names.
+/// difference of constants that wraps around, a name that no result needs, the last instances of another one, where
+/// they are delays that no output needs, a shift by a stream that is one number, a product by a constant that shifts
+/// make with fewer units, and by their verdicts a comparison that gives always the same, a declared width that cuts
+/// bits off, and a call with such a constant for an argument that is read by `signed`. The verdicts are those on the
+/// comparisons, declared widths and calls of the text, one after the other; the lines are those of its names.
 pub fn warnings_of(
     alloc: Global,
     source: &Source,

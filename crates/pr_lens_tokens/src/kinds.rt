@@ -3,10 +3,11 @@
 ghost use Rattle.std.specs.Prelude.{◌≡◌};
 ghost use Rattle.pr_lens_source.specs.Introduced.{is_fn, is_name, is_open_round};
 ghost use Rattle.pr_lens_source.specs.Items.{is_semi};
-ghost use Rattle.pr_lens_warn.specs.Kinds.{assigns, begins_behind, begins_sum, binds_closer, goes_on, is_assign, is_close_round, is_colon, is_comparison, is_const, is_let, is_minus, is_number, is_shift, yields};
+ghost use Rattle.pr_lens_tokens.specs.Kinds.{assigns, begins_behind, begins_sum, binds_closer, goes_on, is_assign, is_close_round, is_colon, is_comparison, is_const, is_let, is_minus, is_number, is_shift, yields};
 
 use pr_lang::{Keyword, Kind, Symbol};
 
+/// Whether this token is a name.
 pub fn is_name(kind: Kind) -> bool
     ensures { result ≡ is_name kind }
 {
@@ -20,30 +21,35 @@ pub fn is_fn(kind: Kind) -> bool
     matches!(kind, Kind::Word(Keyword::Fn))
 }
 
+/// Whether this is the word before the name of a constant.
 pub fn is_const(kind: Kind) -> bool
     ensures { result ≡ is_const kind }
 {
     matches!(kind, Kind::Word(Keyword::Const))
 }
 
+/// Whether this is a semicolon.
 pub fn is_semi(kind: Kind) -> bool
     ensures { result ≡ is_semi kind }
 {
     matches!(kind, Kind::Mark(Symbol::Semi))
 }
 
+/// Whether this is a minus.
 pub fn is_minus(kind: Kind) -> bool
     ensures { result ≡ is_minus kind }
 {
     matches!(kind, Kind::Mark(Symbol::Minus))
 }
 
+/// Whether a round bracket opens here.
 pub fn is_open_round(kind: Kind) -> bool
     ensures { result ≡ is_open_round kind }
 {
     matches!(kind, Kind::Mark(Symbol::OpenRound))
 }
 
+/// Whether a round bracket closes here.
 pub fn is_close_round(kind: Kind) -> bool
     ensures { result ≡ is_close_round kind }
 {
@@ -104,12 +110,14 @@ pub fn begins_sum(kind: Kind) -> bool
     }
 }
 
+/// Whether this is the word before the name of a stream that `let` assigns.
 pub fn is_let(kind: Kind) -> bool
     ensures { result ≡ is_let kind }
 {
     matches!(kind, Kind::Word(Keyword::Let))
 }
 
+/// Whether this is the sign of a shift.
 pub fn is_shift(kind: Kind) -> bool
     ensures { result ≡ is_shift kind }
 {
@@ -157,18 +165,21 @@ pub fn binds_closer(kind: Kind) -> bool
     )
 }
 
+/// Whether this token is a number.
 pub fn is_number(kind: Kind) -> bool
     ensures { result ≡ is_number kind }
 {
     matches!(kind, Kind::Number(_))
 }
 
+/// Whether this is a colon.
 pub fn is_colon(kind: Kind) -> bool
     ensures { result ≡ is_colon kind }
 {
     matches!(kind, Kind::Mark(Symbol::Colon))
 }
 
+/// Whether this is the sign between a name and what it is.
 pub fn is_assign(kind: Kind) -> bool
     ensures { result ≡ is_assign kind }
 {

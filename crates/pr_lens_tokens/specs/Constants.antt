@@ -1,0 +1,39 @@
+-- Names that are one number.
+use Rattle.std.specs.Prelude.{ℕ, ◌+◌, ◌-◌, Bool, List, Option, None, Some, if◌then◌else◌}
+use Rattle.pr_lang.specs.declared.tokens.Kind.{Kind}
+use Rattle.pr_lang.specs.declared.tokens.Kind.TheVariants.{Name, Number}
+use Rattle.pr_lang.specs.declared.tokens.Token.{Token}
+use Rattle.pr_lens_source.specs.declared.sources.Span.{Span}
+use Rattle.pr_lens_source.specs.Introduced.{introduced_before}
+use Rattle.pr_lens_source.specs.Items.{is_semi}
+use Rattle.pr_lens_source.specs.Tokens.{kind_of}
+use Rattle.pr_lens_tokens.specs.declared.constants.Named.{Named}
+use Rattle.pr_lens_tokens.specs.Kinds.{is_const, is_let}
+
+-- a number that a semicolon follows
+abbrev pub sole_number : Kind → Kind → Option ℕ
+sole_number (Number number) behind = if is_semi behind then Some number else None
+sole_number _ behind = None
+
+-- a constant or a stream is introduced behind this token
+abbrev pub is_word_of : Named → Kind → Bool
+is_word_of Named.Constant = is_const
+is_word_of Named.Stream = is_let
+
+-- the number that a name is, where it is introduced as one number: `const k = 3;` or `let k = 3;`
+unfoldable pub number_named : Named → List Token → ℕ → Option ℕ
+number_named named tokens name =
+    if is_word_of named (kind_of tokens (name - 1)) then sole_number (kind_of tokens (name + 2)) (kind_of tokens (name + 3)) else None
+
+abbrev pub number_by : Named → List Token → Option ℕ → Option ℕ
+number_by named tokens None = None
+number_by named tokens (Some name) = number_named named tokens name
+
+abbrev pub constant_of : List ℕ → List Token → List Span → ℕ → Kind → Option ℕ
+constant_of text tokens spans at (Number number) = Some number
+constant_of text tokens spans at Name = number_by Named.Constant tokens (introduced_before text tokens spans at)
+constant_of text tokens spans at _ = None
+
+-- the number that a token is, or the constant of its name
+unfoldable pub constant_at : List ℕ → List Token → List Span → ℕ → Option ℕ
+constant_at text tokens spans at = constant_of text tokens spans at (kind_of tokens at)
