@@ -37,11 +37,6 @@ samples_of (Signals samples manner) = Some samples
 samples_of (Whole (Bench samples name seed)) = Some samples
 samples_of task = None
 
--- what is asked for has none
-abbrev pub ReadsNoSamples : Option Asked → Type 0
-ReadsNoSamples None = ⊤
-ReadsNoSamples (Some order) = samples_of order.task ≡ None
-
 -- ---- a name that no stream has
 abbrev pub stream_line : List ℕ → List ℕ
 stream_line name = codes "no stream: " ++ name_text name ++ codes "\n"
