@@ -1,5 +1,5 @@
 -- What is told of an answer to an order, with the name of the file.
-use Rattle.std.specs.Prelude.{◌≡◌, ⊤, ℕ, Bool, List, [], ◌++◌, codes, if◌then◌else◌, Option, Some, None, option_and_then, option_map, IfOk, slice_get}
+use Rattle.std.specs.Prelude.{◌≡◌, ℕ, Bool, List, [], ◌++◌, codes, if◌then◌else◌, Option, Some, None, option_and_then, option_map, IfOk, slice_get}
 use Rattle.pr_base.specs.declared.caps.Cap.{Cap}
 use Rattle.pr_base.specs.declared.fabrics.Fabric.{Fabric}
 use Rattle.pr_tool_answers.specs.declared.answers.Answer.{Answer}
