@@ -8,7 +8,7 @@ use Rattle.pr_lens_tool.specs.declared.outcomes.Outcome.{Outcome}
 use Rattle.pr_lens_tool.specs.declared.outcomes.Outcome.TheVariants.{Plain, Usage}
 use Rattle.pr_lens_tool.specs.Asked.{Asked}
 use Rattle.pr_lens_tool.specs.declared.outcomes.Reply.{Reply}
-use Rattle.pr_lens_tool.specs.Replies.{HasLine, ReadsNoSamples, line_for, samples_of}
+use Rattle.pr_lens_tool.specs.Replies.{HasLine, line_for}
 use Rattle.pr_lens_tool.specs.Orders.{AskForHelp, MayAskForHelp, asked_by}
 use Rattle.pr_lens_tool.specs.Calls.{IsCalled, IsCalledBy, IsFollowed, EndsWith, Helps}
 
@@ -34,10 +34,6 @@ pub has_line : (asked : Option Asked) (order : Asked) (reply : Reply) (outcome :
     → IfOk reply.line (λ line. option_map (λ v. v.items) line ≡ line_for order outcome) → HasLine asked reply
 has_line asked order reply outcome is same line =
     subst (λ (o : Option Asked). HasLine o reply) (sym is) (subst (λ (x : Outcome). IfOk reply.line (λ line. option_map (λ v. v.items) line ≡ line_for order x)) (sym same) line)
-
--- an order without samples
-pub reads_none : (asked : Option Asked) (order : Asked) → asked ≡ Some order → ReadsNoSamples asked → samples_of order.task ≡ None
-reads_none asked order is none = subst (λ (o : Option Asked). ReadsNoSamples o) is none
 
 no_line : (asked : Option Asked) → option_and_then (λ a. line_for a (Plain Answer.Memory)) asked ≡ None
 no_line None = refl

@@ -1,6 +1,7 @@
 mod OrderLemmas
 mod CallLemmas
 mod ProgramLemmas
+mod FaultLemmas
 mod LogLemmas
 mod StreamLemmas
 mod ModuleLemmas

@@ -27,7 +27,7 @@ status_of (NoStream place) = 2
 
 -- no failed read is kept quiet: the outcome is a read fault, or the shelf's count of faults is as it was
 abbrev pub Shows : ℕ → ℕ → Outcome → Type 0
-Shows before now outcome = (outcome ≡ Plain Answer.ReadFault) ⊎ (now ≡ before)
+Shows before now outcome = (outcome ≡ Plain Answer.ReadFault) ⊎ ((outcome ≡ Streamed Answer.ReadFault) ⊎ (now ≡ before))
 
 -- ---- the line that is told beside what is written
 abbrev pub bad_log_line : ℕ → List ℕ

@@ -1,5 +1,5 @@
 -- What is told of an answer to an order, with the name of the file.
-use Rattle.std.specs.Prelude.{◌≡◌, ⊤, ℕ, Bool, List, [], ◌++◌, codes, if◌then◌else◌, Option, Some, None, option_and_then, option_map, IfOk, slice_get}
+use Rattle.std.specs.Prelude.{◌≡◌, ℕ, Bool, List, [], ◌++◌, codes, if◌then◌else◌, Option, Some, None, option_and_then, option_map, IfOk, slice_get}
 use Rattle.pr_base.specs.declared.caps.Cap.{Cap}
 use Rattle.pr_base.specs.declared.fabrics.Fabric.{Fabric}
 use Rattle.pr_tool_answers.specs.declared.answers.Answer.{Answer}
@@ -36,11 +36,6 @@ abbrev pub samples_of : AskedTask → Option (List ℕ)
 samples_of (Signals samples manner) = Some samples
 samples_of (Whole (Bench samples name seed)) = Some samples
 samples_of task = None
-
--- what is asked for has none
-abbrev pub ReadsNoSamples : Option Asked → Type 0
-ReadsNoSamples None = ⊤
-ReadsNoSamples (Some order) = samples_of order.task ≡ None
 
 -- ---- a name that no stream has
 abbrev pub stream_line : List ℕ → List ℕ

@@ -1,6 +1,6 @@
 //! The bench for the module of a program.
 
-ghost use Rattle.std.specs.Prelude.{◌≡◌, ◌≤◌, ◌⊎◌, length, IfOk, IfErr};
+ghost use Rattle.std.specs.Prelude.{◌≡◌, ◌≤◌, ◌⊎◌, length, IfOk, IfErr, OnOk};
 ghost use Rattle.pr_base.specs.Fabrics.{columns, registers};
 ghost use Rattle.pr_conf.specs.Configuration.{shape_of};
 ghost use Rattle.pr_tool_answers.specs.declared.answers.Answer.{Answer};
@@ -9,6 +9,7 @@ ghost use Rattle.pr_lens_bench.specs.Reading.{IsFit};
 ghost use Rattle.pr_lens_bench.specs.Benches.{IsBench, IsUnbenched};
 ghost use Rattle.pr_lens_tool.specs.declared.outcomes.Outcome.TheVariants.{Plain};
 ghost use Rattle.pr_lens_tool.specs.Asked.{target_in};
+ghost use Rattle.pr_lens_tool.specs.Outcomes.{Shows};
 ghost use Rattle.pr_lens_tool.specs.Benches.{IsBenchOf, IsNoBenchOf, IsPlan, IsPlanned, IsUntried};
 
 use crate::compiling::{Compilation, compilation_of};
@@ -106,6 +107,8 @@ fn tried<S: Shelf>(
     ensures refused { IfErr result (λ o. IsUntried
         (IsUnbenched (S.told shelf.old) samples.now trial.now.front.scoped.program trial.now.plan
         (S.faults shelf.old) (S.faults shelf.new)) o) }
+    ensures steady { OnOk result (S.faults shelf.new ≡ S.faults shelf.old) }
+    ensures shown { IfErr result (Shows (S.faults shelf.old) (S.faults shelf.new)) }
     ensures later { S.faults shelf.old ≤ S.faults shelf.new }
     ensures same { S.told shelf.new ≡ S.told shelf.old }
 {
@@ -134,6 +137,8 @@ pub fn bench_of<S: Shelf>(
         IsBenchOf (S.told shelf.old) (target_in target.now) samples.now name.now seed o.text.items) }
     ensures refused { IfErr result (IsNoBenchOf (S.told shelf.old) (target_in target.now) samples.now name.now seed
         (S.faults shelf.old) (S.faults shelf.new)) }
+    ensures steady { OnOk result (S.faults shelf.new ≡ S.faults shelf.old) }
+    ensures shown { IfErr result (Shows (S.faults shelf.old) (S.faults shelf.new)) }
     ensures later { S.faults shelf.old ≤ S.faults shelf.new }
     ensures same { S.told shelf.new ≡ S.told shelf.old }
 {

@@ -1,15 +1,15 @@
 //! The call.
 
-ghost use Rattle.std.specs.Prelude.{◌≡◌, ◌≤◌, None, IfOk, IfErr, OnOk};
+ghost use Rattle.std.specs.Prelude.{◌≡◌, ◌≤◌, IfOk, IfErr, OnOk};
 ghost use Rattle.pr_tool_answers.specs.declared.answers.Answer.{Answer};
 ghost use Rattle.pr_lens_signals.specs.Calls.{call};
 ghost use Rattle.pr_lens_tool.specs.declared.outcomes.Outcome.TheVariants.{Plain};
 ghost use Rattle.pr_tool_modes.specs.Files.{ShowsFault};
-ghost use Rattle.pr_lens_tool.specs.Asked.{Whole, asked_in, product_in, question_in, target_in, task_in};
+ghost use Rattle.pr_lens_tool.specs.Asked.{asked_in, product_in, question_in, target_in};
 ghost use Rattle.pr_lens_tool.specs.Orders.{asked_by};
 ghost use Rattle.pr_lens_tool.specs.Outcomes.{IsWritten, Shows};
 ghost use Rattle.pr_lens_tool.specs.Programs.{IsToldOf, IsUntold};
-ghost use Rattle.pr_lens_tool.specs.Replies.{HasLine, ReadsNoSamples, samples_of};
+ghost use Rattle.pr_lens_tool.specs.Replies.{HasLine};
 ghost use Rattle.pr_lens_tool.specs.Calls.{IsMade, IsUnmade, IsFollowed, IsCalled};
 
 use crate::asking::{OrderFault, read_order};
@@ -92,10 +92,8 @@ fn made<S: Shelf>(
         IsMade (product_in product.entry) (S.told shelf.old) (target_in target.now) o.outcome o.text.items) }
     ensures unmade { IfErr result (IsUnmade (product_in product.entry)
         (S.told shelf.old) (target_in target.now) (S.faults shelf.old) (S.faults shelf.new)) }
-    ensures steady { samples_of (Whole (product_in product.entry)) ≡ None
-        → OnOk result (S.faults shelf.new ≡ S.faults shelf.old) }
-    ensures shown { samples_of (Whole (product_in product.entry)) ≡ None
-        → IfErr result (Shows (S.faults shelf.old) (S.faults shelf.new)) }
+    ensures steady { OnOk result (S.faults shelf.new ≡ S.faults shelf.old) }
+    ensures shown { IfErr result (Shows (S.faults shelf.old) (S.faults shelf.new)) }
     ensures later { S.faults shelf.old ≤ S.faults shelf.new }
     ensures same { S.told shelf.new ≡ S.told shelf.old }
 {
@@ -130,8 +128,7 @@ fn follow<S: Shelf, K: Sink>(alloc: Global, order: &Order, shelf: &mut S, out: &
     ensures followed { IsFollowed (asked_in order.now) (call
         (S.told shelf.old) (S.faults shelf.old) (S.faults shelf.new)
         (K.told out.old) (K.told out.new) (K.faults out.old) (K.faults out.new)) result }
-    ensures shown { samples_of (task_in order.now.task) ≡ None
-        → Shows (S.faults shelf.old) (S.faults shelf.new) result }
+    ensures shown { Shows (S.faults shelf.old) (S.faults shelf.new) result }
     ensures told { S.told shelf.new ≡ S.told shelf.old }
     ensures shelf_later { S.faults shelf.old ≤ S.faults shelf.new }
     ensures out_later { K.faults out.old ≤ K.faults out.new }
@@ -163,9 +160,8 @@ pub fn pipelens<S: Shelf, K: Sink>(
         (K.told out.old) (K.told out.new) (K.faults out.old) (K.faults out.new)) result.outcome }
     // A line that is told in place of an answer's own names the file. It is left out for want of memory alone.
     ensures line { HasLine (asked_by words.now) result }
-    // Where no samples are read, a failed read is not kept quiet: the outcome is a read fault, or the count is as it was.
-    ensures shown { ReadsNoSamples (asked_by words.now)
-        → Shows (S.faults shelf.old) (S.faults shelf.new) result.outcome }
+    // A failed read is not kept quiet: the outcome is a read fault, or the count is as it was.
+    ensures shown { Shows (S.faults shelf.old) (S.faults shelf.new) result.outcome }
     ensures told { S.told shelf.new ≡ S.told shelf.old }
     ensures shelf_later { S.faults shelf.old ≤ S.faults shelf.new }
     ensures out_later { K.faults out.old ≤ K.faults out.new }

@@ -1,9 +1,11 @@
 //! What the streams of a program are on the samples of a file.
 
-ghost use Rattle.std.specs.Prelude.{◌≡◌, ◌≤◌, IfErr, IfOk};
+ghost use Rattle.std.specs.Prelude.{◌≡◌, ◌≤◌, IfErr, IfOk, OnOk};
+ghost use Rattle.pr_tool_modes.specs.Files.{ShowsFault};
 ghost use Rattle.pr_tool_modes.specs.Programs.{IsLoaded, IsNotLoaded};
 ghost use Rattle.pr_lens_signals.specs.Calls.{call};
 ghost use Rattle.pr_lens_signals.specs.Manners.{manner_of};
+ghost use Rattle.pr_lens_tool.specs.Outcomes.{Shows};
 ghost use Rattle.pr_lens_tool.specs.Streams.{TellsStreams};
 
 use crate::outcomes::Outcome;
@@ -22,6 +24,8 @@ fn load<S: Shelf>(alloc: Global, shelf: &mut S, name: &str) -> Result<Front, Ans
     ensures loaded { IfOk result (λ f. IsLoaded (S.told shelf.old) name.now f) }
     ensures refused { IfErr result
         (IsNotLoaded (S.told shelf.old) name.now (S.faults shelf.old) (S.faults shelf.new)) }
+    ensures steady { OnOk result (S.faults shelf.new ≡ S.faults shelf.old) }
+    ensures shown { IfErr result (ShowsFault (S.faults shelf.old) (S.faults shelf.new)) }
     ensures later { S.faults shelf.old ≤ S.faults shelf.new }
     ensures same { S.told shelf.new ≡ S.told shelf.old }
 {
@@ -45,6 +49,7 @@ pub fn of_samples<S: Shelf, K: Sink>(
     ensures told { TellsStreams name.now samples.now (manner_of style.now) (call
         (S.told shelf.old) (S.faults shelf.old) (S.faults shelf.new)
         (K.told out.old) (K.told out.new) (K.faults out.old) (K.faults out.new)) result }
+    ensures shown { Shows (S.faults shelf.old) (S.faults shelf.new) result }
     ensures same { S.told shelf.new ≡ S.told shelf.old }
     ensures later { S.faults shelf.old ≤ S.faults shelf.new }
     ensures out_later { K.faults out.old ≤ K.faults out.new }

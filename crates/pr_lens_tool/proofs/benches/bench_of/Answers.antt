@@ -1,7 +1,9 @@
-use Rattle.std.proofs.lemmas.Result.{IfErr-weaker, IfOk-weaker}
+use Rattle.std.proofs.Common.{◌∙◌}
+use Rattle.std.proofs.lemmas.Result.{IfErr-weaker, IfOk-weaker, on_ok_weaker}
 use Rattle.pr_lens_bench.specs.Benches.{IsBench}
 use Rattle.pr_lens_tool.specs.Asked.{target_in}
 use Rattle.pr_lens_tool.proofs.BenchLemmas.{bench_made, bench_unmade}
+use Rattle.pr_lens_tool.proofs.FaultLemmas.{plain_shown, kept_shown, shown_behind}
 use Rattle.pr_lens_tool.proofs.benches.bench_of.Goals as goal
 
 pub returns-clause-made : goal.returns-clause-made
@@ -17,3 +19,15 @@ returns-clause-refused g c =
     IfErr-weaker c.tried.result _ _ (λ o h.
     bench_unmade told _ (target_in c.args.target.now) c.args.samples.now c.args.name.now c.args.seed c.in-Ok.text.items c.in-Ok-planned_on.trial c.in-Ok.ensures.text c.in-Ok.ensures.short (rw c.deref.ensures.value at c.in-Ok-planned_on.ensures.planned)
     c.read_file.ensures.same _ _ _ o c.read_file.ensures.later h) c.tried.ensures.refused
+
+pub returns-clause-steady : goal.returns-clause-steady
+returns-clause-steady g c = on_ok_weaker c.tried.result (λ same. same ∙ c.in-Ok.ensures.steady) c.tried.ensures.steady
+
+pub returns-clause-shown : goal.returns-clause-shown
+returns-clause-shown g c = IfErr-weaker c.tried.result _ _ (λ o shown. shown_behind _ _ _ o c.in-Ok.ensures.steady shown) c.tried.ensures.shown
+
+pub returns-in-Err-clause-shown : goal.returns-in-Err-clause-shown
+returns-in-Err-clause-shown g c = plain_shown _ _ c.in-Err.answer c.in-Err.ensures.shown
+
+pub returns-in-Err-planned_on-clause-shown : goal.returns-in-Err-planned_on-clause-shown
+returns-in-Err-planned_on-clause-shown g c = kept_shown _ _ _ c.in-Ok.ensures.steady

@@ -1,6 +1,6 @@
 use Rattle.std.proofs.Common.{refl}
 use Rattle.pr_lens_tool.specs.Outcomes.{help_text}
-use Rattle.pr_lens_tool.proofs.CallLemmas.{called_followed, called_help, has_line, reads_none}
+use Rattle.pr_lens_tool.proofs.CallLemmas.{called_followed, called_help, has_line}
 use Rattle.pr_lens_tool.proofs.calling.pipelens.Goals as goal
 
 pub returns-in-Ok-clause-called : goal.returns-in-Ok-clause-called
@@ -16,4 +16,4 @@ returns-in-Err-Help-clause-called g c =
     (rw c.bare.ensures.outcome c.written.ensures.written)
 
 pub returns-in-Ok-clause-shown : goal.returns-in-Ok-clause-shown
-returns-in-Ok-clause-shown g c = λ none. rw c.reply_of.ensures.outcome (c.follow-outcome.ensures.shown (reads_none _ _ c.in-Ok.ensures.order none))
+returns-in-Ok-clause-shown g c = rw c.reply_of.ensures.outcome c.follow-outcome.ensures.shown

@@ -1,5 +1,7 @@
+use Rattle.std.proofs.Common.{◌∙◌}
 use Rattle.pr_lens_signals.specs.Manners.{manner_of}
 use Rattle.pr_lens_tool.proofs.StreamLemmas.{has_foreign, has_streams}
+use Rattle.pr_lens_tool.proofs.FaultLemmas.{streamed_shown, plain_shown, kept_shown}
 use Rattle.pr_lens_tool.proofs.signals.of_samples.Goals as goal
 
 pub returns-in-Ok-signals-clause-told : goal.returns-in-Ok-signals-clause-told
@@ -11,3 +13,12 @@ pub returns-in-Err-signals-clause-told : goal.returns-in-Err-signals-clause-told
 returns-in-Err-signals-clause-told g c =
     has_foreign c.args.name.now (manner_of c.args.style.now) c.in-Ok.front (g.S.Shelf.told c.args.shelf.now) _ _ _ _ _ _ c.in-Err-signals.field-0.place c.in-Ok.ensures.loaded
     c.in-Err-signals.ensures.foreign c.in-Err-signals.ensures.unwritten
+
+pub returns-in-Err-clause-shown : goal.returns-in-Err-clause-shown
+returns-in-Err-clause-shown g c = plain_shown _ _ c.in-Err.answer c.in-Err.ensures.shown
+
+pub returns-in-Ok-signals-clause-shown : goal.returns-in-Ok-signals-clause-shown
+returns-in-Ok-signals-clause-shown g c = streamed_shown _ _ _ c.in-Ok-signals.answer c.in-Ok.ensures.steady c.in-Ok-signals.ensures.fault
+
+pub returns-in-Err-signals-clause-shown : goal.returns-in-Err-signals-clause-shown
+returns-in-Err-signals-clause-shown g c = kept_shown _ _ _ (c.in-Err-signals.ensures.unread ∙ c.in-Ok.ensures.steady)
