@@ -1,0 +1,5 @@
+pub mod Columns
+pub mod Needs
+pub mod Recurrences
+pub mod Smaller
+pub mod Takes
