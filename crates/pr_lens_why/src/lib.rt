@@ -2,6 +2,7 @@
 #![tactic(auto)]
 
 mod codes;
+mod columns;
 mod explaining;
 mod fits;
 mod limits;
