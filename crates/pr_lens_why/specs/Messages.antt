@@ -1,5 +1,5 @@
 -- What is told of a refusal, added to a message.
-use Rattle.std.specs.Prelude.{ℕ, ◌≡◌, ◌⊎◌, ◌<◌, ◌≤◌, Bool, true, false, List, ◌++◌, codes, ⊤}
+use Rattle.std.specs.Prelude.{ℕ, ◌≡◌, ◌⊎◌, ◌<◌, ◌≤◌, Bool, true, false, List, ◌++◌, None, Some, codes, ⊤}
 use Rattle.pr_base.specs.declared.caps.Cap.{Cap}
 use Rattle.pr_base.specs.declared.caps.Cap.TheVariants.{InputBytes, Units}
 use Rattle.pr_conf.specs.Shape.{Shape}
@@ -16,10 +16,13 @@ use Rattle.pr_lens_find.specs.Widths.{IsToldIn}
 use Rattle.pr_lens_fits.specs.declared.groups.Unfit.{Unfit}
 use Rattle.pr_lens_fits.specs.Makers.{HasMaker}
 use Rattle.pr_lens_fits.specs.Unfits.{IsFound, IsNothing}
+use Rattle.pr_lens_needs.specs.declared.needs.Needs.{Needs}
+use Rattle.pr_lens_needs.specs.Needs.{HasNeeds, HasNoParts}
 use Rattle.pr_lens_rules.specs.Rules.{offence_text}
 use Rattle.pr_lens_source.specs.declared.sources.Span.{Span}
 use Rattle.pr_lens_source.specs.Tokens.{first_of, text_before}
-use Rattle.pr_lens_why.specs.Limits.{limit_text, unfit_text}
+use Rattle.pr_lens_needs.specs.Texts.{columns_text}
+use Rattle.pr_lens_why.specs.Limits.{limit_text, registers_text}
 use Rattle.pr_lens_why.specs.Places.{IsLimitToken}
 use Rattle.pr_lens_why.specs.Syntax.{syntax_text}
 use Rattle.pr_lens_why.specs.Widths.{missing_text}
@@ -69,14 +72,22 @@ pub record TellsWidth (text : List ℕ) (tokens : List Token) (spans : List Span
   pub token_is : token ≡ missing.token
   pub message : new ≡ old ++ missing_text missing
 
--- no fit: what is found of the group, the first token of the item that makes its last unit, and what helps
+-- no fit: columns ran out for a group, which is that of a recurrence or not, or registers
+pub data TellsUnfit (N P : ℕ) (narrowed : Bool) (text : List ℕ) (tokens : List Token) (spans : List Span) (unit : ℕ) (found : Unfit) (old new : List ℕ) : Type 0 where
+  Recurrence : N < found.columns → (needs : Needs) → HasNeeds N narrowed text tokens spans found.item unit needs → new ≡ old ++ columns_text found.columns N (Some needs) → TellsUnfit N P narrowed text tokens spans unit found old new
+  Operator : N < found.columns → HasNoParts N narrowed text unit → new ≡ old ++ columns_text found.columns N None → TellsUnfit N P narrowed text tokens spans unit found old new
+  Registers : found.columns ≤ N → new ≡ old ++ registers_text found N P → TellsUnfit N P narrowed text tokens spans unit found old new
+
+-- what is found of the group, the first token of the item that makes its last unit, and what helps
 pub record TellsFit (N P : ℕ) (narrowed : Bool) (text : List ℕ) (tokens : List Token) (spans : List Span) (unit token : ℕ) (old new : List ℕ) : Type 0 where
   pub found : Unfit
   pub is : IsFound N narrowed text unit found
   pub item : IsNothing N narrowed text found ⊎ HasMaker narrowed text tokens spans unit found.item
   pub token_is : token ≡ first_of tokens spans found.item
+  pub told : List ℕ
+  pub unfit : TellsUnfit N P narrowed text tokens spans unit found old told
   pub between : List ℕ
-  pub narrow : TellsNarrow N P narrowed text (old ++ unfit_text found N P) between
+  pub narrow : TellsNarrow N P narrowed text told between
   pub wide : TellsWide N narrowed text between new
 
 -- a limit: what helps

@@ -1,48 +1,11 @@
-//! Programs that do not fit.
+//! Programs for which registers ran out.
 
 ghost use Rattle.std.specs.Prelude.{◌≡◌, ◌++◌, OnOk};
-ghost use Rattle.pr_lens_why.specs.Limits.{beside_text, columns_text, kept_text, later_text, left_text, narrower_text, registers_text, unfit_text, wide_text};
+ghost use Rattle.pr_lens_why.specs.Limits.{beside_text, kept_text, later_text, left_text, registers_text};
 
 use pr_lens_fits::Unfit;
 use pr_lens_text::{put, put_counted};
 use std::alloc::AllocError;
-
-/// Tells what to do where a recurrence needs too many columns.
-#[tactic(auto, unfolding(crate::specs::Limits::narrower_text))]
-fn tell_narrower(message: &mut Vec<u8>) -> Result<(), AllocError>
-    ensures { OnOk result (message.new.items ≡ message.old.items ++ narrower_text) }
-{
-    put(
-        message,
-        ".\nDeclare a smaller width, put together what does not read the recurrence, as in `s@1 + (a + b)`, or, where no bit looks at another, make it two of half the width.\n",
-    )
-}
-
-/// How many columns a stage of the wide fabric has, where one of this fabric has fewer.
-fn wide_text(columns: usize) -> &'static str
-    ensures { result.now ≡ wide_text columns }
-{
-    if columns < 32 {
-        ", and one of the wide fabric 32"
-    } else {
-        ""
-    }
-}
-
-/// Tells that a group has more columns than a stage.
-#[tactic(auto, unfolding(crate::specs::Limits::columns_text))]
-fn tell_columns(message: &mut Vec<u8>, needed: usize, columns: usize) -> Result<(), AllocError>
-    ensures { OnOk result (message.new.items ≡ message.old.items ++ columns_text needed columns) }
-{
-    put_counted(
-        message,
-        "Columns ran out: what the recurrence goes on from is made within one stage, and takes ",
-        needed,
-    )?;
-    put_counted(message, " columns, where a stage has ", columns)?;
-    put(message, wide_text(columns))?;
-    tell_narrower(message)
-}
 
 /// Tells how many bytes are kept, and how many a stage keeps on so many columns, in each so many.
 #[tactic(auto, unfolding(crate::specs::Limits::kept_text))]
@@ -97,34 +60,19 @@ fn tell_later(message: &mut Vec<u8>) -> Result<(), AllocError>
     )
 }
 
-/// Tells that more bytes are kept than there is room for, so many in each of so many columns.
+/// Tells that more bytes are kept than there is room for on so many columns and registers, and what to do.
 #[tactic(auto, unfolding(crate::specs::Limits::registers_text))]
-fn tell_registers(
-    message: &mut Vec<u8>,
-    unfit: &Unfit,
-    columns: usize,
-    each: usize,
-) -> Result<(), AllocError>
-    ensures { OnOk result (message.new.items ≡ message.old.items ++ registers_text unfit.now columns each) }
-{
-    tell_kept(message, unfit.kept, columns, each)?;
-    tell_left(message, each, unfit.columns)?;
-    put(message, beside_text(unfit.columns))?;
-    tell_later(message)
-}
-
-/// Tells what ran out for a group of units on so many columns and registers, and what to do.
-#[tactic(auto, unfolding(crate::specs::Limits::unfit_text))]
-pub fn tell(
+pub fn tell_registers(
     message: &mut Vec<u8>,
     unfit: &Unfit,
     columns: usize,
     registers: usize,
 ) -> Result<(), AllocError>
-    ensures { OnOk result (message.new.items ≡ message.old.items ++ unfit_text unfit.now columns registers) }
+    ensures { OnOk result (message.new.items ≡ message.old.items ++ registers_text unfit.now columns registers) }
 {
-    if unfit.columns > columns {
-        return tell_columns(message, unfit.columns, columns);
-    }
-    tell_registers(message, unfit, columns, registers.saturating_sub(1))
+    let each = registers.saturating_sub(1);
+    tell_kept(message, unfit.kept, columns, each)?;
+    tell_left(message, each, unfit.columns)?;
+    put(message, beside_text(unfit.columns))?;
+    tell_later(message)
 }

@@ -2,15 +2,17 @@
 
 ghost use Rattle.std.specs.Prelude.{◌≡◌, ◌≤◌, ◌++◌, false, length, IfOk, IsFalse, IsTrue, OnOk};
 ghost use Rattle.pr_compile.specs.Refusals.{IsCompileAnswer};
-ghost use Rattle.pr_lens_why.specs.Messages.{HasConfiguration, HasRefusal, Tells, TellsFit, TellsHelp, TellsLimit, TellsNarrow, TellsRule, TellsSyntax, TellsWide, TellsWidth};
+ghost use Rattle.pr_lens_why.specs.Messages.{HasConfiguration, HasRefusal, Tells, TellsFit, TellsHelp, TellsLimit, TellsNarrow, TellsRule, TellsSyntax, TellsUnfit, TellsWide, TellsWidth};
 ghost use Rattle.pr_lens_why.specs.Places.{IsLimitItem, IsLimitToken};
 ghost use Rattle.pr_lens_why.specs.Verdicts.{PointsRight};
 
-use crate::{fits, limits, syntax, widths};
+use crate::fits::tell_registers;
+use crate::{limits, syntax, widths};
 use pr_base::Cap;
 use pr_compile::{CompileFault, compile_counted};
 use pr_lens_find::{equations_item, find_missing, find_offence, turns_item};
-use pr_lens_fits::{find_unfit, input_item, output_item, units_item};
+use pr_lens_fits::{Unfit, find_unfit, input_item, output_item, units_item};
+use pr_lens_needs::{find_needs, tell_columns};
 use pr_lens_source::Source;
 use pr_lens_text::put;
 use pr_parse_lex::first_deep;
@@ -137,6 +139,29 @@ fn limit_token(
     }
 }
 
+/// Tells what ran out for a group that fits in no stripe, and what to do.
+fn tell_unfit<const N: usize, const P: usize>(
+    alloc: Global,
+    message: &mut Vec<u8>,
+    source: &Source,
+    narrowed: bool,
+    unit: u32,
+    unfit: &Unfit,
+) -> Result<(), AllocError>
+    requires short { length source.now.text.now ≤ 1048576 }
+    requires columns { 1 ≤ N }
+    requires most_columns { N ≤ 64 }
+    ensures { let source = source.now in OnOk result
+        (TellsUnfit N P narrowed source.text.now source.tokens.now source.spans.now unit unfit.now
+        message.old.items message.new.items) }
+{
+    if unfit.columns <= N {
+        return tell_registers(message, unfit, N, P);
+    }
+    let needs = find_needs(alloc, source, narrowed, N, unfit.item, unit)?;
+    tell_columns(message, unfit.columns, N, needs)
+}
+
 /// Tells why a group fits in no stripe, and what helps; the token to look at.
 fn tell_fit<const N: usize, const P: usize>(
     alloc: Global,
@@ -155,7 +180,7 @@ fn tell_fit<const N: usize, const P: usize>(
         message.old.items message.new.items) }
 {
     let unfit = find_unfit(alloc, source, narrowed, N, unit)?;
-    fits::tell(message, &unfit, N, P)?;
+    tell_unfit::<N, P>(alloc, message, source, narrowed, unit, &unfit)?;
     tell_narrow::<N, P>(alloc, message, source.text, narrowed)?;
     tell_wide(alloc, message, source.text, narrowed, N)?;
     Ok(source.first(unfit.item))
