@@ -122,6 +122,43 @@ fn cycles_left_out(rt: HostRuntime) -> Result<(), AllocError> {
     check_calls(&rt, rt.alloc(), log.as_str(), LEFT_OUT)
 }
 
+/// A log of 2,200 lines, which is read in two pieces; its last line has no line feed.
+const LONG: &str = "\
+$ pipelens chart p --from 9
+= 0
+...left out: the first 2199 of 2200 cycles</text>
+...
+$ pipelens chart p --to 8
+= 0
+...left out: the last 1800 of 2200 cycles</text>
+...
+$ pipelens wave p --from 9
+= 0
+...$enddefinitions $end
+#21990
+b1001 s0
+1s1
+bz s2
+bz s3
+b0 s4
+b0 s5
+#22000
+...
+$ pipelens wave p --from 10
+= 15
+! no such cycle: the log has cycles 7 to 9
+";
+
+#[test]
+fn long_logs(rt: HostRuntime) -> Result<(), AllocError> {
+    let mut log = String::new(rt.alloc());
+    for _ in 0..2199 {
+        log.push_str("stall 7\n")?;
+    }
+    log.push_str("stall 9")?;
+    check_calls(&rt, rt.alloc(), log.as_str(), LONG)
+}
+
 /// Parts of the log, and of another one. A stalled cycle has the number of the cycle that waits.
 const PARTS: &str = "\
 $ pipelens wave p --from 1 --to 1
