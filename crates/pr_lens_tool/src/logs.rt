@@ -23,24 +23,20 @@ use std::alloc::{AllocError, Global};
 /// The bytes of a log, at most.
 const LOG: u64 = 17_592_186_044_416;
 
-/// How many bytes are read at once.
-const PIECE: usize = 16_384;
-
 /// Reads on in the file of a log, and says how many bytes came; else what the call comes to.
 fn read_more<S: Shelf>(
     reader: &mut Reader,
     shelf: &mut S,
     name: &str,
     place: u64,
-    piece: &mut [u8],
 ) -> Result<usize, Outcome>
     requires read { IsReadTo (S.told shelf.old) name.now place reader.old }
-    requires room { HasRoom reader.old (length piece.old) }
+    requires room { HasRoom reader.old 4096 }
     ensures read { IfOk result (λ count. IsReadTo (S.told shelf.old) name.now (place + count) reader.new) }
-    ensures end { IfOk result (λ count. 0 < length piece.old → count ≡ 0
+    ensures end { IfOk result (λ count. count ≡ 0
         → OfFile (S.told shelf.old) name.now (λ file. length file ≤ place)) }
     ensures there { IfOk result (λ count. IsMissing (S.told shelf.old) name.now → ⊥) }
-    ensures few { IfOk result (λ count. count ≤ length piece.old) }
+    ensures few { IfOk result (λ count. count ≤ 4096) }
     ensures room { IfOk result (λ count. (more : ℕ) → HasRoom reader.old (more + count) → HasRoom reader.new more) }
     ensures refused { IfErr result
         (IsNoLog (S.told shelf.old) name.now (S.faults shelf.old) (S.faults shelf.new)) }
@@ -50,7 +46,8 @@ fn read_more<S: Shelf>(
     ensures later { S.faults shelf.old ≤ S.faults shelf.new }
     ensures same { S.told shelf.new ≡ S.told shelf.old }
 {
-    match shelf.read_at(name, place, piece) {
+    let mut piece = [0u8; 4096];
+    match shelf.read_at(name, place, &mut piece) {
         Err(_) => Err(Outcome::Plain(Answer::ReadFault)),
         Ok(count) => match reader.read(&piece[..count]) {
             Ok(()) => Ok(count),
@@ -73,10 +70,9 @@ fn read_file<S: Shelf>(reader: &mut Reader, shelf: &mut S, name: &str) -> Result
     ensures later { S.faults shelf.old ≤ S.faults shelf.new }
     ensures same { S.told shelf.new ≡ S.told shelf.old }
 {
-    let mut piece = [0u8; PIECE];
     let mut place: u64 = 0;
     while place <= LOG {
-        let count = read_more(reader, shelf, name, place, &mut piece)?;
+        let count = read_more(reader, shelf, name, place)?;
         if count == 0 {
             return Ok(());
         }

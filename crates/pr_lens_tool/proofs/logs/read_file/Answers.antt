@@ -1,4 +1,4 @@
-use Rattle.std.proofs.Common.{◌≡◌, ◌+◌, ◌-◌, ◌^◌, ◌∙◌, ℕ, arith, inr, length, rules, subst, sym}
+use Rattle.std.proofs.Common.{◌≡◌, ◌+◌, ◌-◌, ◌^◌, ◌∙◌, ℕ, arith, inr, subst, sym}
 use Rattle.std.proofs.lemmas.Result.{err_from_is_err_and}
 use Rattle.pr_edge.specs.Files.{IsMissing, Told}
 use Rattle.pr_lens_log.specs.Readers.{HasRead}
@@ -14,8 +14,7 @@ read_more-requires-clause-read g c =
 pub read_more-requires-clause-room : goal.read_more-requires-clause-room
 read_more-requires-clause-room g c =
     let test = c.loop-place-test.true in
-    let size = c.loop-place.invariant.size in
-    room_less c.loop-place.reader (2 ^ 45 - c.loop-place.place) (length c.loop-place.piece) (omega (arith, test, size)) c.loop-place.invariant.room
+    room_less c.loop-place.reader (2 ^ 45 - c.loop-place.place) 4096 (omega (arith, test)) c.loop-place.invariant.room
 
 pub returns-in_err-count-clause-refused : goal.returns-in_err-count-clause-refused
 returns-in_err-count-clause-refused g c =
@@ -36,10 +35,9 @@ returns-then-count-eq0-clause-read g c =
     let reader = c.read_more.new.reader in
     let none = c.if-count-eq0.true in
     let test = c.loop-place-test.true in
-    let size = c.loop-place.invariant.size in
     let here : place + c.in_ok-count.count ≡ place = omega (arith, none) in
     let read = subst (λ (n : ℕ). IsReadTo (g.S.Shelf.told c.loop-place.shelf) name n reader) here c.in_ok-count.ensures.read in
-    let end = c.in_ok-count.ensures.end (omega (arith, size)) none in
+    let end = c.in_ok-count.ensures.end none in
     subst (λ (t : Told). HasShortText t name (λ text. HasRead text reader)) c.loop-place.invariant.same
     (read_whole (g.S.Shelf.told c.loop-place.shelf) name place reader read (omega (arith, test)) c.in_ok-count.ensures.there end)
 
@@ -58,13 +56,11 @@ loop-place-preserved g c =
     let before = c.loop-place.invariant in
     let test = c.loop-place-test.true in
     let few = c.in_ok-count.ensures.few in
-    let size = before.size in
     record {
       read = subst (λ (t : Told). IsReadTo t name (place + count) reader) before.same c.in_ok-count.ensures.read;
-      room = c.in_ok-count.ensures.room (2 ^ 45 - (place + count)) (room_less c.loop-place.reader (2 ^ 45 - place) (2 ^ 45 - (place + count) + count) (omega (arith, test, few, size)) before.room);
-      near = omega (arith, test, few, size);
+      room = c.in_ok-count.ensures.room (2 ^ 45 - (place + count)) (room_less c.loop-place.reader (2 ^ 45 - place) (2 ^ 45 - (place + count) + count) (omega (arith, test, few)) before.room);
+      near = omega (arith, test, few);
       there = λ some. subst (λ (t : Told). IsMissing t name → ⊥) before.same c.in_ok-count.ensures.there;
-      size = search rules;
       choice = c.in_ok-count.ensures.choice ∙ before.choice;
       steady = c.in_ok-count.ensures.steady ∙ before.steady;
       same = c.read_more.ensures.same ∙ before.same;
@@ -82,8 +78,7 @@ pub overflow_add-place : goal.overflow_add-place
 overflow_add-place g c =
     let test = c.loop-place-test.true in
     let few = c.in_ok-count.ensures.few in
-    let size = c.loop-place.invariant.size in
-    omega (arith, test, few, size)
+    omega (arith, test, few)
 
 pub loop-place-smaller : goal.loop-place-smaller
 loop-place-smaller g c =
