@@ -2,7 +2,7 @@
 use Rattle.std.proofs.Common.{◌≡◌, ◌≢◌, ◌⊎◌, ◌+◌, ◌-◌, ◌<◌, ◌≤◌, ◌++◌, ◌∷◌, ◌∙◌, [], ℕ, max, List, Option, Some, None, length, take, drop, get_or, inl, inr, refl, sym, ap, subst, arith, append_assoc, length-append, length-drop}
 use Rattle.std.specs.Prelude.{slice_range, IfErr, OnOk, Result, Ok, Err, Vec}
 use Rattle.std.specs.declared.alloc.Global.{Global}
-use Rattle.std.proofs.lemmas.Bool.{cases_lt}
+use Rattle.std.proofs.lemmas.Bool.{cases_eq, cases_lt}
 use Rattle.std.proofs.Math.Seq.{take-add}
 use Rattle.std.proofs.lemmas.List.{append-nil, drop-append-le, drop_all, get_or-append_right, get_or-drop, get_or-take, get_or_append_left, length-take-le, nil_from_length, take-append-drop, take_rest}
 use Rattle.pr_lens_text.specs.Places.{HasNoEnd, IsEndBefore}
@@ -19,7 +19,7 @@ use Rattle.pr_lens_log.specs.Excerpts.{AreTotals, IsExcerpt, first_in, most, str
 use Rattle.pr_lens_log.specs.Pasts.{IsPast}
 use Rattle.pr_lens_log.specs.Windows.{part_in}
 use Rattle.pr_lens_log.specs.Lines.{IsCycleLine, IsEndLine, IsResultLine}
-use Rattle.pr_lens_log.specs.Logs.{AreDrawn, HasTale, IsBadAt, IsKept, IsLineFault, IsLineOf, IsLogAnswer, IsLogOf, IsTaken, IsTaleOf, IsUnlawful, TakesLine, Tale, TellsNoCycle, TellsTo, adds, counts, keeps, nothing, one_more, with_cycle}
+use Rattle.pr_lens_log.specs.Logs.{AreDrawn, HasTale, IsBadAt, IsKept, IsLineFault, IsLineOf, IsLogAnswer, IsLogOf, IsTaken, IsTaleOf, IsUnlawful, TakesLine, Tale, TellsNoCycle, TellsTo, adds, counts, keeps, most_line_bytes, nothing, one_more, with_cycle}
 use Rattle.pr_lens_log.specs.Readers.{HasRead, HasReadAll, HasRoom, HasTaken, IsAtLine}
 use Rattle.pr_lens_log.proofs.ExcerptLaws.{most_more, past_cut, slice_same}
 use Rattle.pr_lens_log.proofs.LineLaws.{end_is_other, result_is_other}
@@ -42,7 +42,7 @@ module _ (text more : List ℕ) where
   -- a line that ends within the text has a line feed
   feed_before : (lines to : ℕ) (tale : Tale) → TellsTo text lines to tale → to < length text → IsEndBefore text to
   feed_before lines to tale nothing less = inl refl
-  feed_before lines to tale (one_more before line takes) less = elim line.ends [ inl end ↦ absurd (omega (arith, end, less)) | inr feed ↦ inr feed ]
+  feed_before lines to tale (one_more before line short takes) less = elim line.ends [ inl end ↦ absurd (omega (arith, end, less)) | inr feed ↦ inr feed ]
 
   line_more : (from to : ℕ) → IsLineOf text from to → get_or text (to - 1) 0 ≡ 10 → IsLineOf (text ++ more) from to
   line_more from to line feed = record {
@@ -55,11 +55,11 @@ module _ (text more : List ℕ) where
   -- its first lines tell the same
   pub tells_more : (lines to : ℕ) (tale : Tale) → TellsTo text lines to tale → IsEndBefore text to → TellsTo (text ++ more) lines to tale
   tells_more lines to tale nothing begins = nothing
-  tells_more lines to tale (one_more {lines = l} {from = f} {to = t} {before = b} {after = a} before line takes) begins =
+  tells_more lines to tale (one_more {lines = l} {from = f} {to = t} {before = b} {after = a} before line short takes) begins =
       let some = line.some in
       let within = line.within in
       let feed : get_or text (t - 1) 0 ≡ 10 = elim begins [ inl zero ↦ absurd (omega (arith, zero, some)) | inr ten ↦ ten ] in
-      one_more (tells_more l f b before (feed_before l f b before (omega (arith, some, within)))) (line_more f t line feed)
+      one_more (tells_more l f b before (feed_before l f b before (omega (arith, some, within)))) (line_more f t line feed) short
       (subst (λ (s : List ℕ). TakesLine s b a) (sym (slice_same text more f t within)) takes)
 
 -- ---- the stripes that are drawn
@@ -77,7 +77,7 @@ few_taken line before after (keeps is other) few = few
 
 pub few_told : (text : List ℕ) (lines to : ℕ) (tale : Tale) → TellsTo text lines to tale → most stripes_to tale.cycles ≤ 256
 few_told text lines to tale nothing = omega arith
-few_told text lines to tale (one_more {lines = l} {from = f} {before = b} {after = a} before line takes) = few_taken (slice_range text f to) b a takes (few_told text l f b before)
+few_told text lines to tale (one_more {lines = l} {from = f} {before = b} {after = a} before line short takes) = few_taken (slice_range text f to) b a takes (few_told text l f b before)
 
 -- ---- a line more
 module _ (choice : Choice) (line : List ℕ) (tale : Tale) (log : Log) where
@@ -119,7 +119,7 @@ module _ (text : List ℕ) (from to : ℕ) (r : Reader) (at : IsAtLine text from
   pub line_taken : (log : Log) → IsTaken r.choice r.pending.items at.taken.tale log → HasTaken r.choice text (r.lines + 1) to log
   line_taken log taken = record {
     tale = taken.after;
-    tells = one_more at.taken.tells at.line (subst (λ (s : List ℕ). TakesLine s at.taken.tale taken.after) at.pending taken.takes);
+    tells = one_more at.taken.tells at.line at.short (subst (λ (s : List ℕ). TakesLine s at.taken.tale taken.after) at.pending taken.takes);
     has = taken.has;
   }
 
@@ -132,7 +132,7 @@ module _ (text : List ℕ) (from to : ℕ) (r : Reader) (at : IsAtLine text from
     told = at.taken.tale;
     tells = at.taken.tells;
     here = at.line;
-    wrong = subst (λ (s : List ℕ). IsUnlawful s) at.pending wrong;
+    wrong = inr (subst (λ (s : List ℕ). IsUnlawful s) at.pending wrong);
     number = refl;
   }
 
@@ -142,9 +142,61 @@ line_answer text NoCycle h = absurd h
 line_answer text (BadLine line) h = h
 line_answer text (Memory e) h = h
 
+-- ---- a line that goes on
+-- it ends in this text, with at least so many bytes before its end
+record EndsPast (text : List ℕ) (from least : ℕ) : Type 0 where
+  pub to : ℕ
+  pub line : IsLineOf text from to
+  pub far : least ≤ to
+
+-- it ends with this line feed
+ends_here : (front more : List ℕ) (from : ℕ) → from < length front → HasNoEnd front from (length front - 1) → get_or front (length front - 1) 0 ≡ 10 → EndsPast (front ++ more) from (length front)
+ends_here front more from some free feed = record {
+  to = length front;
+  line = record {
+    some = some;
+    within = omega (arith, length-append front more);
+    none = λ k low high is. free k low high (sym (get_or_append_left front more 0 k (omega (arith, high))) ∙ is);
+    ends = inr (get_or_append_left front more 0 (length front - 1) (omega (arith, some)) ∙ feed);
+  };
+  far = omega arith;
+}
+
+-- it goes on to the next line feed, or to the end
+goes_on : (more front : List ℕ) (from : ℕ) → from < length front → HasNoEnd front from (length front) → EndsPast (front ++ more) from (length front)
+goes_on [] front from some free = subst (λ (t : List ℕ). EndsPast t from (length front)) (sym (append-nil front)) (record {
+  to = length front;
+  line = record { some = some; within = omega arith; none = λ k low high is. free k low (omega (arith, high)) is; ends = inl refl };
+  far = omega arith;
+})
+goes_on (x ∷ xs) front from some free =
+    let one : List ℕ = front ++ x ∷ [] in
+    let size : length one ≡ length front + 1 = length-append front (x ∷ []) in
+    let none : length front - length front ≡ 0 = omega arith in
+    let place : length one - 1 ≡ length front = omega (arith, size) in
+    let last : get_or one (length front) 0 ≡ x = get_or-append_right front (x ∷ []) (length front) (length front) 0 refl (omega arith) ∙ ap (λ n. get_or (x ∷ []) n 0) none in
+    let inside : from < length one = omega (arith, some, size) in
+    let before : (k : ℕ) → from ≤ k → k < length front → get_or one k 0 ≢ 10 = λ k low high is. free k low high (sym (get_or_append_left front (x ∷ []) 0 k high) ∙ is) in
+    let e : EndsPast (one ++ xs) from (length one) = elim (cases_eq x 10) [
+      | inl feed ↦ ends_here one xs from inside (λ k low high. before k low (omega (arith, high, size))) (ap (λ n. get_or one n 0) place ∙ (last ∙ feed))
+      | inr other ↦ goes_on xs one from inside (λ k low high is. elim (cases_lt k (length front)) [
+        | inl less ↦ before k low less is
+        | inr most ↦ (let here : k ≡ length front = omega (arith, most, high, size) in other (sym last ∙ (ap (λ n. get_or one n 0) (sym here) ∙ is)))
+      ])
+    ] in
+    subst (λ (t : List ℕ). EndsPast t from (length front)) (append_assoc front (x ∷ []) xs) (record { to = e.to; line = e.line; far = omega (arith, e.far, size) })
+
+line_end : (more front : List ℕ) (from : ℕ) → from < length front → HasNoEnd front from (length front - 1) → EndsPast (front ++ more) from (length front)
+line_end more front from some free = elim (cases_eq (get_or front (length front - 1) 0) 10) [
+  | inl feed ↦ ends_here front more from some free feed
+  | inr last ↦ goes_on more front from some (λ k low high is. elim (cases_lt k (length front - 1)) [
+    | inl less ↦ free k low less is
+    | inr most ↦ (let place : k ≡ length front - 1 = omega (arith, most, high) in last (ap (λ n. get_or front n 0) (sym place) ∙ is))
+  ])
+]
+
 -- ---- bytes of a line more
-module _ (text bytes : List ℕ) (old mid : Reader) (h : HasRead text old) (some : 0 < length bytes) (none : HasNoEnd bytes 0 (length bytes - 1))
-    (choice : mid.choice ≡ old.choice) (lines : mid.lines ≡ old.lines) (log : mid.log ≡ old.log) (pending : mid.pending.items ≡ old.pending.items ++ bytes) where
+module _ (text bytes : List ℕ) (old : Reader) (h : HasRead text old) (some : 0 < length bytes) (none : HasNoEnd bytes 0 (length bytes - 1)) where
   abbrev whole : List ℕ
   whole = text ++ bytes
 
@@ -165,17 +217,8 @@ module _ (text bytes : List ℕ) (old mid : Reader) (h : HasRead text old) (some
       let place : length whole - 1 - length text ≡ length bytes - 1 = omega (arith, size, some) in
       get_or-append_right text bytes (length text) (length whole - 1) 0 refl (omega (arith, size, some)) ∙ ap (λ n. get_or bytes n 0) place
 
-  whole_pending : mid.pending.items ≡ drop h.from whole
-  whole_pending = pending ∙ (ap (λ (s : List ℕ). s ++ bytes) h.pending ∙ sym (drop-append-le h.from text bytes h.within))
-
-  whole_taken : (more : List ℕ) → HasTaken mid.choice (whole ++ more) mid.lines h.from mid.log
-  whole_taken more =
-      let far = tells_more text (bytes ++ more) old.lines h.from h.taken.tale h.taken.tells h.begins in
-      record {
-        tale = h.taken.tale;
-        tells = subst (λ (n : ℕ). TellsTo (whole ++ more) n h.from h.taken.tale) (sym lines) (subst (λ (t : List ℕ). TellsTo t old.lines h.from h.taken.tale) (sym (append_assoc text bytes more)) far);
-        has = subst (λ (l : Log). HasTale mid.choice 256 h.taken.tale l) (sym log) (subst (λ (c : Choice). HasTale c 256 h.taken.tale old.log) (sym choice) h.taken.has);
-      }
+  whole_tells : (more : List ℕ) → TellsTo (whole ++ more) old.lines h.from h.taken.tale
+  whole_tells more = subst (λ (t : List ℕ). TellsTo t old.lines h.from h.taken.tale) (sym (append_assoc text bytes more)) (tells_more text (bytes ++ more) old.lines h.from h.taken.tale h.taken.tells h.begins)
 
   whole_begins : IsEndBefore whole h.from
   whole_begins = elim (cases_lt 0 h.from) [
@@ -186,47 +229,83 @@ module _ (text bytes : List ℕ) (old mid : Reader) (h : HasRead text old) (some
     | inr least ↦ inl (omega arith)
   ]
 
-  -- they have no line feed
-  pub put_open : get_or bytes (length bytes - 1) 0 ≢ 10 → HasRead whole mid
-  put_open last = record {
-    from = h.from;
-    within = omega (arith, h.within, size);
-    begins = whole_begins;
-    taken = subst (λ (t : List ℕ). HasTaken mid.choice t mid.lines h.from mid.log) (append-nil whole) (whole_taken []);
-    pending = whole_pending;
-    none = λ k low high is. elim (cases_lt k (length whole - 1)) [
-      | inl less ↦ whole_none k low less is
-      | inr most ↦ (let place : k ≡ length whole - 1 = omega (arith, most, high) in last (sym last_is ∙ (ap (λ n. get_or whole n 0) (sym place) ∙ is)))
-    ];
-  }
+  pending_size : length old.pending.items ≡ length text - h.from
+  pending_size = ap length h.pending ∙ length-drop h.from text
 
-  -- they end with one, whatever follows
-  pub put_line : (more : List ℕ) → get_or bytes (length bytes - 1) 0 ≡ 10 → IsAtLine (whole ++ more) h.from (length whole) mid
-  put_line more feed =
-      let inside : h.from < length whole = omega (arith, h.within, size, some) in
+  -- with them the line has too many bytes, wherever it ends
+  pub put_long : (more : List ℕ) → most_line_bytes < length old.pending.items + length bytes → IsBadAt (whole ++ more) (old.lines + 1)
+  put_long more long =
+      let e = line_end more whole h.from (omega (arith, h.within, size, some)) whole_none in
       record {
-        taken = whole_taken more;
-        line = record {
-          some = inside;
-          within = omega (arith, length-append whole more);
-          none = λ k low high is. whole_none k low high (sym (get_or_append_left whole more 0 k (omega (arith, high))) ∙ is);
-          ends = inr (get_or_append_left whole more 0 (length whole - 1) (omega (arith, inside)) ∙ (last_is ∙ feed));
-        };
-        pending = whole_pending ∙ (sym (take_rest whole h.from) ∙ sym (slice_same whole more h.from (length whole) (omega arith)));
+        before = old.lines;
+        from = h.from;
+        to = e.to;
+        told = h.taken.tale;
+        tells = whole_tells more;
+        here = e.line;
+        wrong = inl (omega (arith, long, pending_size, size, e.far, h.within));
+        number = refl;
       }
 
-  pub put_last : get_or bytes (length bytes - 1) 0 ≡ 10 → IsAtLine whole h.from (length whole) mid
-  put_last feed = subst (λ (t : List ℕ). IsAtLine t h.from (length whole) mid) (append-nil whole) (put_line [] feed)
+  module _ (mid : Reader) (choice : mid.choice ≡ old.choice) (lines : mid.lines ≡ old.lines) (log : mid.log ≡ old.log) (pending : mid.pending.items ≡ old.pending.items ++ bytes)
+      (fits : length old.pending.items + length bytes ≤ most_line_bytes) where
+    whole_pending : mid.pending.items ≡ drop h.from whole
+    whole_pending = pending ∙ (ap (λ (s : List ℕ). s ++ bytes) h.pending ∙ sym (drop-append-le h.from text bytes h.within))
 
-  pub put_done : (new : Reader) → get_or bytes (length bytes - 1) 0 ≡ 10 → HasTaken new.choice whole new.lines (length whole) new.log → new.pending.items ≡ [] → HasRead whole new
-  put_done new feed taken empty = record {
-    from = length whole;
-    within = omega arith;
-    begins = inr (last_is ∙ feed);
-    taken = taken;
-    pending = empty ∙ sym (drop_all (length whole) whole (omega arith));
-    none = λ k low high is. absurd (omega (arith, low, high));
-  }
+    whole_short : length whole ≤ h.from + most_line_bytes
+    whole_short = omega (arith, fits, pending_size, size, h.within)
+
+    whole_taken : (more : List ℕ) → HasTaken mid.choice (whole ++ more) mid.lines h.from mid.log
+    whole_taken more = record {
+      tale = h.taken.tale;
+      tells = subst (λ (n : ℕ). TellsTo (whole ++ more) n h.from h.taken.tale) (sym lines) (whole_tells more);
+      has = subst (λ (l : Log). HasTale mid.choice 256 h.taken.tale l) (sym log) (subst (λ (c : Choice). HasTale c 256 h.taken.tale old.log) (sym choice) h.taken.has);
+    }
+
+    -- they have no line feed
+    pub put_open : get_or bytes (length bytes - 1) 0 ≢ 10 → HasRead whole mid
+    put_open last = record {
+      from = h.from;
+      within = omega (arith, h.within, size);
+      begins = whole_begins;
+      taken = subst (λ (t : List ℕ). HasTaken mid.choice t mid.lines h.from mid.log) (append-nil whole) (whole_taken []);
+      short = whole_short;
+      pending = whole_pending;
+      none = λ k low high is. elim (cases_lt k (length whole - 1)) [
+        | inl less ↦ whole_none k low less is
+        | inr most ↦ (let place : k ≡ length whole - 1 = omega (arith, most, high) in last (sym last_is ∙ (ap (λ n. get_or whole n 0) (sym place) ∙ is)))
+      ];
+    }
+
+    -- they end with one, whatever follows
+    pub put_line : (more : List ℕ) → get_or bytes (length bytes - 1) 0 ≡ 10 → IsAtLine (whole ++ more) h.from (length whole) mid
+    put_line more feed =
+        let inside : h.from < length whole = omega (arith, h.within, size, some) in
+        record {
+          taken = whole_taken more;
+          line = record {
+            some = inside;
+            within = omega (arith, length-append whole more);
+            none = λ k low high is. whole_none k low high (sym (get_or_append_left whole more 0 k (omega (arith, high))) ∙ is);
+            ends = inr (get_or_append_left whole more 0 (length whole - 1) (omega (arith, inside)) ∙ (last_is ∙ feed));
+          };
+          short = whole_short;
+          pending = whole_pending ∙ (sym (take_rest whole h.from) ∙ sym (slice_same whole more h.from (length whole) (omega arith)));
+        }
+
+    pub put_last : get_or bytes (length bytes - 1) 0 ≡ 10 → IsAtLine whole h.from (length whole) mid
+    put_last feed = subst (λ (t : List ℕ). IsAtLine t h.from (length whole) mid) (append-nil whole) (put_line [] feed)
+
+    pub put_done : (new : Reader) → get_or bytes (length bytes - 1) 0 ≡ 10 → HasTaken new.choice whole new.lines (length whole) new.log → new.pending.items ≡ [] → HasRead whole new
+    put_done new feed taken empty = record {
+      from = length whole;
+      within = omega arith;
+      begins = inr (last_is ∙ feed);
+      taken = taken;
+      short = omega arith;
+      pending = empty ∙ sym (drop_all (length whole) whole (omega arith));
+      none = λ k low high is. absurd (omega (arith, low, high));
+    }
 
 -- ---- the end of a text
 module _ (text : List ℕ) (r : Reader) (h : HasRead text r) where
@@ -244,6 +323,7 @@ module _ (text : List ℕ) (r : Reader) (h : HasRead text r) where
       none = λ k low high is. h.none k low (omega (arith, high)) is;
       ends = inl refl;
     };
+    short = h.short;
     pending = h.pending ∙ sym (take_rest text h.from);
   }
 

@@ -52,6 +52,14 @@ pub record IsLineOf (text : List ℕ) (from to : ℕ) : Type 0 where
   pub none : HasNoEnd text from (to - 1)
   pub ends : (to ≡ length text) ⊎ (slice_index text (to - 1) ≡ 10)
 
+-- the bytes of a line, at most
+abbrev pub most_line_bytes : ℕ
+most_line_bytes = 65536
+
+-- a line has too many bytes, or is no line of a log that is drawn
+abbrev pub IsWrong : List ℕ → ℕ → ℕ → Type 0
+IsWrong text from to = (from + most_line_bytes < to) ⊎ IsUnlawful (slice_range text from to)
+
 abbrev pub nothing_told : Tale
 nothing_told = record { cycles = []; written = []; results = 0 }
 
@@ -59,7 +67,7 @@ nothing_told = record { cycles = []; written = []; results = 0 }
 pub data TellsTo : List ℕ → ℕ → ℕ → Tale → Type 0 where
   nothing : {text : List ℕ} → TellsTo text 0 0 nothing_told
   one_more : {text : List ℕ} {lines from to : ℕ} {before after : Tale} → TellsTo text lines from before → IsLineOf text from to
-      → TakesLine (slice_range text from to) before after → TellsTo text (lines + 1) to after
+      → to ≤ from + most_line_bytes → TakesLine (slice_range text from to) before after → TellsTo text (lines + 1) to after
 
 -- ---- whole texts
 -- the lines of a text tell this, a cycle among them
@@ -76,7 +84,7 @@ pub record IsBadAt (text : List ℕ) (line : ℕ) : Type 0 where
   pub told : Tale
   pub tells : TellsTo text before from told
   pub here : IsLineOf text from to
-  pub wrong : IsUnlawful (slice_range text from to)
+  pub wrong : IsWrong text from to
   pub number : line ≡ before + 1
 
 -- all lines are those of a log, and none is that of a cycle

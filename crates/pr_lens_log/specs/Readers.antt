@@ -4,7 +4,7 @@ use Rattle.pr_lens_text.specs.Places.{HasNoEnd, IsEndBefore}
 use Rattle.pr_lens_log.specs.declared.excerpts.Choice.{Choice}
 use Rattle.pr_lens_log.specs.declared.logs.Log.{Log}
 use Rattle.pr_lens_log.specs.declared.readers.Reader.{Reader}
-use Rattle.pr_lens_log.specs.Logs.{HasTale, IsLineOf, Tale, TellsTo}
+use Rattle.pr_lens_log.specs.Logs.{HasTale, IsLineOf, Tale, TellsTo, most_line_bytes}
 
 abbrev pub choice_of : Reader → Choice
 choice_of r = r.choice
@@ -24,6 +24,7 @@ pub record HasTaken (choice : Choice) (text : List ℕ) (lines to : ℕ) (log : 
 pub record IsAtLine (text : List ℕ) (from to : ℕ) (r : Reader) : Type 0 where
   pub taken : HasTaken r.choice text r.lines from r.log
   pub line : IsLineOf text from to
+  pub short : to ≤ from + most_line_bytes
   pub pending : r.pending.items ≡ slice_range text from to
 
 -- the whole lines of a text came into the log of a reader, and what stands behind the last line feed is pending
@@ -32,6 +33,7 @@ pub record HasRead (text : List ℕ) (r : Reader) : Type 0 where
   pub within : from ≤ length text
   pub begins : IsEndBefore text from
   pub taken : HasTaken r.choice text r.lines from r.log
+  pub short : length text ≤ from + most_line_bytes
   pub pending : r.pending.items ≡ drop from text
   pub none : HasNoEnd text from (length text)
 

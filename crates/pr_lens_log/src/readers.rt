@@ -1,6 +1,6 @@
 //! Whole logs, read piece by piece.
 
-ghost use Rattle.std.specs.Prelude.{◌≡◌, ◌≢◌, ◌+◌, ◌-◌, ◌<◌, ◌^◌, ◌++◌, ℕ, List, [], IfOk, IfErr, OnOk, length};
+ghost use Rattle.std.specs.Prelude.{◌≡◌, ◌≢◌, ◌+◌, ◌-◌, ◌<◌, ◌≤◌, ◌^◌, ◌++◌, ℕ, List, [], true, false, IfOk, IfErr, OnOk, length};
 ghost use Rattle.pr_lens_text.specs.Places.{HasNoEnd};
 ghost use Rattle.pr_lens_log.specs.declared.logs.Log.{Log};
 ghost use Rattle.pr_lens_log.specs.Logs.{HasTale, IsLineFault, IsLineOf, IsLogAnswer, IsLogOf, IsKept, IsTaleOf, Tale};
@@ -18,8 +18,22 @@ pub struct Reader {
     log: Log,
     /// How many lines were taken.
     lines: usize,
-    /// What stands behind the last line feed.
+    /// What stands behind the last line feed, of no more bytes than a line may have.
     pending: Vec<u8>,
+}
+
+/// The bytes of a line, at most.
+const LINE: usize = 65_536;
+
+/// Whether so many bytes and so many more are too many for a line.
+fn is_long(pending: usize, more: usize) -> bool
+    ensures long { result ≡ true → 65536 < pending + more }
+    ensures short { result ≡ false → pending + more ≤ 65536 }
+{
+    if LINE < pending {
+        return true;
+    }
+    LINE - pending < more
 }
 
 /// Where the next line begins: behind the line feed of this one, or at the end.
@@ -90,6 +104,11 @@ impl Reader {
         ensures choice { OnOk result (choice_of self.new ≡ choice_of self.old) }
         ensures room { OnOk result ((more : ℕ) → HasRoom self.old (more + 1) → HasRoom self.new more) }
     {
+        if is_long(self.pending.len(), bytes.len()) {
+            return Err(LogFault::BadLine {
+                line: self.lines + 1,
+            });
+        }
         self.pending.extend_from_slice(bytes)?;
         if bytes[bytes.len() - 1] != b'\n' {
             return Ok(());

@@ -122,7 +122,8 @@ fn cycles_left_out(rt: HostRuntime) -> Result<(), AllocError> {
     check_calls(&rt, rt.alloc(), log.as_str(), LEFT_OUT)
 }
 
-/// A log of 2,200 lines, which is read in two pieces; its last line has no line feed.
+/// A log of a blank line and 2,200 lines of 8 bytes, of which the last has no line feed. It is read 4,096 bytes at a time,
+/// so that each piece but the last ends within a line.
 const LONG: &str = "\
 $ pipelens chart p --from 9
 = 0
@@ -152,11 +153,41 @@ $ pipelens wave p --from 10
 #[test]
 fn long_logs(rt: HostRuntime) -> Result<(), AllocError> {
     let mut log = String::new(rt.alloc());
+    log.push_str("\n")?;
     for _ in 0..2199 {
         log.push_str("stall 7\n")?;
     }
     log.push_str("stall 9")?;
     check_calls(&rt, rt.alloc(), log.as_str(), LONG)
+}
+
+/// A line of 65,536 bytes with its line feed, which is a result.
+const LONG_LINE: &str = "\
+$ pipelens wave p
+= 15
+! bad log: no cycle
+";
+
+/// The same, and behind it a line of one byte more.
+const LONGER_LINE: &str = "\
+$ pipelens wave p
+= 15
+! bad log: line 2
+";
+
+#[test]
+fn long_lines(rt: HostRuntime) -> Result<(), AllocError> {
+    let mut log = String::new(rt.alloc());
+    for _ in 0..65_535 {
+        log.push_str("1")?;
+    }
+    log.push_str("\n")?;
+    check_calls(&rt, rt.alloc(), log.as_str(), LONG_LINE)?;
+    for _ in 0..65_536 {
+        log.push_str("1")?;
+    }
+    log.push_str("\n")?;
+    check_calls(&rt, rt.alloc(), log.as_str(), LONGER_LINE)
 }
 
 /// Parts of the log, and of another one. A stalled cycle has the number of the cycle that waits.

@@ -8,6 +8,7 @@ returns-clause-read c = record {
   within = omega arith;
   begins = inl refl;
   taken = record { tale = nothing_told; tells = nothing; has = c.in_ok-make.ensures.told c.args.choice };
+  short = omega arith;
   pending = c.new.ensures.items;
   none = λ k low high is. absurd (omega (arith, high));
 }
