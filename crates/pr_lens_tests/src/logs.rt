@@ -122,7 +122,7 @@ fn cycles_left_out(rt: HostRuntime) -> Result<(), AllocError> {
     check_calls(&rt, rt.alloc(), log.as_str(), LEFT_OUT)
 }
 
-/// A log of a blank line and 2,200 lines of 8 bytes, of which the last has no line feed. It is read 4,096 bytes at a time,
+/// A log of a blank line, of 2,200 cycles of 8 bytes, and of an end without a line feed. It is read 4,096 bytes at a time,
 /// so that each piece but the last ends within a line.
 const LONG: &str = "\
 $ pipelens chart p --from 9
@@ -157,7 +157,7 @@ fn long_logs(rt: HostRuntime) -> Result<(), AllocError> {
     for _ in 0..2199 {
         log.push_str("stall 7\n")?;
     }
-    log.push_str("stall 9")?;
+    log.push_str("stall 9\nend")?;
     check_calls(&rt, rt.alloc(), log.as_str(), LONG)
 }
 
