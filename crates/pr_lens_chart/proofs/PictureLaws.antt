@@ -1,10 +1,16 @@
 -- Pieces of a picture.
-use Rattle.std.proofs.Common.{◌≡◌, ◌+◌, ◌<◌, ◌≤◌, ◌++◌, ◌∷◌, ◌∙◌, ℕ, List, Option, length, drop, get_or, add-one, append_assoc, append-nil, refl, sym, ap}
+use Rattle.std.proofs.Common.{◌≡◌, ◌+◌, ◌<◌, ◌≤◌, ◌++◌, ◌∷◌, ◌∙◌, ℕ, List, Option, Some, None, length, take, drop, get_or, replicate, add-one, append_assoc, append-nil, refl, sym, ap}
 use Rattle.std.proofs.lemmas.List.{at_drop_all, at_drop_more}
 use Rattle.pr_conf.specs.declared.turns.Turn.{Turn}
 use Rattle.pr_lens_log.specs.declared.lines.Logged.{Logged}
-use Rattle.pr_lens_log.specs.Boards.{after_turn}
-use Rattle.pr_lens_chart.specs.Pictures.{column_at, column_text, columns_text, stage_key, stage_keys, stripe_cell, stripe_cells, stripe_name, stripe_names}
+use Rattle.pr_lens_log.specs.declared.logs.Log.{Log}
+use Rattle.pr_lens_log.specs.declared.windows.Part.{Part}
+use Rattle.pr_lens_log.specs.declared.windows.Window.{Window}
+use Rattle.pr_lens_log.specs.Boards.{after_turn, after_turns}
+use Rattle.pr_lens_log.specs.Excerpts.{most, stages_to, stripes_to}
+use Rattle.pr_lens_log.specs.Logs.{IsKept, Tale}
+use Rattle.pr_lens_log.specs.Windows.{part_in, part_of}
+use Rattle.pr_lens_chart.specs.Pictures.{chart_text, column_at, column_text, columns_text, picture_text, stage_key, stage_keys, stripe_cell, stripe_cells, stripe_name, stripe_names}
 
 -- ---- pieces, one after the other
 pub both_put : (t a b : List ℕ) {t1 t2 : List ℕ} → t1 ≡ t ++ a → t2 ≡ t1 ++ b → t2 ≡ t ++ (a ++ b)
@@ -42,3 +48,17 @@ module _ (stages stripes : ℕ) (text whole : List ℕ) (board : List (Option �
   pub columns_done : length cycles ≤ number → text ++ columns_text stages stripes number board (drop number cycles) ≡ whole → text ≡ whole
   unfolding columns_text
   columns_done le h = sym (append-nil text) ∙ sym (at_drop_all (λ (cs : List Logged). text ++ columns_text stages stripes number board cs) cycles number le) ∙ h
+
+-- ---- what a log keeps
+pub kept_chart : (window : Window) (tale : Tale) (log : Log) → IsKept (record { window = window; most = Some 400 }) tale log
+    → picture_text log.totals.stages log.totals.stripes log.totals.count log.excerpt.part.start log.excerpt.past.board.stages.items log.excerpt.cycles.items
+    ≡ chart_text (part_of window tale.cycles) (most stages_to tale.cycles) (most stripes_to tale.cycles) tale.cycles
+kept_chart window tale log h =
+    let part = h.excerpt.part in
+    let stages = h.totals.stages in
+    let stripes = h.totals.stripes in
+    let count = h.totals.count in
+    let cycles : log.excerpt.cycles.items ≡ take 400 (part_in (part_of window tale.cycles) tale.cycles) = h.excerpt.cycles_are ∙ ap (λ (p : Part). take 400 (part_in p tale.cycles)) part in
+    let board : log.excerpt.past.board.stages.items ≡ after_turns (replicate (most stripes_to tale.cycles) None) (take (part_of window tale.cycles).start tale.cycles) =
+    h.excerpt.past.stages ∙ ap (λ (p : Part). after_turns (replicate (most stripes_to tale.cycles) None) (take p.start tale.cycles)) part in
+    λ i. picture_text (stages i) (stripes i) (count i) (part i).start (board i) (cycles i)

@@ -6,7 +6,7 @@ use Rattle.pr_lens_chart.specs.declared.pieces.Area.{Area}
 use Rattle.pr_lens_log.specs.declared.lines.Logged.{Logged}
 use Rattle.pr_lens_log.specs.declared.windows.Part.{Part}
 use Rattle.pr_lens_log.specs.Boards.{after_turn, after_turns, stage_in}
-use Rattle.pr_lens_log.specs.Windows.{first_of, part_in}
+use Rattle.pr_lens_log.specs.Windows.{part_in}
 use Rattle.pr_lens_chart.specs.Charts.{area_text, begin_text, words_text}
 use Rattle.pr_lens_log.specs.Lines.{is_into}
 
@@ -175,17 +175,17 @@ legend_text stages cycles left y =
     ++ legend_words (counted (legend_height stages + lower y 14))
     ++ left_words left cycles (lower (counted (legend_height stages + lower y 14)) 36)
 
--- which cycles of so many are left out where these are drawn
-abbrev pub left_of : ℕ → Part → Left
-left_of all part = record { before = part.start; behind = all - part.end }
+-- which cycles of so many are left out where so many are drawn behind so many
+abbrev pub left_of : ℕ → ℕ → ℕ → Left
+left_of all before drawn = record { before = before; behind = all - before - drawn }
 
--- the picture of these cycles of a log
-unfoldable pub picture_text : Part → ℕ → ℕ → List Logged → List ℕ
-picture_text part stages stripes cycles =
-    picture_head (length (part_in part cycles)) stripes stages (left_of (length cycles) part) ++ row_names stripes
-    ++ columns_text stages stripes 0 (after_turns (replicate stripes None) (take part.start cycles)) (part_in part cycles)
-    ++ legend_text stages (length cycles) (left_of (length cycles) part) (lower (below stripes) 56) ++ codes "</svg>\n"
+-- the picture of these cycles of a log of so many, before which so many stand, and after which these stages stand in the stripes
+unfoldable pub picture_text : ℕ → ℕ → ℕ → ℕ → List (Option ℕ) → List Logged → List ℕ
+picture_text stages stripes all before board drawn =
+    picture_head (length drawn) stripes stages (left_of all before (length drawn)) ++ row_names stripes ++ columns_text stages stripes 0 board drawn
+    ++ legend_text stages all (left_of all before (length drawn)) (lower (below stripes) 56) ++ codes "</svg>\n"
 
 -- the picture of the first of these cycles of a log, of 400 at most
 abbrev pub chart_text : Part → ℕ → ℕ → List Logged → List ℕ
-chart_text part = picture_text (first_of 400 part)
+chart_text part stages stripes cycles =
+    picture_text stages stripes (length cycles) part.start (after_turns (replicate stripes None) (take part.start cycles)) (take 400 (part_in part cycles))

@@ -8,7 +8,7 @@ ghost use Rattle.pr_lens_chart.specs.Pictures.{cell_text, class_text, column_tex
 use crate::colours::put_fill;
 use crate::frames::{HIGH, TOP, WIDE, below, column_at};
 use crate::pieces::{Area, put_area, put_digits};
-use pr_lens_log::{Board, Log, Logged};
+use pr_lens_log::{Board, Logged, Totals};
 use pr_lens_text::{put, put_counted};
 use std::alloc::AllocError;
 
@@ -128,14 +128,14 @@ fn put_stripes(
     text: &mut Vec<u8>,
     board: &Board,
     logged: &Logged,
-    log: &Log,
+    totals: &Totals,
     x: usize,
 ) -> Result<(), AllocError>
     ensures { OnOk result (text.new.items ≡ text.old.items
-        ++ stripe_cells log.now.stripes board.now.stages.items logged.now.turn log.now.stages x) }
+        ++ stripe_cells totals.now.stripes board.now.stages.items logged.now.turn totals.now.stages x) }
 {
-    for stripe in 0..log.stripes {
-        put_stripe(text, board, logged, log.stages, x, stripe)?;
+    for stripe in 0..totals.stripes {
+        put_stripe(text, board, logged, totals.stages, x, stripe)?;
     }
     Ok(())
 }
@@ -188,33 +188,33 @@ fn put_column(
     text: &mut Vec<u8>,
     board: &Board,
     logged: &Logged,
-    log: &Log,
+    totals: &Totals,
     x: usize,
 ) -> Result<(), AllocError>
     ensures { OnOk result (text.new.items ≡ text.old.items
-        ++ column_text log.now.stages log.now.stripes x board.now.stages.items logged.now) }
+        ++ column_text totals.now.stages totals.now.stripes x board.now.stages.items logged.now) }
 {
     if !logged.turn.advanced {
-        return put_stall(text, x, log.stripes);
+        return put_stall(text, x, totals.stripes);
     }
-    put_stripes(text, board, logged, log, x)?;
-    put_numbers(text, logged, log.stripes, x)
+    put_stripes(text, board, logged, totals, x)?;
+    put_numbers(text, logged, totals.stripes, x)
 }
 
 /// Adds these cycles of a log, before which these stages stand in the stripes.
 #[tactic(auto, unfolding(crate::specs::Pictures::columns_text))]
 pub fn put_cycles(
     text: &mut Vec<u8>,
-    log: &Log,
+    totals: &Totals,
     board: &mut Board,
     cycles: &[Logged],
 ) -> Result<(), AllocError>
     ensures { OnOk result (text.new.items ≡ text.old.items
-        ++ columns_text log.now.stages log.now.stripes 0 board.old.stages.items cycles.now) }
+        ++ columns_text totals.now.stages totals.now.stripes 0 board.old.stages.items cycles.now) }
 {
     for (number, logged) in cycles.iter().enumerate() {
         board.step(&logged.turn);
-        put_column(text, board, logged, log, column_at(number))?;
+        put_column(text, board, logged, totals, column_at(number))?;
     }
     Ok(())
 }

@@ -1,11 +1,11 @@
 //! What stands around the cells.
 
-ghost use Rattle.std.specs.Prelude.{◌≡◌, ◌++◌, OnOk, codes, length};
+ghost use Rattle.std.specs.Prelude.{◌≡◌, ◌++◌, OnOk, codes};
 ghost use Rattle.pr_lens_chart.specs.Pictures.{below, column_at, left_ends, left_height, left_words, legend_height, legend_text, legend_words, lower, picture_head, row_names, stage_key, stage_keys, stripe_name, stripe_names, style_text, svg_text};
 
 use crate::colours::put_fill;
 use crate::pieces::{Area, begin_words, put_area, put_digits, put_words};
-use pr_lens_log::Log;
+use pr_lens_log::Totals;
 use pr_lens_text::{put, put_counted};
 use std::alloc::AllocError;
 
@@ -103,13 +103,18 @@ fn left_height(left: Left) -> usize
 
 /// Begins a picture of so many cycles of a log, of which so many are left out.
 #[tactic(auto, unfolding(crate::specs::Pictures::picture_head))]
-pub fn put_head(text: &mut Vec<u8>, cycles: usize, log: &Log, left: Left) -> Result<(), AllocError>
+pub fn put_head(
+    text: &mut Vec<u8>,
+    cycles: usize,
+    totals: &Totals,
+    left: Left,
+) -> Result<(), AllocError>
     ensures { OnOk result (text.new.items ≡ text.old.items
-        ++ picture_head cycles log.now.stripes log.now.stages left) }
+        ++ picture_head cycles totals.now.stripes totals.now.stages left) }
 {
     let width = cycles.saturating_mul(WIDE).saturating_add(LEFT + 20);
-    let height = below(log.stripes)
-        .saturating_add(legend_height(log.stages))
+    let height = below(totals.stripes)
+        .saturating_add(legend_height(totals.stages))
         .saturating_add(106)
         .saturating_add(left_height(left));
     put_size(text, width.max(660), height)?;
@@ -231,16 +236,16 @@ fn put_left(text: &mut Vec<u8>, left: Left, cycles: usize, y: usize) -> Result<(
 
 /// Adds the legend of a picture that leaves so many cycles out.
 #[tactic(auto, unfolding(crate::specs::Pictures::legend_text))]
-pub fn put_legend(text: &mut Vec<u8>, log: &Log, left: Left) -> Result<(), AllocError>
+pub fn put_legend(text: &mut Vec<u8>, totals: &Totals, left: Left) -> Result<(), AllocError>
     ensures { OnOk result (text.new.items ≡ text.old.items
-        ++ legend_text log.now.stages (length log.now.cycles.items) left (lower (below log.now.stripes) 56)) }
+        ++ legend_text totals.now.stages totals.now.count left (lower (below totals.now.stripes) 56)) }
 {
-    let y = below(log.stripes).saturating_add(56);
+    let y = below(totals.stripes).saturating_add(56);
     put_words(text, "t", 8, y.saturating_add(13), "stage")?;
-    put_keys(text, log.stages, log.stages, y)?;
-    let words = legend_height(log.stages).saturating_add(y.saturating_add(14));
+    put_keys(text, totals.stages, totals.stages, y)?;
+    let words = legend_height(totals.stages).saturating_add(y.saturating_add(14));
     put_meaning(text, words)?;
-    put_left(text, left, log.cycles.len(), words.saturating_add(36))
+    put_left(text, left, totals.count, words.saturating_add(36))
 }
 
 /// Ends the picture.

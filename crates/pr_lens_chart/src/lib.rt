@@ -7,4 +7,4 @@ mod colours;
 mod frames;
 mod pieces;
 
-pub use charts::chart;
+pub use charts::{MOST, chart};

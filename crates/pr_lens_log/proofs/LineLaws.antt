@@ -1,16 +1,13 @@
--- Lines of cycles and other lines, and what is told after them.
-use Rattle.std.proofs.Common.{◌≡◌, ◌≢◌, ◌⊎◌, ◌∙◌, ℕ, true, false, List, [], ◌∷◌, ◌++◌, take, get_or, map, max, Option, inl, inr, sym, ap, subst, codes, arith, eqb-true, true≢false}
-use Rattle.std.specs.Prelude.{nat_eq, fold, slice_get}
+-- Lines of cycles and other lines.
+use Rattle.std.proofs.Common.{◌≡◌, ◌≢◌, ◌⊎◌, ℕ, true, false, List, [], ◌∷◌, take, get_or, inl, inr, sym, ap, codes, arith, eqb-true, true≢false}
+use Rattle.std.specs.Prelude.{nat_eq, slice_get}
 use Rattle.std.specs.Cmp.Lexicographic.{pointwise}
 use Rattle.std.specs.List.{starts_with}
 use Rattle.std.proofs.lemmas.Bool.{and_parts, cases_Bool}
-use Rattle.std.proofs.lemmas.List.{map_push}
-use Rattle.std.proofs.lemmas.List.Sums.{fold-append}
 use Rattle.pr_lens_log.specs.declared.lines.Logged.{Logged}
 use Rattle.pr_lens_log.specs.declared.lines.LogLine.TheVariants.{Cycle, Result, End}
-use Rattle.pr_lens_log.specs.declared.logs.Log.{Log}
 use Rattle.pr_lens_log.specs.Lines.{HasNoCycle, IsCycleLine, IsEndLine, IsNoLine, IsNoOther, IsResultLine, is_end, is_word_end}
-use Rattle.pr_lens_log.specs.Logs.{HasSizes, IsAdded, IsOther, TakesLine, Tale, adds, most, stages_to, stripes_to, tale_of}
+use Rattle.pr_lens_log.specs.Logs.{IsOther}
 use Rattle.pr_lens_log.proofs.CycleLaws.{cycle_is, stall_is}
 
 -- ---- the first byte of a line
@@ -65,26 +62,3 @@ pub no_other : (line : List ℕ) → get_or line 0 0 ≢ 99 → get_or line 0 0 
 no_other line cycle stall none (Cycle logged) told = elim (first_of_cycle line logged told) [ inl c ↦ cycle c | inr s ↦ stall s ]
 no_other line cycle stall none Result told = none.result told
 no_other line cycle stall none End told = none.end told
-
--- ---- what is told after a cycle
-pub added : {line : List ℕ} {old new : Log} {results : ℕ} {logged : Logged} → IsCycleLine line logged → IsAdded old new results logged → TakesLine line (tale_of old results) (tale_of new results)
-added {line} {old} {new} {results} {logged} h a =
-    subst (λ (t : Tale). TakesLine line (tale_of old results) t) (λ i. record { cycles = (sym a.cycles) i; written = (sym a.written) i; results = results }) (adds h a.drawn)
-
-most_more : (count : Option (ℕ × ℕ) → ℕ) (cycles : List Logged) (logged : Logged) → most count (cycles ++ logged ∷ []) ≡ max (most count cycles) (count logged.turn.configured)
-most_more count cycles logged =
-    ap (fold max 0) (map_push (λ (c : Logged). count c.turn.configured) cycles logged)
-    ∙ fold-append max 0 (map (λ (c : Logged). count c.turn.configured) cycles) (count logged.turn.configured ∷ [])
-
-pub sizes_added : {old new : Log} {results : ℕ} {logged : Logged} → IsAdded old new results logged → HasSizes old → HasSizes new
-sizes_added {old} {new} {results} {logged} a sizes = record {
-  stages =
-      a.stages ∙ (ap (λ n. max n (stages_to logged.turn.configured)) sizes.stages
-      ∙ (sym (most_more stages_to old.cycles.items logged) ∙ ap (most stages_to) (sym a.cycles)));
-  stripes =
-      a.stripes ∙ (ap (λ n. max n (stripes_to logged.turn.configured)) sizes.stripes
-      ∙ (sym (most_more stripes_to old.cycles.items logged) ∙ ap (most stripes_to) (sym a.cycles)));
-}
-
-pub sizes_none : (log : Log) → log.cycles.items ≡ [] → log.stages ≡ 0 → log.stripes ≡ 0 → HasSizes log
-sizes_none log none stages stripes = record { stages = stages ∙ ap (most stages_to) (sym none); stripes = stripes ∙ ap (most stripes_to) (sym none) }

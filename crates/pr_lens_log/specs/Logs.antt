@@ -1,10 +1,12 @@
 -- What the lines of a log tell.
-use Rattle.std.specs.Prelude.{◌≡◌, ◌⊎◌, ◌+◌, ◌-◌, ◌<◌, ◌≤◌, ◌++◌, ◌∷◌, [], ⊤, ℕ, max, List, Option, Some, None, IfSome, fold, map, length, slice_index, slice_range}
+use Rattle.std.specs.Prelude.{◌≡◌, ◌⊎◌, ◌+◌, ◌-◌, ◌<◌, ◌≤◌, ◌++◌, ◌∷◌, [], ⊤, ℕ, List, Option, IfSome, length, slice_index, slice_range}
 use Rattle.pr_lens_text.specs.Places.{HasNoEnd}
+use Rattle.pr_lens_log.specs.declared.excerpts.Choice.{Choice}
 use Rattle.pr_lens_log.specs.declared.lines.Logged.{Logged}
 use Rattle.pr_lens_log.specs.declared.logs.Log.{Log}
 use Rattle.pr_lens_log.specs.declared.logs.LogFault.{LogFault}
 use Rattle.pr_lens_log.specs.declared.logs.LogFault.TheVariants.{BadLine, NoCycle, Memory}
+use Rattle.pr_lens_log.specs.Excerpts.{AreTotals, IsExcerpt, most, stripes_to}
 use Rattle.pr_lens_log.specs.Lines.{IsCycleLine, IsResultLine, IsEndLine, IsNoLine}
 
 -- the stage and the stripe are among those that are drawn
@@ -20,9 +22,6 @@ pub record Tale : Type 0 where
   pub cycles : List Logged
   pub written : List ℕ
   pub results : ℕ
-
-abbrev pub tale_of : Log → ℕ → Tale
-tale_of log results = record { cycles = log.cycles.items; written = log.written.items; results = results }
 
 abbrev pub with_cycle : Tale → Logged → Tale
 with_cycle t logged = record { cycles = t.cycles ++ logged ∷ []; written = t.written ++ t.results ∷ []; results = t.results }
@@ -53,6 +52,14 @@ pub record IsLineOf (text : List ℕ) (from to : ℕ) : Type 0 where
   pub none : HasNoEnd text from (to - 1)
   pub ends : (to ≡ length text) ⊎ (slice_index text (to - 1) ≡ 10)
 
+-- the bytes of a line, at most
+abbrev pub most_line_bytes : ℕ
+most_line_bytes = 65536
+
+-- a line has too many bytes, or is no line of a log that is drawn
+abbrev pub IsWrong : List ℕ → ℕ → ℕ → Type 0
+IsWrong text from to = (from + most_line_bytes < to) ⊎ IsUnlawful (slice_range text from to)
+
 abbrev pub nothing_told : Tale
 nothing_told = record { cycles = []; written = []; results = 0 }
 
@@ -60,40 +67,14 @@ nothing_told = record { cycles = []; written = []; results = 0 }
 pub data TellsTo : List ℕ → ℕ → ℕ → Tale → Type 0 where
   nothing : {text : List ℕ} → TellsTo text 0 0 nothing_told
   one_more : {text : List ℕ} {lines from to : ℕ} {before after : Tale} → TellsTo text lines from before → IsLineOf text from to
-      → TakesLine (slice_range text from to) before after → TellsTo text (lines + 1) to after
+      → to ≤ from + most_line_bytes → TakesLine (slice_range text from to) before after → TellsTo text (lines + 1) to after
 
--- ---- how many stages are named, and how many stripes
-abbrev pub stages_to : Option (ℕ × ℕ) → ℕ
-stages_to None = 0
-stages_to (Some (stage, stripe)) = stage + 1
-
-abbrev pub stripes_to : Option (ℕ × ℕ) → ℕ
-stripes_to None = 0
-stripes_to (Some (stage, stripe)) = stripe + 1
-
-abbrev pub most : (Option (ℕ × ℕ) → ℕ) → List Logged → ℕ
-most count cycles = fold max 0 (map (λ c. count c.turn.configured) cycles)
-
-pub record HasSizes (log : Log) : Type 0 where
-  pub stages : log.stages ≡ most stages_to log.cycles.items
-  pub stripes : log.stripes ≡ most stripes_to log.cycles.items
-
--- a cycle came into a log, with so many results before it
-pub record IsAdded (old new : Log) (results : ℕ) (logged : Logged) : Type 0 where
-  pub drawn : AreDrawn logged.turn.configured
-  pub cycles : new.cycles.items ≡ old.cycles.items ++ logged ∷ []
-  pub written : new.written.items ≡ old.written.items ++ results ∷ []
-  pub stages : new.stages ≡ max old.stages (stages_to logged.turn.configured)
-  pub stripes : new.stripes ≡ max old.stripes (stripes_to logged.turn.configured)
-
--- ---- whole logs
--- the lines of the text tell the log, a cycle among them
-pub record IsLogOf (text : List ℕ) (log : Log) : Type 0 where
-  pub some : 0 < length log.cycles.items
+-- ---- whole texts
+-- the lines of a text tell this, a cycle among them
+pub record IsTaleOf (text : List ℕ) (tale : Tale) : Type 0 where
+  pub some : 0 < length tale.cycles
   pub lines : ℕ
-  pub results : ℕ
-  pub tells : TellsTo text lines (length text) (tale_of log results)
-  pub sizes : HasSizes log
+  pub tells : TellsTo text lines (length text) tale
 
 -- the lines before this one, counted from 1, are those of a log, and this one is not
 pub record IsBadAt (text : List ℕ) (line : ℕ) : Type 0 where
@@ -103,7 +84,7 @@ pub record IsBadAt (text : List ℕ) (line : ℕ) : Type 0 where
   pub told : Tale
   pub tells : TellsTo text before from told
   pub here : IsLineOf text from to
-  pub wrong : IsUnlawful (slice_range text from to)
+  pub wrong : IsWrong text from to
   pub number : line ≡ before + 1
 
 -- all lines are those of a log, and none is that of a cycle
@@ -113,8 +94,35 @@ pub record TellsNoCycle (text : List ℕ) : Type 0 where
   pub tells : TellsTo text lines (length text) told
   pub none : told.cycles ≡ []
 
+-- why a line of a text is none of a log, but that memory may want
+abbrev pub IsLineFault : List ℕ → LogFault → Type 0
+IsLineFault text NoCycle = ⊥
+IsLineFault text (BadLine line) = IsBadAt text line
+IsLineFault text (Memory e) = ⊤
+
 -- why a text is no log, but that memory may want
 abbrev pub IsLogAnswer : List ℕ → LogFault → Type 0
 IsLogAnswer text NoCycle = TellsNoCycle text
-IsLogAnswer text (BadLine line) = IsBadAt text line
-IsLogAnswer text (Memory e) = ⊤
+IsLogAnswer text fault = IsLineFault text fault
+
+-- ---- logs
+-- a log has what is told, and keeps what is chosen of it, with what the cycles before left behind on so many stripes
+pub record HasTale (choice : Choice) (stripes : ℕ) (tale : Tale) (log : Log) : Type 0 where
+  pub totals : AreTotals tale.cycles tale.results log.totals
+  pub excerpt : IsExcerpt choice stripes tale.cycles tale.written log.excerpt
+
+-- it keeps it on those stripes that are named
+abbrev pub IsKept : Choice → Tale → Log → Type 0
+IsKept choice tale log = HasTale choice (most stripes_to tale.cycles) tale log
+
+-- the log of a text
+pub record IsLogOf (choice : Choice) (text : List ℕ) (log : Log) : Type 0 where
+  pub tale : Tale
+  pub is : IsTaleOf text tale
+  pub kept : IsKept choice tale log
+
+-- a line came into a log
+pub record IsTaken (choice : Choice) (line : List ℕ) (before : Tale) (log : Log) : Type 0 where
+  pub after : Tale
+  pub takes : TakesLine line before after
+  pub has : HasTale choice 256 after log

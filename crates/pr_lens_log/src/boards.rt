@@ -1,9 +1,8 @@
 //! Which stage stands in which stripe.
 
 ghost use Rattle.std.specs.Prelude.{◌≡◌, IfOk, None, replicate};
-ghost use Rattle.pr_lens_log.specs.Boards.{stage_in, after_turn, after_turns};
+ghost use Rattle.pr_lens_log.specs.Boards.{stage_in, after_turn};
 
-use crate::lines::Logged;
 use pr_conf::Turn;
 use std::alloc::{AllocError, Global};
 
@@ -45,14 +44,6 @@ impl Board {
             if stripe < self.stages.len() {
                 self.stages[stripe] = Some(stage);
             }
-        }
-    }
-    /// These cycles go by, one after the other.
-    pub fn run(&mut self, cycles: &[Logged])
-        ensures { self.new.stages.items ≡ after_turns self.old.stages.items cycles.now }
-    {
-        for logged in cycles {
-            self.step(&logged.turn);
         }
     }
 }

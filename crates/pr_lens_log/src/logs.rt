@@ -1,22 +1,22 @@
-//! Whole logs.
+//! Logs, line by line.
 
-ghost use Rattle.std.specs.Prelude.{◌≡◌, ◌↔◌, ◌<◌, ◌≤◌, ◌+◌, ◌^◌, false, IsTrue, IfOk, IfErr, length};
-ghost use Rattle.pr_lens_log.specs.Logs.{AreDrawn, IsAdded, IsLineOf, IsLogAnswer, IsLogOf, IsUnlawful, HasSizes, TakesLine, stages_to, stripes_to, tale_of};
+ghost use Rattle.std.specs.Prelude.{◌≡◌, ◌↔◌, ◌<◌, ◌≤◌, ◌+◌, ◌^◌, ◌++◌, ◌∷◌, [], ℕ, List, false, IsTrue, IfOk, OnOk};
+ghost use Rattle.pr_lens_log.specs.declared.excerpts.Choice.{Choice};
+ghost use Rattle.pr_lens_log.specs.declared.lines.Logged.{Logged};
+ghost use Rattle.pr_lens_log.specs.Excerpts.{AreTotals, IsExcerpt, most, stripes_to};
+ghost use Rattle.pr_lens_log.specs.Logs.{AreDrawn, HasTale, IsKept, IsTaken, IsUnlawful, Tale, nothing_told};
 
+use crate::excerpts::{Choice, Excerpt};
 use crate::lines::{LogLine, Logged, read_line};
-use pr_lens_text::end_of;
+use crate::totals::Totals;
 use std::alloc::{AllocError, Global};
 use thiserror::Error;
 
-/// A log: its cycles in order, each with the results that were written before it.
+/// A log: what is known of all its cycles, and those of them that are kept.
 #[derive(Drop)]
 pub struct Log {
-    pub cycles: Vec<Logged>,
-    /// How many results were written before each cycle.
-    pub written: Vec<usize>,
-    /// The number of stages that are named, and of stripes.
-    pub stages: usize,
-    pub stripes: usize,
+    pub totals: Totals,
+    pub excerpt: Excerpt,
 }
 
 /// Why a text is no log.
@@ -44,7 +44,7 @@ impl From<AllocError> for LogFault {
 }
 
 /// The most stripes and stages of a log that is drawn.
-const MOST_STRIPES: u32 = 256;
+pub const MOST_STRIPES: usize = 256;
 
 const MOST_STAGES: u32 = 32_768;
 
@@ -54,98 +54,71 @@ fn are_drawn(configured: Option<(u32, u32)>) -> bool
 {
     match configured {
         None => true,
-        Some((stage, stripe)) => stage < MOST_STAGES && stripe < MOST_STRIPES,
+        Some((stage, stripe)) => stage < MOST_STAGES && stripe < MOST_STRIPES as u32,
     }
 }
 
-/// How many stages there are at least.
-fn stages_to(configured: Option<(u32, u32)>) -> usize
-    ensures { result ≡ stages_to configured }
-{
-    match configured {
-        None => 0,
-        Some((stage, _)) => stage as usize + 1,
+impl Log {
+    /// A log of which no line was taken.
+    pub fn make(alloc: Global) -> Result<Log, AllocError>
+        ensures none { IfOk result (λ log. log.totals.count + log.totals.results ≡ 0) }
+        ensures told { (choice : Choice) → IfOk result (HasTale choice 256 nothing_told) }
+    {
+        Ok(Log {
+            totals: Totals::none(),
+            excerpt: Excerpt::make(alloc, MOST_STRIPES)?,
+        })
     }
-}
 
-/// How many stripes there are at least.
-fn stripes_to(configured: Option<(u32, u32)>) -> usize
-    ensures { result ≡ stripes_to configured }
-{
-    match configured {
-        None => 0,
-        Some((_, stripe)) => stripe as usize + 1,
+    /// Takes a cycle.
+    fn add(&mut self, choice: Choice, logged: Logged) -> Result<(), AllocError>
+        requires { self.old.totals.count + 1 < 2 ^ 64 }
+        ensures told { OnOk result ((stripes : ℕ) (cycles : List Logged) (written : List ℕ)
+            → AreTotals cycles self.old.totals.results self.old.totals
+            → IsExcerpt choice stripes cycles written self.old.excerpt
+            → AreTotals (cycles ++ logged ∷ []) self.old.totals.results self.new.totals
+            × IsExcerpt choice stripes (cycles ++ logged ∷ [])
+            (written ++ self.old.totals.results ∷ []) self.new.excerpt) }
+        ensures count { OnOk result (self.new.totals.count ≡ self.old.totals.count + 1) }
+        ensures results { OnOk result (self.new.totals.results ≡ self.old.totals.results) }
+    {
+        let totals = self.totals;
+        self.totals = totals.with(&logged);
+        self.excerpt
+            .add(choice, totals.count, totals.results, logged)
     }
-}
 
-/// Takes a cycle into a log, where its stage and stripe are drawn; whether they are.
-fn add(log: &mut Log, results: usize, logged: Logged) -> Result<bool, AllocError>
-    ensures added { IfOk result (λ good. IsTrue good → IsAdded log.old log.new results logged) }
-    ensures refused { IfOk result (λ good. good ≡ false → AreDrawn logged.turn.configured → ⊥) }
-{
-    if !are_drawn(logged.turn.configured) {
-        return Ok(false);
-    }
-    log.stages = log.stages.max(stages_to(logged.turn.configured));
-    log.stripes = log.stripes.max(stripes_to(logged.turn.configured));
-    log.cycles.push(logged)?;
-    log.written.push(results)?;
-    Ok(true)
-}
-
-/// Takes a line into a log; whether it is one.
-fn take_line(log: &mut Log, results: &mut usize, bytes: &[u8]) -> Result<bool, AllocError>
-    requires { results.old + 1 < 2 ^ 64 }
-    ensures taken { IfOk result (λ good. IsTrue good →
-        TakesLine bytes.now (tale_of log.old results.old) (tale_of log.new results.new)) }
-    ensures refused { IfOk result (λ good. good ≡ false → IsUnlawful bytes.now) }
-    ensures sizes { IfOk result (λ good. IsTrue good → HasSizes log.old → HasSizes log.new) }
-    ensures few { IfOk result (λ good. results.new ≤ results.old + 1) }
-{
-    match read_line(bytes) {
-        None => Ok(false),
-        Some(LogLine::End) => Ok(true),
-        Some(LogLine::Result) => {
-            *results += 1;
-            Ok(true)
+    /// Takes a line; whether it is one of a log.
+    pub fn take(&mut self, choice: Choice, bytes: &[u8]) -> Result<bool, AllocError>
+        requires { self.old.totals.count + self.old.totals.results + 1 < 2 ^ 64 }
+        ensures taken { IfOk result (λ good. IsTrue good
+            → (tale : Tale) → HasTale choice 256 tale self.old → IsTaken choice bytes.now tale self.new) }
+        ensures refused { IfOk result (λ good. good ≡ false → IsUnlawful bytes.now) }
+        ensures few { IfOk result (λ good. self.new.totals.count + self.new.totals.results
+            ≤ self.old.totals.count + self.old.totals.results + 1) }
+    {
+        match read_line(bytes) {
+            None => Ok(false),
+            Some(LogLine::End) => Ok(true),
+            Some(LogLine::Result) => {
+                self.totals.results += 1;
+                Ok(true)
+            }
+            Some(LogLine::Cycle(logged)) => {
+                if !are_drawn(logged.turn.configured) {
+                    return Ok(false);
+                }
+                self.add(choice, logged)?;
+                Ok(true)
+            }
         }
-        Some(LogLine::Cycle(logged)) => add(log, *results, logged),
     }
-}
 
-/// Where the next line begins: behind the line feed of this one, or at the end.
-fn next_line(text: &[u8], start: usize) -> usize
-    requires { start < length text.now }
-    ensures { IsLineOf text.now start result }
-{
-    let end = end_of(text, start);
-    if end < text.len() { end + 1 } else { end }
-}
-
-/// The log of a text, which has a cycle at least.
-pub fn read_log(alloc: Global, text: &[u8]) -> Result<Log, LogFault>
-    ensures told { IfOk result (IsLogOf text.now) }
-    ensures refused { IfErr result (IsLogAnswer text.now) }
-{
-    let mut log = Log {
-        cycles: Vec::new(alloc),
-        written: Vec::new(alloc),
-        stages: 0,
-        stripes: 0,
-    };
-    let mut results = 0;
-    let mut start = 0;
-    let mut number: usize = 0;
-    while start < text.len() {
-        let next = next_line(text, start);
-        number += 1;
-        if !take_line(&mut log, &mut results, &text[start..next])? {
-            return Err(LogFault::BadLine { line: number });
-        }
-        start = next;
+    /// Only the stripes that are named are looked at from now on.
+    pub fn cut(&mut self)
+        ensures { (choice : Choice) (tale : Tale) → most stripes_to tale.cycles ≤ 256
+            → HasTale choice 256 tale self.old → IsKept choice tale self.new }
+    {
+        self.excerpt.past.cut(self.totals.stripes);
     }
-    if log.cycles.is_empty() {
-        return Err(LogFault::NoCycle);
-    }
-    Ok(log)
 }

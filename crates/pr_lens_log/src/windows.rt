@@ -1,10 +1,7 @@
 //! Which cycles of a log are shown.
 
-ghost use Rattle.std.specs.Prelude.{◌≡◌, ◌≤◌, length};
-ghost use Rattle.std.specs.List.{prefix_len};
-ghost use Rattle.pr_lens_log.specs.Windows.{is_early, is_timely, part_of, time_at};
-
-use crate::lines::Logged;
+ghost use Rattle.std.specs.Prelude.{◌≡◌, ◌+◌, ◌<◌, ◌^◌};
+ghost use Rattle.pr_lens_log.specs.Windows.{part_with, side_of};
 
 /// Cycles by their numbers, from the first of these to the last.
 #[derive(Clone, Copy, PartialEq, Eq, Debug)]
@@ -21,8 +18,7 @@ pub struct Part {
 }
 
 impl Part {
-    ghost use Rattle.std.specs.Prelude.{◌<◌, ◌↔◌, IsTrue};
-    ghost use Rattle.pr_lens_log.specs.Windows.{first_of};
+    ghost use Rattle.std.specs.Prelude.{◌≤◌, ◌↔◌, IsTrue};
 
     /// Whether no cycle is among them.
     pub fn is_empty(self) -> bool
@@ -30,58 +26,44 @@ impl Part {
     {
         self.end <= self.start
     }
+}
 
-    /// The first of them, at most so many.
-    pub fn first(self, most: usize) -> Part
-        ensures { result ≡ first_of most self }
-    {
-        Part {
-            start: self.start,
-            end: self.end.min(self.start.saturating_add(most)),
-        }
+/// Where a cycle stands by the part of a log that is shown.
+#[derive(Clone, Copy)]
+pub enum Side {
+    Before,
+    Within,
+    Behind,
+}
+
+/// Where a cycle of this number stands behind so many cycles, of which this part is shown.
+pub fn side_of(window: Window, count: usize, part: Part, time: u64) -> Side
+    ensures { result ≡ side_of window count part time }
+{
+    if part.start == count && time < window.from {
+        Side::Before
+    } else if part.end == count && time <= window.to {
+        Side::Within
+    } else {
+        Side::Behind
     }
 }
 
-/// How many cycles have a number below this one, up to the first that has none.
-#[tactic(auto, using(crate::proofs::WindowLaws::few_first))]
-fn early(cycles: &[Logged], from: u64) -> usize
-    ensures few { result ≤ length cycles.now }
-    ensures is { result ≡ prefix_len (is_early from) cycles.now }
+/// The part that is shown with one cycle more behind so many.
+pub fn part_with(side: Side, count: usize, part: Part) -> Part
+    requires { count + 1 < 2 ^ 64 }
+    ensures { result ≡ part_with side count part }
 {
-    cycles
-        .iter()
-        .take_while(|logged| logged.time < from)
-        .count()
-}
-
-/// How many cycles have a number up to this one, up to the first that has none.
-#[tactic(auto, using(crate::proofs::WindowLaws::few_first))]
-fn timely(cycles: &[Logged], to: u64) -> usize
-    ensures few { result ≤ length cycles.now }
-    ensures is { result ≡ prefix_len (is_timely to) cycles.now }
-{
-    cycles.iter().take_while(|logged| logged.time <= to).count()
-}
-
-/// The cycles that a window shows: those from the first that is not too early, up to the first behind it that is too late.
-pub fn part_of(cycles: &[Logged], window: Window) -> Part
-    ensures is { result ≡ part_of window cycles.now }
-    ensures order { result.start ≤ result.end }
-    ensures within { result.end ≤ length cycles.now }
-{
-    let start = early(cycles, window.from);
-    Part {
-        start,
-        end: start + timely(&cycles[start..], window.to),
-    }
-}
-
-/// The number of the cycle at a place, or 0 where there is none.
-pub fn time_at(cycles: &[Logged], place: usize) -> u64
-    ensures { result ≡ time_at cycles.now place }
-{
-    match cycles.get(place) {
-        None => 0,
-        Some(logged) => logged.time,
+    let next = count + 1;
+    match side {
+        Side::Before => Part {
+            start: next,
+            end: next,
+        },
+        Side::Within => Part {
+            start: part.start,
+            end: next,
+        },
+        Side::Behind => part,
     }
 }

@@ -122,6 +122,74 @@ fn cycles_left_out(rt: HostRuntime) -> Result<(), AllocError> {
     check_calls(&rt, rt.alloc(), log.as_str(), LEFT_OUT)
 }
 
+/// A log of a blank line, of 2,200 cycles of 8 bytes, and of an end without a line feed. It is read 4,096 bytes at a time,
+/// so that each piece but the last ends within a line.
+const LONG: &str = "\
+$ pipelens chart p --from 9
+= 0
+...left out: the first 2199 of 2200 cycles</text>
+...
+$ pipelens chart p --to 8
+= 0
+...left out: the last 1800 of 2200 cycles</text>
+...
+$ pipelens wave p --from 9
+= 0
+...$enddefinitions $end
+#21990
+b1001 s0
+1s1
+bz s2
+bz s3
+b0 s4
+b0 s5
+#22000
+...
+$ pipelens wave p --from 10
+= 15
+! no such cycle: the log has cycles 7 to 9
+";
+
+#[test]
+fn long_logs(rt: HostRuntime) -> Result<(), AllocError> {
+    let mut log = String::new(rt.alloc());
+    log.push_str("\n")?;
+    for _ in 0..2199 {
+        log.push_str("stall 7\n")?;
+    }
+    log.push_str("stall 9\nend")?;
+    check_calls(&rt, rt.alloc(), log.as_str(), LONG)
+}
+
+/// A line of 65,536 bytes with its line feed, which is a result.
+const LONG_LINE: &str = "\
+$ pipelens wave p
+= 15
+! bad log: no cycle
+";
+
+/// The same, and behind it a line of one byte more.
+const LONGER_LINE: &str = "\
+$ pipelens wave p
+= 15
+! bad log: line 2
+";
+
+#[test]
+fn long_lines(rt: HostRuntime) -> Result<(), AllocError> {
+    let mut log = String::new(rt.alloc());
+    for _ in 0..65_535 {
+        log.push_str("1")?;
+    }
+    log.push_str("\n")?;
+    check_calls(&rt, rt.alloc(), log.as_str(), LONG_LINE)?;
+    for _ in 0..65_536 {
+        log.push_str("1")?;
+    }
+    log.push_str("\n")?;
+    check_calls(&rt, rt.alloc(), log.as_str(), LONGER_LINE)
+}
+
 /// Parts of the log, and of another one. A stalled cycle has the number of the cycle that waits.
 const PARTS: &str = "\
 $ pipelens wave p --from 1 --to 1

@@ -1,89 +1,146 @@
 //! What is made of logs.
 
-ghost use Rattle.std.specs.Prelude.{◌≡◌, ◌≤◌, ◌-◌, IfOk, IfErr, OnOk, length};
+ghost use Rattle.std.specs.Prelude.{◌≡◌, ◌≤◌, ◌<◌, ◌+◌, ◌-◌, ◌^◌, ℕ, IfOk, IfErr, OnOk, length};
+ghost use Rattle.pr_edge.specs.Files.{IsMissing, OfFile};
 ghost use Rattle.pr_tool_answers.specs.declared.answers.Answer.{Answer};
-ghost use Rattle.pr_tool_modes.specs.Files.{IsText};
+ghost use Rattle.pr_lens_log.specs.declared.windows.Window.{Window};
+ghost use Rattle.pr_lens_log.specs.Logs.{IsKept, Tale};
+ghost use Rattle.pr_lens_log.specs.Readers.{HasRead, HasRoom, choice_of as choice_in};
+ghost use Rattle.pr_lens_log.specs.Windows.{part_of};
 ghost use Rattle.pr_lens_tool.specs.declared.outcomes.Outcome.TheVariants.{Plain, Unshown};
 ghost use Rattle.pr_lens_tool.specs.Outcomes.{Shows};
-ghost use Rattle.pr_lens_tool.specs.Logs.{HasLog, IsDrawing, IsNoLog, IsUndrawn, drawn_text, most_log_bytes};
-ghost use Rattle.pr_lens_log.specs.Windows.{time_at};
+ghost use Rattle.pr_lens_tool.specs.Logs.{HasLog, HasShortText, IsDrawing, IsNoLog, IsReadTo, IsUndrawn, choice_of, drawn_text};
 
 use crate::orders::Drawing;
 use crate::outcomes::{Outcome, Output};
-use pr_edge::{ReadAll, Shelf, read_all};
-use pr_lens_chart::chart;
-use pr_lens_log::{Log, LogFault, Part, Window, part_of, read_log, time_at};
+use pr_edge::Shelf;
+use pr_lens_chart::{MOST, chart};
+use pr_lens_log::{Choice, Log, Reader, Window};
 use pr_lens_wave::wave;
 use pr_tool::Answer;
 use std::alloc::{AllocError, Global};
 
 /// The bytes of a log, at most.
-const LOG: usize = 16_777_216;
+const LOG: u64 = 17_592_186_044_416;
 
-/// The text of the file of a log; else what the call comes to.
-fn log_text<S: Shelf>(alloc: Global, shelf: &mut S, name: &str) -> Result<Vec<u8>, Outcome>
-    ensures text { IfOk result (λ v. IsText (S.told shelf.old) name.now v.items) }
-    ensures short { IfOk result (λ v. length v.items ≤ most_log_bytes) }
+/// Reads on in the file of a log, and says how many bytes came; else what the call comes to.
+fn read_more<S: Shelf>(
+    reader: &mut Reader,
+    shelf: &mut S,
+    name: &str,
+    place: u64,
+) -> Result<usize, Outcome>
+    requires read { IsReadTo (S.told shelf.old) name.now place reader.old }
+    requires room { HasRoom reader.old 4096 }
+    ensures read { IfOk result (λ count. IsReadTo (S.told shelf.old) name.now (place + count) reader.new) }
+    ensures end { IfOk result (λ count. count ≡ 0
+        → OfFile (S.told shelf.old) name.now (λ file. length file ≤ place)) }
+    ensures there { IfOk result (λ count. IsMissing (S.told shelf.old) name.now → ⊥) }
+    ensures few { IfOk result (λ count. count ≤ 4096) }
+    ensures room { IfOk result (λ count. (more : ℕ) → HasRoom reader.old (more + count) → HasRoom reader.new more) }
     ensures refused { IfErr result
         (IsNoLog (S.told shelf.old) name.now (S.faults shelf.old) (S.faults shelf.new)) }
+    ensures choice { IfOk result (λ count. choice_in reader.new ≡ choice_in reader.old) }
     ensures steady { OnOk result (S.faults shelf.new ≡ S.faults shelf.old) }
     ensures shown { IfErr result (Shows (S.faults shelf.old) (S.faults shelf.new)) }
     ensures later { S.faults shelf.old ≤ S.faults shelf.new }
     ensures same { S.told shelf.new ≡ S.told shelf.old }
 {
-    match read_all(alloc, shelf, name, LOG) {
-        Ok(text) => Ok(text),
-        Err(ReadAll::ReadFault) => Err(Outcome::Plain(Answer::ReadFault)),
-        Err(ReadAll::TooLong) => Err(Outcome::LongLog),
-        Err(ReadAll::Memory(_)) => Err(Outcome::Plain(Answer::Memory)),
+    let mut piece = [0u8; 4096];
+    match shelf.read_at(name, place, &mut piece) {
+        Err(_) => Err(Outcome::Plain(Answer::ReadFault)),
+        Ok(count) => match reader.read(&piece[..count]) {
+            Ok(()) => Ok(count),
+            Err(fault) => Err(Outcome::from(fault)),
+        },
     }
 }
 
-/// The log of a file; else what the call comes to.
-#[tactic(auto, using(crate::proofs::LogLemmas::has_log, crate::proofs::LogLemmas::has_bad_line, crate::proofs::LogLemmas::has_no_cycle))]
-fn log_of<S: Shelf>(alloc: Global, shelf: &mut S, name: &str) -> Result<Log, Outcome>
-    ensures read { IfOk result (HasLog (S.told shelf.old) name.now) }
+/// Reads the file of a log to its end; else what the call comes to.
+fn read_file<S: Shelf>(reader: &mut Reader, shelf: &mut S, name: &str) -> Result<(), Outcome>
+    requires read { IsReadTo (S.told shelf.old) name.now 0 reader.old }
+    requires room { HasRoom reader.old (2 ^ 45) }
+    ensures read { OnOk result (HasShortText (S.told shelf.old) name.now (λ text. HasRead text reader.new)) }
+    ensures room { OnOk result (HasRoom reader.new 1) }
     ensures refused { IfErr result
         (IsNoLog (S.told shelf.old) name.now (S.faults shelf.old) (S.faults shelf.new)) }
+    ensures choice { OnOk result (choice_in reader.new ≡ choice_in reader.old) }
     ensures steady { OnOk result (S.faults shelf.new ≡ S.faults shelf.old) }
     ensures shown { IfErr result (Shows (S.faults shelf.old) (S.faults shelf.new)) }
     ensures later { S.faults shelf.old ≤ S.faults shelf.new }
     ensures same { S.told shelf.new ≡ S.told shelf.old }
 {
-    let text = log_text(alloc, shelf, name)?;
-    match read_log(alloc, &text) {
-        Ok(log) => Ok(log),
-        Err(LogFault::BadLine { line }) => Err(Outcome::BadLog { line }),
-        Err(LogFault::NoCycle) => Err(Outcome::NoCycle),
-        Err(LogFault::Memory(_)) => Err(Outcome::Plain(Answer::Memory)),
+    let mut place: u64 = 0;
+    while place <= LOG {
+        let count = read_more(reader, shelf, name, place)?;
+        if count == 0 {
+            return Ok(());
+        }
+        place += count as u64;
     }
+    Err(Outcome::LongLog)
 }
 
-/// The drawing of these cycles of a log.
-fn drawn(alloc: Global, drawing: Drawing, log: &Log, part: Part) -> Result<Vec<u8>, AllocError>
-    requires order { part.start ≤ part.end }
-    requires within { part.end ≤ length log.now.cycles.items }
-    ensures { IfOk result (λ text. text.items ≡ drawn_text drawing part log.now) }
+/// Which cycles of a log are drawn.
+fn choice_of(drawing: Drawing, window: Window) -> Choice
+    ensures { result ≡ choice_of drawing window }
 {
     match drawing {
-        Drawing::Wave => wave(alloc, log, part),
-        Drawing::Chart => chart(alloc, log, part),
+        Drawing::Wave => Choice { window, most: None },
+        Drawing::Chart => Choice {
+            window,
+            most: Some(MOST),
+        },
+    }
+}
+
+/// The log of a file, of which the cycles that are drawn are kept; else what the call comes to.
+fn log_of<S: Shelf>(
+    alloc: Global,
+    drawing: Drawing,
+    window: Window,
+    shelf: &mut S,
+    name: &str,
+) -> Result<Log, Outcome>
+    ensures read { IfOk result (HasLog (choice_of drawing window) (S.told shelf.old) name.now) }
+    ensures refused { IfErr result
+        (IsNoLog (S.told shelf.old) name.now (S.faults shelf.old) (S.faults shelf.new)) }
+    ensures steady { OnOk result (S.faults shelf.new ≡ S.faults shelf.old) }
+    ensures shown { IfErr result (Shows (S.faults shelf.old) (S.faults shelf.new)) }
+    ensures later { S.faults shelf.old ≤ S.faults shelf.new }
+    ensures same { S.told shelf.new ≡ S.told shelf.old }
+{
+    let mut reader = Reader::make(alloc, choice_of(drawing, window))?;
+    read_file(&mut reader, shelf, name)?;
+    match reader.finish() {
+        Ok(log) => Ok(log),
+        Err(fault) => Err(Outcome::from(fault)),
+    }
+}
+
+/// The drawing of the cycles that a log keeps.
+fn drawn(alloc: Global, drawing: Drawing, log: Log) -> Result<Vec<u8>, AllocError>
+    ensures { (window : Window) (tale : Tale) → IsKept (choice_of drawing window) tale log
+        → IfOk result (λ text. text.items ≡ drawn_text drawing (part_of window tale.cycles) tale) }
+{
+    match drawing {
+        Drawing::Wave => wave(alloc, log),
+        Drawing::Chart => chart(alloc, log),
     }
 }
 
 /// What a call comes to where no cycle of a log is shown.
 fn unshown(log: &Log) -> Outcome
-    ensures { result ≡ Unshown (time_at log.now.cycles.items 0)
-        (time_at log.now.cycles.items (length log.now.cycles.items - 1)) }
+    ensures { result ≡ Unshown log.now.totals.first log.now.totals.last }
 {
     Outcome::Unshown {
-        first: time_at(&log.cycles, 0),
-        last: time_at(&log.cycles, log.cycles.len().saturating_sub(1)),
+        first: log.totals.first,
+        last: log.totals.last,
     }
 }
 
 /// The drawing of the cycles of the log of a file that a window shows; else what the call comes to.
-#[tactic(auto, using(crate::proofs::LogLemmas::undrawn_unread, crate::proofs::LogLemmas::drawing_is, crate::proofs::LogLemmas::unshown_is))]
+#[tactic(auto, using(crate::proofs::LogLemmas::undrawn_unread))]
 pub fn of_log<S: Shelf>(
     alloc: Global,
     drawing: Drawing,
@@ -103,13 +160,12 @@ pub fn of_log<S: Shelf>(
     ensures later { S.faults shelf.old ≤ S.faults shelf.new }
     ensures same { S.told shelf.new ≡ S.told shelf.old }
 {
-    let log = log_of(alloc, shelf, name)?;
-    let part = part_of(&log.cycles, window);
-    if part.is_empty() {
+    let log = log_of(alloc, drawing, window, shelf, name)?;
+    if log.excerpt.part.is_empty() {
         return Err(unshown(&log));
     }
     Ok(Output {
-        text: drawn(alloc, drawing, &log, part)?,
+        text: drawn(alloc, drawing, log)?,
         outcome: Outcome::Plain(Answer::Ok),
     })
 }

@@ -7,6 +7,7 @@ ghost use Rattle.pr_lens_tool.specs.Outcomes.{status_of, bad_log_line, line_of, 
 use arrayvec::ArrayString;
 use itoa::Buffer;
 use pr_edge::{Sink, write_all};
+use pr_lens_log::LogFault;
 use pr_tool::{Answer, Bounds, put_note};
 use std::alloc::AllocError;
 
@@ -62,7 +63,7 @@ const USAGE: &str =
 const NO_CYCLE: &str = "bad log: no cycle\n";
 
 /// The line for a log with too many bytes.
-const LONG: &str = "limit: log-bytes 16777216\n";
+const LONG: &str = "limit: log-bytes 17592186044416\n";
 
 /// The line for a module with too many bytes.
 const LONG_MODULE: &str = "limit: module-bytes 16777216\n";
@@ -175,5 +176,20 @@ impl From<AllocError> for Outcome {
 
     fn from(_error: AllocError) -> Outcome {
         Outcome::Plain(Answer::Memory)
+    }
+}
+
+impl From<LogFault> for Outcome {
+    ghost use Rattle.std.specs.Prelude.{◌≡◌};
+    ghost use Rattle.pr_lens_tool.specs.Logs.{outcome_of};
+
+    ghost from_gives = { λ a e. e ≡ outcome_of a };
+
+    fn from(fault: LogFault) -> Outcome {
+        match fault {
+            LogFault::BadLine { line } => Outcome::BadLog { line },
+            LogFault::NoCycle => Outcome::NoCycle,
+            LogFault::Memory(_) => Outcome::Plain(Answer::Memory),
+        }
     }
 }

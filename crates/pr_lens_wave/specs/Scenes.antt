@@ -1,13 +1,15 @@
 -- What a waveform tells of cycles.
-use Rattle.std.specs.Prelude.{ℕ, zero, suc, ◌+◌, ◌-◌, ◌*◌, min, Bool, true, false, not, nat_eq, nat_lt, List, [], ◌∷◌, ◌++◌, length, take, replicate, Option, Some, None, codes, decimal, slice_get, slice_set, unwrap_or, if◌then◌else◌}
+use Rattle.std.specs.Prelude.{ℕ, zero, suc, ◌+◌, ◌-◌, ◌*◌, min, Bool, true, false, not, nat_eq, nat_lt, List, [], ◌∷◌, ◌++◌, length, take, replicate, Option, Some, None, codes, decimal, slice_get, slice_range, slice_set, if◌then◌else◌}
 use Rattle.std.specs.Option.{option_eq}
 use Rattle.pr_lens_wave.specs.declared.head.Signal.{Signal}
 use Rattle.pr_lens_wave.specs.declared.head.Signal.TheVariants as signal
 use Rattle.pr_lens_log.specs.declared.lines.Logged.{Logged}
+use Rattle.pr_lens_log.specs.declared.logs.Log.{Log}
 use Rattle.pr_lens_log.specs.declared.windows.Part.{Part}
 use Rattle.pr_lens_wave.specs.declared.changes.Teller.{Teller}
-use Rattle.pr_lens_log.specs.Boards.{stage_in, after_turn}
+use Rattle.pr_lens_log.specs.Boards.{stage_in, after_turn, after_turns}
 use Rattle.pr_lens_log.specs.Lines.{is_into}
+use Rattle.pr_lens_log.specs.Pasts.{count_after, entered_after, left_after}
 use Rattle.pr_lens_log.specs.Windows.{part_in}
 use Rattle.pr_lens_wave.specs.Waves.{twice_and, number_of, number_change, bit_change, head_text}
 
@@ -58,11 +60,6 @@ cycle_shown c entered left written p =
     bit_shown signal.Stalled (not c.turn.advanced) (
     number_shown signal.Cycle (Some c.time) p)))))
 
--- the count behind a cycle in which this sample entered, or this result left
-abbrev pub count_after : ℕ → Option ℕ → ℕ
-count_after count None = count
-count_after count (Some number) = min (number + 1) 18446744073709551615
-
 -- the time at which the cycle of this number begins
 unfoldable pub time_text : ℕ → List ℕ
 time_text number = codes "#" ++ decimal (min (number * 10) 18446744073709551615) ++ codes "\n"
@@ -77,9 +74,9 @@ pub record Scene : Type 0 where
 abbrev pub scene_of : List ℕ → Teller → Scene
 scene_of text t = record {
   page = record { text = text; told = t.screen.values.items };
-  stages = t.board.stages.items;
-  entered = t.counts.entered;
-  left = t.counts.left;
+  stages = t.past.board.stages.items;
+  entered = t.past.entered;
+  left = t.past.left;
 }
 
 -- after the cycle of this number, before which so many results were written
@@ -94,40 +91,38 @@ after_cycle stripes number c written s = record {
   left = count_after s.left c.turn.left;
 }
 
--- after these cycles, of which the first has this number
+-- after these cycles, of which the first has this number, and before each of which so many results were written
 abbrev pub after_cycles : ℕ → ℕ → List Logged → List ℕ → Scene → Scene
-after_cycles stripes number [] written s = s
-after_cycles stripes number (c ∷ cs) written s =
-    after_cycles stripes (number + 1) cs written (after_cycle stripes number c (unwrap_or (slice_get written number) 0) s)
+after_cycles stripes number [] counts s = s
+after_cycles stripes number (c ∷ cs) [] s = s
+after_cycles stripes number (c ∷ cs) (count ∷ counts) s = after_cycles stripes (number + 1) cs counts (after_cycle stripes number c count s)
 
--- after a cycle of which nothing is told
-abbrev pub passed_cycle : Logged → Scene → Scene
-passed_cycle c s = record {
-  page = s.page;
-  stages = after_turn s.stages c.turn.configured;
-  entered = count_after s.entered c.turn.entered;
-  left = count_after s.left c.turn.left;
-}
-
-abbrev pub passed_cycles : List Logged → Scene → Scene
-passed_cycles [] s = s
-passed_cycles (c ∷ cs) s = passed_cycles cs (passed_cycle c s)
-
--- nothing is told yet but the signals
-abbrev pub first_scene : ℕ → List ℕ → Scene
-first_scene stripes text = record {
+-- these cycles went by, and nothing is told yet but the signals
+abbrev pub first_scene : ℕ → List Logged → List ℕ → Scene
+first_scene stripes passed text = record {
   page = record { text = text; told = replicate (twice_and stripes 6) (Some 18446744073709551615) };
-  stages = replicate stripes None;
-  entered = 0;
-  left = 0;
+  stages = after_turns (replicate stripes None) passed;
+  entered = entered_after 0 passed;
+  left = left_after 0 passed;
 }
 
 -- a text with the changes of these cycles, and the time at which the last of them ends
-abbrev pub cycles_text : Part → ℕ → List Logged → List ℕ → List ℕ → List ℕ
-cycles_text part stripes cycles written text =
-    (after_cycles stripes part.start (part_in part cycles) written (passed_cycles (take part.start cycles) (first_scene stripes text))).page.text
-    ++ time_text part.end
+abbrev pub shown_text : ℕ → Part → List Logged → List ℕ → Scene → List ℕ
+shown_text stripes part cycles counts scene = (after_cycles stripes part.start cycles counts scene).page.text ++ time_text part.end
 
 -- the waveform of these cycles of a log
 abbrev pub wave_text : Part → ℕ → List Logged → List ℕ → List ℕ
-wave_text part stripes cycles written = cycles_text part stripes cycles written (head_text stripes)
+wave_text part stripes cycles written =
+    shown_text stripes part (part_in part cycles) (slice_range written part.start part.end) (first_scene stripes (take part.start cycles) (head_text stripes))
+
+-- the cycles that a log keeps, behind a text
+abbrev pub kept_scene : Log → List ℕ → Scene
+kept_scene log text = record {
+  page = record { text = text; told = replicate (twice_and log.totals.stripes 6) (Some 18446744073709551615) };
+  stages = log.excerpt.past.board.stages.items;
+  entered = log.excerpt.past.entered;
+  left = log.excerpt.past.left;
+}
+
+abbrev pub kept_text : Log → List ℕ → List ℕ
+kept_text log text = shown_text log.totals.stripes log.excerpt.part log.excerpt.cycles.items log.excerpt.written.items (kept_scene log text)

@@ -1,14 +1,12 @@
 //! The changes of signals.
 
-ghost use Rattle.std.specs.Prelude.{◌≡◌, ◌≤◌, ◌++◌, ℕ, List, IfOk, OnOk, Some, length, replicate, None, slice_get, unwrap_or};
-ghost use Rattle.pr_lens_log.specs.Boards.{after_turn};
-ghost use Rattle.pr_lens_log.specs.Windows.{part_in};
+ghost use Rattle.std.specs.Prelude.{◌≡◌, ◌++◌, IfOk, OnOk, Some, replicate};
 ghost use Rattle.pr_lens_wave.specs.Waves.{twice_and};
-ghost use Rattle.pr_lens_wave.specs.Scenes.{bit_number, stripes_shown, cycle_shown, count_after, time_text, scene_of, after_cycle, after_cycles, cycles_text, passed_cycles};
+ghost use Rattle.pr_lens_wave.specs.Scenes.{after_cycle, after_cycles, bit_number, cycle_shown, kept_text, scene_of, stripes_shown, time_text};
 
 use crate::head::Signal;
 use crate::values::{put_bit_change, put_number_change};
-use pr_lens_log::{Board, Log, Logged, Part};
+use pr_lens_log::{Board, Excerpt, Log, Logged, Past};
 use pr_lens_text::{put, put_counted};
 use std::alloc::{AllocError, Global};
 
@@ -86,23 +84,6 @@ fn bit_number(bit: bool) -> u64
     u64::from(bit)
 }
 
-/// How many samples entered, and how many results left.
-#[derive(Clone, Copy)]
-struct Counts {
-    entered: u64,
-    left: u64,
-}
-
-/// The count behind a cycle in which this sample entered, or this result left.
-fn counted(count: u64, number: Option<u64>) -> u64
-    ensures { result ≡ count_after count number }
-{
-    match number {
-        None => count,
-        Some(number) => number.saturating_add(1),
-    }
-}
-
 /// A stage as the value of a signal.
 fn stage_value(stage: Option<u32>) -> Option<u64>
     ensures { result ≡ stage }
@@ -142,20 +123,20 @@ fn show_cycle(
     text: &mut Vec<u8>,
     screen: &mut Screen,
     logged: &Logged,
-    counts: Counts,
+    past: &Past,
     written: u64,
 ) -> Result<(), AllocError>
     ensures { OnOk result (record { text = text.new.items; told = screen.new.values.items }
-        ≡ cycle_shown logged.now counts.entered counts.left written
+        ≡ cycle_shown logged.now past.now.entered past.now.left written
         (record { text = text.old.items; told = screen.old.values.items })) }
 {
     screen.show(alloc, text, Signal::Cycle, Some(logged.time))?;
     screen.show_bit(text, Signal::Stalled, !logged.turn.advanced)?;
     screen.show(alloc, text, Signal::Sample, logged.turn.entered)?;
     screen.show(alloc, text, Signal::Result, logged.turn.left)?;
-    let under_way = counts.entered.saturating_sub(counts.left);
+    let under_way = past.entered.saturating_sub(past.left);
     screen.show(alloc, text, Signal::UnderWay, Some(under_way))?;
-    let waiting = counts.left.saturating_sub(written);
+    let waiting = past.left.saturating_sub(written);
     screen.show(alloc, text, Signal::Waiting, Some(waiting))
 }
 
@@ -186,123 +167,83 @@ fn put_time(text: &mut Vec<u8>, number: usize) -> Result<(), AllocError>
 #[derive(Drop)]
 struct Teller {
     screen: Screen,
-    board: Board,
-    counts: Counts,
+    /// What the cycles so far left behind.
+    past: Past,
+    stripes: usize,
 }
 
-/// A teller for so many stripes, who told nothing yet.
-fn teller_of(alloc: Global, stripes: usize) -> Result<Teller, AllocError>
-    ensures screen { IfOk result (λ teller. teller.screen.values.items
-        ≡ replicate (twice_and stripes 6) (Some 18446744073709551615)) }
-    ensures board { IfOk result (λ teller. teller.board.stages.items ≡ replicate stripes None) }
-    ensures entered { IfOk result (λ teller. teller.counts.entered ≡ 0) }
-    ensures left { IfOk result (λ teller. teller.counts.left ≡ 0) }
-{
-    let screen = screen_of(alloc, stripes)?;
-    let board = Board::make(alloc, stripes)?;
-    let counts = Counts {
-        entered: 0,
-        left: 0,
-    };
-    Ok(Teller {
-        screen,
-        board,
-        counts,
-    })
-}
-
-/// A cycle goes by.
-fn pass(teller: &mut Teller, logged: &Logged)
-    ensures screen { teller.new.screen ≡ teller.old.screen }
-    ensures board { teller.new.board.stages.items
-        ≡ after_turn teller.old.board.stages.items logged.now.turn.configured }
-    ensures entered { teller.new.counts.entered ≡ count_after teller.old.counts.entered logged.now.turn.entered }
-    ensures left { teller.new.counts.left ≡ count_after teller.old.counts.left logged.now.turn.left }
-{
-    teller.board.step(&logged.turn);
-    teller.counts = Counts {
-        entered: counted(teller.counts.entered, logged.turn.entered),
-        left: counted(teller.counts.left, logged.turn.left),
-    };
-}
-
-/// These cycles go by, and nothing is told of them.
-fn pass_all(teller: &mut Teller, cycles: &[Logged])
-    ensures { (text : List ℕ) → scene_of text teller.new ≡ passed_cycles cycles.now (scene_of text teller.old) }
-{
-    for logged in cycles {
-        pass(teller, logged);
-    }
-}
-
-/// Adds the changes of the cycle of this number.
+/// Adds the changes of the cycle of this number, before which so many results were written.
 #[tactic(auto, unfolding(crate::specs::Scenes::after_cycle))]
 fn put_cycle(
     alloc: Global,
     text: &mut Vec<u8>,
     teller: &mut Teller,
-    log: &Log,
     number: usize,
+    written: usize,
     logged: &Logged,
 ) -> Result<(), AllocError>
-    ensures { OnOk result (scene_of text.new.items teller.new ≡ after_cycle log.now.stripes number logged.now
-        (unwrap_or (slice_get log.now.written.items number) 0) (scene_of text.old.items teller.old)) }
+    ensures cycle { OnOk result (scene_of text.new.items teller.new
+        ≡ after_cycle teller.old.stripes number logged.now written (scene_of text.old.items teller.old)) }
+    ensures stripes { teller.new.stripes ≡ teller.old.stripes }
 {
     put_time(text, number)?;
-    pass(teller, logged);
-    let counts = teller.counts;
-    let written = log.written.get(number).copied().unwrap_or(0);
+    teller.past.step(&logged.turn);
     show_stripes(
         alloc,
         text,
         &mut teller.screen,
-        &teller.board,
+        &teller.past.board,
         logged,
-        log.stripes,
+        teller.stripes,
     )?;
     show_cycle(
         alloc,
         text,
         &mut teller.screen,
         logged,
-        counts,
+        &teller.past,
         written as u64,
     )
 }
 
-/// Adds the changes of the cycles from a place on that stand before another.
+/// Adds the changes of these cycles, of which the first has this number, and before each of which so many results were
+/// written.
 fn put_part(
     alloc: Global,
     text: &mut Vec<u8>,
     teller: &mut Teller,
-    log: &Log,
-    part: Part,
+    first: usize,
+    cycles: &[Logged],
+    written: &[usize],
 ) -> Result<(), AllocError>
-    requires order { part.start ≤ part.end }
-    requires within { part.end ≤ length log.now.cycles.items }
-    ensures { OnOk result (scene_of text.new.items teller.new ≡ after_cycles log.now.stripes part.start
-        (part_in part log.now.cycles.items) log.now.written.items (scene_of text.old.items teller.old)) }
+    ensures { OnOk result (scene_of text.new.items teller.new
+        ≡ after_cycles teller.old.stripes first cycles.now written.now (scene_of text.old.items teller.old)) }
 {
-    for (index, logged) in log.cycles[part.start..part.end].iter().enumerate() {
-        put_cycle(alloc, text, teller, log, part.start + index, logged)?;
+    for index in 0..cycles.len().min(written.len()) {
+        let number = first.saturating_add(index);
+        put_cycle(alloc, text, teller, number, written[index], &cycles[index])?;
     }
     Ok(())
 }
 
-/// Adds the changes of these cycles, and the time at which the last of them ends.
-pub fn put_cycles(
-    alloc: Global,
-    text: &mut Vec<u8>,
-    log: &Log,
-    part: Part,
-) -> Result<(), AllocError>
-    requires order { part.start ≤ part.end }
-    requires within { part.end ≤ length log.now.cycles.items }
-    ensures { OnOk result (text.new.items
-        ≡ cycles_text part log.now.stripes log.now.cycles.items log.now.written.items text.old.items) }
+/// Adds the changes of the cycles that a log keeps, and the time at which the last of those that are shown ends.
+pub fn put_cycles(alloc: Global, text: &mut Vec<u8>, log: Log) -> Result<(), AllocError>
+    ensures { OnOk result (text.new.items ≡ kept_text log text.old.items) }
 {
-    let mut teller = teller_of(alloc, log.stripes)?;
-    pass_all(&mut teller, &log.cycles[..part.start]);
-    put_part(alloc, text, &mut teller, log, part)?;
+    let Log { totals, excerpt } = log;
+    let Excerpt {
+        part,
+        past,
+        cycles,
+        written,
+    } = excerpt;
+    let screen = screen_of(alloc, totals.stripes)?;
+    let stripes = totals.stripes;
+    let mut teller = Teller {
+        screen,
+        past,
+        stripes,
+    };
+    put_part(alloc, text, &mut teller, part.start, &cycles, &written)?;
     put_time(text, part.end)
 }

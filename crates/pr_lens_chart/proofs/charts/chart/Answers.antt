@@ -1,20 +1,7 @@
-use Rattle.std.proofs.lemmas.Result.{IfOk-from_err}
+use Rattle.std.proofs.Common.{◌∙◌, List, ℕ}
+use Rattle.std.proofs.lemmas.Result.{IfOk-weaker}
+use Rattle.pr_lens_chart.proofs.PictureLaws.{kept_chart}
 use Rattle.pr_lens_chart.proofs.charts.chart.Goals as goal
 
-pub returns-in_err-board : goal.returns-in_err-board
-returns-in_err-board c = IfOk-from_err _ _ c.from_residual.ensures.0
-
-pub returns-in_err-put_head : goal.returns-in_err-put_head
-returns-in_err-put_head c = IfOk-from_err _ _ c.from_residual-in_err-put_head.ensures.0
-
-pub returns-in_err-put_names : goal.returns-in_err-put_names
-returns-in_err-put_names c = IfOk-from_err _ _ c.from_residual-in_err-put_names.ensures.0
-
-pub returns-in_err-put_cycles : goal.returns-in_err-put_cycles
-returns-in_err-put_cycles c = IfOk-from_err _ _ c.from_residual-in_err-put_cycles.ensures.0
-
-pub returns-in_err-put_legend : goal.returns-in_err-put_legend
-returns-in_err-put_legend c = IfOk-from_err _ _ c.from_residual-in_err-put_legend.ensures.0
-
-pub returns-in_err-put_end : goal.returns-in_err-put_end
-returns-in_err-put_end c = IfOk-from_err _ _ c.from_residual-in_err-put_end.ensures.0
+pub returns : goal.returns
+returns c = λ window tale h. IfOk-weaker c.picture.result _ _ (λ text is. is ∙ kept_chart window tale c.args.log h) c.picture.ensures
