@@ -86,9 +86,9 @@ pub read_whole : (told : Told) (name : List ℕ) (place : ℕ) (r : Reader) → 
     → OfFile told name (λ file. length file ≤ place) → HasShortText told name (λ text. HasRead text r)
 read_whole told name place r read less there end =
     let whole : (file : List ℕ) → IsPrefix read.bytes file → length file ≤ place → (length file ≤ most_log_bytes) × HasRead file r = λ file front ends.
-        (omega (arith, less, ends), subst (λ (t : List ℕ). HasRead t r) (front.front ∙ take_all (length read.bytes) file (omega (arith, ends, read.count))) read.read) in
+    (omega (arith, less, ends), subst (λ (t : List ℕ). HasRead t r) (front.front ∙ take_all (length read.bytes) file (omega (arith, ends, read.count))) read.read) in
     let has = text_of told name read.bytes (λ text. (length text ≤ most_log_bytes) × HasRead text r) there (omega (arith, read.count, less), read.read)
-        (of_both told name (IsPrefix read.bytes) (λ file. length file ≤ place) (λ file. (length file ≤ most_log_bytes) × HasRead file r) read.file end whole) in
+    (of_both told name (IsPrefix read.bytes) (λ file. length file ≤ place) (λ file. (length file ≤ most_log_bytes) × HasRead file r) read.file end whole) in
     record { text = has.text; file = has.file; short = has.is.0; is = has.is.1 }
 
 front_some : (o : Option (List ℕ)) → IfSome o (IsPrefix [])
