@@ -26,4 +26,4 @@ returns-in-Err-clause-refused g c =
     (no_log told name (g.S.Shelf.faults c.args.shelf.now) (g.S.Shelf.faults c.read_file.new.shelf) c.in-Err.fault bad)
 
 pub returns-in-Err-clause-shown : goal.returns-in-Err-clause-shown
-returns-in-Err-clause-shown g c = inr c.in_ok-read_file.ensures.steady
+returns-in-Err-clause-shown g c = inr (inr c.in_ok-read_file.ensures.steady)

@@ -72,7 +72,7 @@ returns-clause-refused g c =
     long_log (g.S.Shelf.told c.args.shelf.now) c.args.name.now c.loop-place.place 17592186044416 c.loop-place.reader c.loop-place.invariant.read (omega arith) (c.loop-place.invariant.there (omega arith))
 
 pub returns-clause-shown : goal.returns-clause-shown
-returns-clause-shown g c = inr c.loop-place.invariant.steady
+returns-clause-shown g c = inr (inr c.loop-place.invariant.steady)
 
 pub overflow_add-place : goal.overflow_add-place
 overflow_add-place g c =

@@ -22,4 +22,4 @@ returns-in-Err-read-clause-refused g c =
     (line_refused (g.S.Shelf.told c.args.shelf.now) c.args.name.now (g.S.Shelf.faults c.args.shelf.now) (g.S.Shelf.faults c.read_at.new.self) c.in-Err-read.fault bad)
 
 pub returns-in-Err-read-clause-shown : goal.returns-in-Err-read-clause-shown
-returns-in-Err-read-clause-shown g c = inr c.in-Ok.ensures.steady
+returns-in-Err-read-clause-shown g c = inr (inr c.in-Ok.ensures.steady)
