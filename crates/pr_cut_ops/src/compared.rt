@@ -10,6 +10,7 @@ ghost use Rattle.pr_cut_units.specs.Products.{product};
 ghost use Rattle.pr_cut_units.specs.Widening.{widened};
 ghost use Rattle.pr_cut_units.specs.Table.{factor_width, multiplied};
 ghost use Rattle.pr_cut_cells.specs.Arguments.{argument_of, both_at};
+ghost use Rattle.pr_cut_ops.specs.Makes.{Makes};
 
 use crate::operators::{bitwise, chosen};
 use crate::sums::{added, carried_equal, carried_less, sign_unit, subtracted};
@@ -96,7 +97,6 @@ pub fn compared_width(a: &Argument, b: &Argument) -> u8
 }
 
 /// Bit `m` of a difference, or its inverse.
-#[tactic(auto, using(pr_cut_units::proofs::JoinLemmas::then_units, pr_cut_units::proofs::JoinLemmas::then_slices))]
 fn sign_of_difference(
     alloc: Global,
     units: &mut Vec<Unit>,
@@ -107,14 +107,10 @@ fn sign_of_difference(
 ) -> Result<Vec<Slice>, AllocError>
     requires few { m ≤ 129 }
     requires fits { length units.old.items + 48 < 2 ^ 32 }
-    ensures grows { OnOk result (length units.new.items ≤ length units.old.items + 48) }
-    ensures units { IfOk result (λ s. units.new.items ≡
-        units_after units.old.items (difference_sign m table x.now y.now)) }
-    ensures slices { IfOk result (λ s. s.items ≡ slices_after units.old.items (difference_sign m table x.now y.now)) }
+    ensures { Makes 48 (difference_sign m table x.now y.now) units.old units.new result }
 {
     let difference = subtracted(alloc, units, m + 1, x, y)?;
-    let bit = sign_unit(alloc, units, m, table, &difference)?;
-    Ok(bit)
+    sign_unit(alloc, units, m, table, &difference)
 }
 
 /// And, Or and Xor.
@@ -127,11 +123,7 @@ pub fn both_bitwise(
     b: &Argument,
 ) -> Result<Vec<Slice>, AllocError>
     requires fits { length units.old.items + 3 < 2 ^ 32 }
-    ensures grows { OnOk result (length units.new.items ≤ length units.old.items + 3) }
-    ensures units { IfOk result (λ s. units.new.items ≡
-        units_after units.old.items (both_at e a.now b.now (bitwise e table))) }
-    ensures slices { IfOk result (λ s. s.items ≡
-        slices_after units.old.items (both_at e a.now b.now (bitwise e table))) }
+    ensures { Makes 3 (both_at e a.now b.now (bitwise e table)) units.old units.new result }
 {
     let both = both_widened(alloc, units, e, a, b)?;
     bitwise(alloc, units, e, table, &both.a, &both.b)
@@ -146,9 +138,7 @@ pub fn both_added(
     b: &Argument,
 ) -> Result<Vec<Slice>, AllocError>
     requires fits { length units.old.items + 50 < 2 ^ 32 }
-    ensures grows { OnOk result (length units.new.items ≤ length units.old.items + 50) }
-    ensures units { IfOk result (λ s. units.new.items ≡ units_after units.old.items (both_at e a.now b.now (added e))) }
-    ensures slices { IfOk result (λ s. s.items ≡ slices_after units.old.items (both_at e a.now b.now (added e))) }
+    ensures { Makes 50 (both_at e a.now b.now (added e)) units.old units.new result }
 {
     let both = both_widened(alloc, units, e, a, b)?;
     added(alloc, units, e, &both.a, &both.b)
@@ -163,10 +153,7 @@ pub fn both_subtracted(
     b: &Argument,
 ) -> Result<Vec<Slice>, AllocError>
     requires fits { length units.old.items + 50 < 2 ^ 32 }
-    ensures grows { OnOk result (length units.new.items ≤ length units.old.items + 50) }
-    ensures units { IfOk result (λ s. units.new.items ≡
-        units_after units.old.items (both_at e a.now b.now (subtracted e))) }
-    ensures slices { IfOk result (λ s. s.items ≡ slices_after units.old.items (both_at e a.now b.now (subtracted e))) }
+    ensures { Makes 50 (both_at e a.now b.now (subtracted e)) units.old units.new result }
 {
     let both = both_widened(alloc, units, e, a, b)?;
     subtracted(alloc, units, e, &both.a, &both.b)
@@ -182,11 +169,7 @@ pub fn both_chosen(
     b: &Argument,
 ) -> Result<Vec<Slice>, AllocError>
     requires fits { length units.old.items + 3 < 2 ^ 32 }
-    ensures grows { OnOk result (length units.new.items ≤ length units.old.items + 3) }
-    ensures units { IfOk result (λ s. units.new.items ≡
-        units_after units.old.items (both_at e a.now b.now (chosen e c.now))) }
-    ensures slices { IfOk result (λ s. s.items ≡
-        slices_after units.old.items (both_at e a.now b.now (chosen e c.now))) }
+    ensures { Makes 3 (both_at e a.now b.now (chosen e c.now)) units.old units.new result }
 {
     let both = both_widened(alloc, units, e, a, b)?;
     chosen(alloc, units, e, c, &both.a, &both.b)
@@ -202,11 +185,7 @@ fn both_multiplied(
     b: &Argument,
 ) -> Result<Vec<Slice>, AllocError>
     requires fits { length units.old.items + 20000 < 2 ^ 32 }
-    ensures grows { OnOk result (length units.new.items ≤ length units.old.items + 20000) }
-    ensures units { IfOk result (λ s. units.new.items ≡
-        units_after units.old.items (both_at e a.now b.now (λ x y. product e x widths.0 y widths.1))) }
-    ensures slices { IfOk result (λ s. s.items ≡
-        slices_after units.old.items (both_at e a.now b.now (λ x y. product e x widths.0 y widths.1))) }
+    ensures { Makes 20000 (both_at e a.now b.now (λ x y. product e x widths.0 y widths.1)) units.old units.new result }
 {
     let both = both_widened(alloc, units, e, a, b)?;
     let factors = Factors {
@@ -229,11 +208,7 @@ fn both_signed_less(
 ) -> Result<Vec<Slice>, AllocError>
     requires few { m ≤ 129 }
     requires fits { length units.old.items + 60 < 2 ^ 32 }
-    ensures grows { OnOk result (length units.new.items ≤ length units.old.items + 60) }
-    ensures units { IfOk result (λ s. units.new.items ≡
-        units_after units.old.items (both_at (m + 1) a.now b.now (difference_sign m table))) }
-    ensures slices { IfOk result (λ s. s.items ≡
-        slices_after units.old.items (both_at (m + 1) a.now b.now (difference_sign m table))) }
+    ensures { Makes 60 (both_at (m + 1) a.now b.now (difference_sign m table)) units.old units.new result }
 {
     let both = both_widened(alloc, units, m + 1, a, b)?;
     sign_of_difference(alloc, units, m, table, &both.a, &both.b)
@@ -249,11 +224,7 @@ fn both_equal(
     b: &Argument,
 ) -> Result<Vec<Slice>, AllocError>
     requires fits { length units.old.items + 60 < 2 ^ 32 }
-    ensures grows { OnOk result (length units.new.items ≤ length units.old.items + 60) }
-    ensures units { IfOk result (λ s. units.new.items ≡
-        units_after units.old.items (both_at m a.now b.now (equal_at m closing))) }
-    ensures slices { IfOk result (λ s. s.items ≡
-        slices_after units.old.items (both_at m a.now b.now (equal_at m closing))) }
+    ensures { Makes 60 (both_at m a.now b.now (equal_at m closing)) units.old units.new result }
 {
     let both = both_widened(alloc, units, m, a, b)?;
     carried_equal(alloc, units, m, closing, &both.a, &both.b)
@@ -268,11 +239,7 @@ pub fn multiplied(
     b: &Argument,
 ) -> Result<Vec<Slice>, AllocError>
     requires fits { length units.old.items + 20000 < 2 ^ 32 }
-    ensures grows { OnOk result (length units.new.items ≤ length units.old.items + 20000) }
-    ensures units { IfOk result (λ s. units.new.items ≡
-        units_after units.old.items (multiplied e (argument_of a.now) (argument_of b.now))) }
-    ensures slices { IfOk result (λ s. s.items ≡
-        slices_after units.old.items (multiplied e (argument_of a.now) (argument_of b.now))) }
+    ensures { Makes 20000 (multiplied e (argument_of a.now) (argument_of b.now)) units.old units.new result }
 {
     let any = is_any_signed(a, b);
     let wa = factor_width(any, e, a);
@@ -289,11 +256,7 @@ fn signed_less(
     b: &Argument,
 ) -> Result<Vec<Slice>, AllocError>
     requires fits { length units.old.items + 60 < 2 ^ 32 }
-    ensures grows { OnOk result (length units.new.items ≤ length units.old.items + 60) }
-    ensures units { IfOk result (λ s. units.new.items ≡
-        units_after units.old.items (signed_less table (argument_of a.now) (argument_of b.now))) }
-    ensures slices { IfOk result (λ s. s.items ≡
-        slices_after units.old.items (signed_less table (argument_of a.now) (argument_of b.now))) }
+    ensures { Makes 60 (signed_less table (argument_of a.now) (argument_of b.now)) units.old units.new result }
 {
     let m = signed_width(a).max(signed_width(b));
     both_signed_less(alloc, units, m, table, a, b)
@@ -308,15 +271,10 @@ pub fn equal(
     b: &Argument,
 ) -> Result<Vec<Slice>, AllocError>
     requires fits { length units.old.items + 60 < 2 ^ 32 }
-    ensures grows { OnOk result (length units.new.items ≤ length units.old.items + 60) }
-    ensures units { IfOk result (λ s. units.new.items ≡
-        units_after units.old.items (equal closing (argument_of a.now) (argument_of b.now))) }
-    ensures slices { IfOk result (λ s. s.items ≡
-        slices_after units.old.items (equal closing (argument_of a.now) (argument_of b.now))) }
+    ensures { Makes 60 (equal closing (argument_of a.now) (argument_of b.now)) units.old units.new result }
 {
     let m = compared_width(a, b);
-    let all = both_equal(alloc, units, m, closing, a, b)?;
-    Ok(all)
+    both_equal(alloc, units, m, closing, a, b)
 }
 
 /// The width of a factor as the rows see it.
@@ -338,11 +296,7 @@ pub fn less(
     b: &Argument,
 ) -> Result<Vec<Slice>, AllocError>
     requires fits { length units.old.items + 60 < 2 ^ 32 }
-    ensures grows { OnOk result (length units.new.items ≤ length units.old.items + 60) }
-    ensures units { IfOk result (λ s. units.new.items ≡
-        units_after units.old.items (less (argument_of a.now) (argument_of b.now))) }
-    ensures slices { IfOk result (λ s. s.items ≡
-        slices_after units.old.items (less (argument_of a.now) (argument_of b.now))) }
+    ensures { Makes 60 (less (argument_of a.now) (argument_of b.now)) units.old units.new result }
 {
     if is_any_signed(a, b) {
         return signed_less(alloc, units, 0xf0, a, b);
@@ -365,11 +319,7 @@ pub fn greater_equal(
     b: &Argument,
 ) -> Result<Vec<Slice>, AllocError>
     requires fits { length units.old.items + 60 < 2 ^ 32 }
-    ensures grows { OnOk result (length units.new.items ≤ length units.old.items + 60) }
-    ensures units { IfOk result (λ s. units.new.items ≡
-        units_after units.old.items (greater_equal (argument_of a.now) (argument_of b.now))) }
-    ensures slices { IfOk result (λ s. s.items ≡
-        slices_after units.old.items (greater_equal (argument_of a.now) (argument_of b.now))) }
+    ensures { Makes 60 (greater_equal (argument_of a.now) (argument_of b.now)) units.old units.new result }
 {
     if is_any_signed(a, b) {
         return signed_less(alloc, units, 0x0f, a, b);

@@ -1,11 +1,12 @@
 //! Operators that are one unit.
 
-ghost use Rattle.std.specs.Prelude.{ℕ, false, if◌then◌else◌, ◌≡◌, ◌≤◌, ◌<◌, ◌+◌, ◌/◌, ◌^◌, length, vec_len, OnOk, IfOk, nat_lt};
+ghost use Rattle.std.specs.Prelude.{ℕ, false, if◌then◌else◌, ◌≡◌, ◌≤◌, ◌<◌, ◌+◌, ◌/◌, ◌^◌, length, vec_len, IfOk, nat_lt};
 ghost use Rattle.pr_base.specs.Numbers.{slices_of};
 ghost use Rattle.pr_cut_units.specs.Cells.{slice_at, slice_below};
-ghost use Rattle.pr_cut_units.specs.Parts.{each, units_after, slices_after};
+ghost use Rattle.pr_cut_units.specs.Parts.{each};
 ghost use Rattle.pr_cut_units.specs.Widening.{read_as};
 ghost use Rattle.pr_cut_units.specs.Operators.{input_cell, input_unit, bitwise_cell, bitwise, inverted_cell, inverted, chosen_cell, chosen, moved_left_cell, moved_left, extracted_cell, extracted, joined_slice, joined_cell, concatenated, ends_whole};
+ghost use Rattle.pr_cut_ops.specs.Makes.{Makes};
 
 use pr_base::{Mode, Next, slices};
 use pr_cut_cells::{
@@ -42,9 +43,7 @@ pub fn input_unit(
 ) -> Result<Vec<Slice>, AllocError>
     requires place { offset ≤ 128 }
     requires fits { length units.old.items < 2 ^ 32 }
-    ensures grows { OnOk result (length units.new.items ≤ length units.old.items + 1) }
-    ensures units { OnOk result (units.new.items ≡ units_after units.old.items (input_unit w offset)) }
-    ensures slices { IfOk result (λ s. s.items ≡ slices_after units.old.items (input_unit w offset)) }
+    ensures { Makes 1 (input_unit w offset) units.old units.new result }
 {
     let cells = input_cells(alloc, w, offset)?;
     push_unit(alloc, units, cells)
@@ -85,9 +84,7 @@ pub fn bitwise(
     y: &[Slice],
 ) -> Result<Vec<Slice>, AllocError>
     requires fits { length units.old.items < 2 ^ 32 }
-    ensures grows { OnOk result (length units.new.items ≤ length units.old.items + 1) }
-    ensures units { OnOk result (units.new.items ≡ units_after units.old.items (bitwise e table x.now y.now)) }
-    ensures slices { IfOk result (λ s. s.items ≡ slices_after units.old.items (bitwise e table x.now y.now)) }
+    ensures { Makes 1 (bitwise e table x.now y.now) units.old units.new result }
 {
     let cells = bitwise_cells(alloc, e, table, x, y)?;
     push_unit(alloc, units, cells)
@@ -119,9 +116,7 @@ pub fn inverted(
     x: &[Slice],
 ) -> Result<Vec<Slice>, AllocError>
     requires fits { length units.old.items < 2 ^ 32 }
-    ensures grows { OnOk result (length units.new.items ≤ length units.old.items + 1) }
-    ensures units { OnOk result (units.new.items ≡ units_after units.old.items (inverted e x.now)) }
-    ensures slices { IfOk result (λ s. s.items ≡ slices_after units.old.items (inverted e x.now)) }
+    ensures { Makes 1 (inverted e x.now) units.old units.new result }
 {
     let cells = inverted_cells(alloc, e, x)?;
     push_unit(alloc, units, cells)
@@ -163,9 +158,7 @@ pub fn chosen(
     y: &[Slice],
 ) -> Result<Vec<Slice>, AllocError>
     requires fits { length units.old.items < 2 ^ 32 }
-    ensures grows { OnOk result (length units.new.items ≤ length units.old.items + 1) }
-    ensures units { OnOk result (units.new.items ≡ units_after units.old.items (chosen e c.now x.now y.now)) }
-    ensures slices { IfOk result (λ s. s.items ≡ slices_after units.old.items (chosen e c.now x.now y.now)) }
+    ensures { Makes 1 (chosen e c.now x.now y.now) units.old units.new result }
 {
     let cells = chosen_cells(alloc, e, c, x, y)?;
     push_unit(alloc, units, cells)
@@ -228,9 +221,7 @@ pub fn moved_left(
     x: &[Slice],
 ) -> Result<Vec<Slice>, AllocError>
     requires fits { length units.old.items < 2 ^ 32 }
-    ensures grows { OnOk result (length units.new.items ≤ length units.old.items + 1) }
-    ensures units { OnOk result (units.new.items ≡ units_after units.old.items (moved_left e w k x.now)) }
-    ensures slices { IfOk result (λ s. s.items ≡ slices_after units.old.items (moved_left e w k x.now)) }
+    ensures { Makes 1 (moved_left e w k x.now) units.old units.new result }
 {
     if k % 8 == 0 && ends_whole(u64::from(e), u64::from(w) + u64::from(k)) {
         return moved_left_slices(alloc, e, w, k, x);
@@ -299,9 +290,7 @@ pub fn extracted(
 ) -> Result<Vec<Slice>, AllocError>
     requires small { l < 2 ^ 32 }
     requires fits { length units.old.items < 2 ^ 32 }
-    ensures grows { OnOk result (length units.new.items ≤ length units.old.items + 1) }
-    ensures units { OnOk result (units.new.items ≡ units_after units.old.items (extracted e w l x.now)) }
-    ensures slices { IfOk result (λ s. s.items ≡ slices_after units.old.items (extracted e w l x.now)) }
+    ensures { Makes 1 (extracted e w l x.now) units.old units.new result }
 {
     if l % 8 == 0 && ends_whole(l + u64::from(e), u64::from(w)) {
         return extracted_slices(alloc, e, w, l, x);
@@ -368,11 +357,8 @@ pub fn joined(
     y: &[Slice],
 ) -> Result<Vec<Slice>, AllocError>
     requires fits { length units.old.items < 2 ^ 32 }
-    ensures grows { OnOk result (length units.new.items ≤ length units.old.items + 1) }
-    ensures units { IfOk result (λ s. units.new.items ≡
-        units_after units.old.items (concatenated e (read_as false widths.0 x.now) (read_as false widths.1 y.now))) }
-    ensures slices { IfOk result (λ s. s.items ≡
-        slices_after units.old.items (concatenated e (read_as false widths.0 x.now) (read_as false widths.1 y.now))) }
+    ensures { Makes 1 (concatenated e (read_as false widths.0 x.now) (read_as false widths.1 y.now))
+        units.old units.new result }
 {
     let (wa, wb) = widths;
     if wb % 8 == 0 && ends_whole(u64::from(e), u64::from(wa) + u64::from(wb)) {

@@ -5,6 +5,7 @@ ghost use Rattle.pr_base.specs.Numbers.{slices_of};
 ghost use Rattle.pr_net.specs.declared.cells.Slice.{Slice};
 ghost use Rattle.pr_cut_units.specs.Parts.{each, units_after, slices_after};
 ghost use Rattle.pr_cut_units.specs.States.{delayed_cell, delayed, hold_cell, later_cell, hold_units};
+ghost use Rattle.pr_cut_ops.specs.Makes.{Makes};
 
 use pr_base::{Next, byte_of, slices};
 use pr_cut_cells::{byte, plain, push_unit, slices_of_unit, top};
@@ -46,9 +47,7 @@ pub fn delayed(
     x: &[Slice],
 ) -> Result<Vec<Slice>, AllocError>
     requires fits { length units.old.items < 2 ^ 32 }
-    ensures grows { OnOk result (length units.new.items ≤ length units.old.items + 1) }
-    ensures units { OnOk result (units.new.items ≡ units_after units.old.items (delayed w c x.now)) }
-    ensures slices { IfOk result (λ s. s.items ≡ slices_after units.old.items (delayed w c x.now)) }
+    ensures { Makes 1 (delayed w c x.now) units.old units.new result }
 {
     let cells = delayed_cells(alloc, w, c, x, units.len() as u32)?;
     push_unit(alloc, units, cells)

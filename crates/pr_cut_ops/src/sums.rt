@@ -1,10 +1,11 @@
 //! Sums, differences and comparisons of slices.
 
-ghost use Rattle.std.specs.Prelude.{ℕ, ◌≡◌, ◌≤◌, ◌<◌, ◌+◌, ◌^◌, length, vec_len, OnOk, IfOk};
+ghost use Rattle.std.specs.Prelude.{ℕ, ◌≡◌, ◌≤◌, ◌<◌, ◌+◌, ◌^◌, length, vec_len, IfOk};
 ghost use Rattle.pr_base.specs.Numbers.{slices_of};
 ghost use Rattle.pr_cut_units.specs.Cells.{plain, bit_of};
-ghost use Rattle.pr_cut_units.specs.Parts.{each, units_after, slices_after};
+ghost use Rattle.pr_cut_units.specs.Parts.{each};
 ghost use Rattle.pr_cut_units.specs.Operators.{sum_cell, masked_cell, added, subtracted, difference_carry, equal_cell, equal_at, sign_unit};
+ghost use Rattle.pr_cut_ops.specs.Makes.{Makes};
 
 use pr_base::{Carry, Mode, slices};
 use pr_cut_cells::{bit_of, byte, chain, closed_chain, plain, push_unit, top};
@@ -85,9 +86,7 @@ pub fn added(
     y: &[Slice],
 ) -> Result<Vec<Slice>, AllocError>
     requires fits { length units.old.items + 40 < 2 ^ 32 }
-    ensures grows { OnOk result (length units.new.items ≤ length units.old.items + 40) }
-    ensures units { OnOk result (units.new.items ≡ units_after units.old.items (added e x.now y.now)) }
-    ensures slices { IfOk result (λ s. s.items ≡ slices_after units.old.items (added e x.now y.now)) }
+    ensures { Makes 40 (added e x.now y.now) units.old units.new result }
 {
     let cells = sum_cells(alloc, e, 0xcc, x, y)?;
     chain(alloc, units, Style::ByBit, Carry::Zero, &cells)
@@ -102,9 +101,7 @@ pub fn subtracted(
     y: &[Slice],
 ) -> Result<Vec<Slice>, AllocError>
     requires fits { length units.old.items + 40 < 2 ^ 32 }
-    ensures grows { OnOk result (length units.new.items ≤ length units.old.items + 40) }
-    ensures units { OnOk result (units.new.items ≡ units_after units.old.items (subtracted e x.now y.now)) }
-    ensures slices { IfOk result (λ s. s.items ≡ slices_after units.old.items (subtracted e x.now y.now)) }
+    ensures { Makes 40 (subtracted e x.now y.now) units.old units.new result }
 {
     let cells = sum_cells(alloc, e, 0x33, x, y)?;
     chain(alloc, units, Style::ByBit, Carry::One, &cells)
@@ -120,11 +117,7 @@ pub fn carried_less(
     y: &[Slice],
 ) -> Result<Vec<Slice>, AllocError>
     requires fits { length units.old.items + 40 < 2 ^ 32 }
-    ensures grows { OnOk result (length units.new.items ≤ length units.old.items + 40) }
-    ensures units { OnOk result (units.new.items ≡
-        units_after units.old.items (difference_carry w closing x.now y.now)) }
-    ensures slices { IfOk result (λ s. s.items ≡
-        slices_after units.old.items (difference_carry w closing x.now y.now)) }
+    ensures { Makes 40 (difference_carry w closing x.now y.now) units.old units.new result }
 {
     let cells = difference_cells(alloc, w, x, y)?;
     closed_chain(alloc, units, Carry::One, closing, &cells)
@@ -140,9 +133,7 @@ pub fn carried_equal(
     y: &[Slice],
 ) -> Result<Vec<Slice>, AllocError>
     requires fits { length units.old.items + 40 < 2 ^ 32 }
-    ensures grows { OnOk result (length units.new.items ≤ length units.old.items + 40) }
-    ensures units { OnOk result (units.new.items ≡ units_after units.old.items (equal_at w closing x.now y.now)) }
-    ensures slices { IfOk result (λ s. s.items ≡ slices_after units.old.items (equal_at w closing x.now y.now)) }
+    ensures { Makes 40 (equal_at w closing x.now y.now) units.old units.new result }
 {
     let cells = equal_cells(alloc, w, x, y)?;
     closed_chain(alloc, units, Carry::One, closing, &cells)
@@ -173,9 +164,7 @@ pub fn sign_unit(
     d: &[Slice],
 ) -> Result<Vec<Slice>, AllocError>
     requires fits { length units.old.items < 2 ^ 32 }
-    ensures grows { OnOk result (length units.new.items ≤ length units.old.items + 1) }
-    ensures units { OnOk result (units.new.items ≡ units_after units.old.items (sign_unit m table d.now)) }
-    ensures slices { IfOk result (λ s. s.items ≡ slices_after units.old.items (sign_unit m table d.now)) }
+    ensures { Makes 1 (sign_unit m table d.now) units.old units.new result }
 {
     let cells = sign_cell(alloc, m, table, d)?;
     push_unit(alloc, units, cells)

@@ -1,15 +1,16 @@
 //! The table: the units of an operator.
 
-ghost use Rattle.std.specs.Prelude.{ℕ, ◌≡◌, ◌≤◌, ◌<◌, ◌+◌, ◌^◌, [], ◌∷◌, true, length, OnOk, IfOk};
+ghost use Rattle.std.specs.Prelude.{ℕ, ◌≡◌, ◌≤◌, ◌<◌, ◌+◌, ◌^◌, [], ◌∷◌, true, length};
 ghost use Rattle.pr_base.specs.Numbers.{slices_of};
 ghost use Rattle.pr_flat.specs.declared.equations.Op.{Op};
 ghost use Rattle.pr_cut_units.specs.Operators.{moved_right, concatenated};
-ghost use Rattle.pr_cut_units.specs.Parts.{filled, units_after, slices_after};
+ghost use Rattle.pr_cut_units.specs.Parts.{filled};
 ghost use Rattle.pr_cut_units.specs.Widening.{read_as, widened};
 ghost use Rattle.pr_cut_units.specs.Shifts.{moved_by, flipped_back, shifted_back, signed_moved_by};
 ghost use Rattle.pr_cut_units.specs.Table.{operator_units};
 ghost use Rattle.pr_cut_cells.specs.Arguments.{argument_of, pair_of, triple_of};
 ghost use Rattle.pr_cut_ops.specs.Low.{is_low};
+ghost use Rattle.pr_cut_ops.specs.Makes.{Makes};
 
 use crate::compared::{
     both_added, both_bitwise, both_chosen, both_subtracted, equal, greater_equal, less, multiplied,
@@ -30,10 +31,7 @@ fn moved_right(
     a: &Argument,
 ) -> Result<Vec<Slice>, AllocError>
     requires fits { length units.old.items + 1 < 2 ^ 32 }
-    ensures grows { OnOk result (length units.new.items ≤ length units.old.items + 1) }
-    ensures units { IfOk result (λ s. units.new.items ≡
-        units_after units.old.items (moved_right e k (argument_of a.now))) }
-    ensures slices { IfOk result (λ s. s.items ≡ slices_after units.old.items (moved_right e k (argument_of a.now))) }
+    ensures { Makes 1 (moved_right e k (argument_of a.now)) units.old units.new result }
 {
     if a.signed {
         return extracted(
@@ -54,7 +52,6 @@ fn moved_right(
 }
 
 /// A shift by an operand of an unsigned one.
-#[tactic(auto, using(pr_cut_units::proofs::JoinLemmas::then_units, pr_cut_units::proofs::JoinLemmas::then_slices))]
 fn moved_by(
     alloc: Global,
     units: &mut Vec<Unit>,
@@ -64,11 +61,7 @@ fn moved_by(
     by: &Argument,
 ) -> Result<Vec<Slice>, AllocError>
     requires fits { length units.old.items + 300 < 2 ^ 32 }
-    ensures grows { OnOk result (length units.new.items ≤ length units.old.items + 300) }
-    ensures units { IfOk result (λ s. units.new.items ≡
-        units_after units.old.items (moved_by left e (argument_of a.now) (argument_of by.now))) }
-    ensures slices { IfOk result (λ s. s.items ≡
-        slices_after units.old.items (moved_by left e (argument_of a.now) (argument_of by.now))) }
+    ensures { Makes 300 (moved_by left e (argument_of a.now) (argument_of by.now)) units.old units.new result }
 {
     let shift = Shift {
         left,
@@ -77,8 +70,7 @@ fn moved_by(
         bits: by.width,
     };
     let all = shifted_by(alloc, units, &shift, &a.slices)?;
-    let low = extracted(alloc, units, e, a.width, 0, &all)?;
-    Ok(low)
+    extracted(alloc, units, e, a.width, 0, &all)
 }
 
 /// The units of an operator on one operand.
@@ -91,11 +83,7 @@ pub fn operator_one(
 ) -> Result<Vec<Slice>, AllocError>
     requires low { is_low op ≡ true }
     requires fits { length units.old.items + 1 < 2 ^ 32 }
-    ensures grows { OnOk result (length units.new.items ≤ length units.old.items + 1) }
-    ensures units { IfOk result (λ s. units.new.items ≡
-        units_after units.old.items (operator_units e op (argument_of a.now ∷ []))) }
-    ensures slices { IfOk result (λ s. s.items ≡
-        slices_after units.old.items (operator_units e op (argument_of a.now ∷ []))) }
+    ensures { Makes 1 (operator_units e op (argument_of a.now ∷ [])) units.old units.new result }
 {
     match op {
         Op::Not => inverted(alloc, units, e, &a.slices),
@@ -108,7 +96,6 @@ pub fn operator_one(
 }
 
 /// The last two steps of a shift to the right of a signed operand: it is inverted again, and cut.
-#[tactic(auto, using(pr_cut_units::proofs::JoinLemmas::then_units, pr_cut_units::proofs::JoinLemmas::then_slices))]
 fn flipped_back(
     alloc: Global,
     units: &mut Vec<Unit>,
@@ -117,19 +104,13 @@ fn flipped_back(
     y: &[Slice],
 ) -> Result<Vec<Slice>, AllocError>
     requires fits { length units.old.items + 2 < 2 ^ 32 }
-    ensures grows { OnOk result (length units.new.items ≤ length units.old.items + 2) }
-    ensures units { IfOk result (λ s. units.new.items ≡
-        units_after units.old.items (flipped_back e (argument_of a.now) y.now)) }
-    ensures slices { IfOk result (λ s. s.items ≡
-        slices_after units.old.items (flipped_back e (argument_of a.now) y.now)) }
+    ensures { Makes 2 (flipped_back e (argument_of a.now) y.now) units.old units.new result }
 {
     let z = flipped(alloc, units, &a.slices, a.width, y)?;
-    let low = extracted(alloc, units, e, a.width, 0, &z)?;
-    Ok(low)
+    extracted(alloc, units, e, a.width, 0, &z)
 }
 
 /// The rows and the steps after them.
-#[tactic(auto, using(pr_cut_units::proofs::JoinLemmas::then_units, pr_cut_units::proofs::JoinLemmas::then_slices))]
 fn shifted_back(
     alloc: Global,
     units: &mut Vec<Unit>,
@@ -139,11 +120,7 @@ fn shifted_back(
     x: &[Slice],
 ) -> Result<Vec<Slice>, AllocError>
     requires fits { length units.old.items + 300 < 2 ^ 32 }
-    ensures grows { OnOk result (length units.new.items ≤ length units.old.items + 300) }
-    ensures units { IfOk result (λ s. units.new.items ≡
-        units_after units.old.items (shifted_back e (argument_of a.now) (argument_of by.now) x.now)) }
-    ensures slices { IfOk result (λ s. s.items ≡
-        slices_after units.old.items (shifted_back e (argument_of a.now) (argument_of by.now) x.now)) }
+    ensures { Makes 300 (shifted_back e (argument_of a.now) (argument_of by.now) x.now) units.old units.new result }
 {
     let shift = Shift {
         left: false,
@@ -152,12 +129,10 @@ fn shifted_back(
         bits: by.width,
     };
     let y = shifted_by(alloc, units, &shift, x)?;
-    let low = flipped_back(alloc, units, e, a, &y)?;
-    Ok(low)
+    flipped_back(alloc, units, e, a, &y)
 }
 
 /// A shift to the right of a signed operand.
-#[tactic(auto, using(pr_cut_units::proofs::JoinLemmas::then_units, pr_cut_units::proofs::JoinLemmas::then_slices))]
 fn signed_moved_by(
     alloc: Global,
     units: &mut Vec<Unit>,
@@ -166,15 +141,10 @@ fn signed_moved_by(
     by: &Argument,
 ) -> Result<Vec<Slice>, AllocError>
     requires fits { length units.old.items + 302 < 2 ^ 32 }
-    ensures grows { OnOk result (length units.new.items ≤ length units.old.items + 302) }
-    ensures units { IfOk result (λ s. units.new.items ≡
-        units_after units.old.items (signed_moved_by e (argument_of a.now) (argument_of by.now))) }
-    ensures slices { IfOk result (λ s. s.items ≡
-        slices_after units.old.items (signed_moved_by e (argument_of a.now) (argument_of by.now))) }
+    ensures { Makes 302 (signed_moved_by e (argument_of a.now) (argument_of by.now)) units.old units.new result }
 {
     let x = flipped(alloc, units, &a.slices, a.width, &a.slices)?;
-    let low = shifted_back(alloc, units, e, a, by, &x)?;
-    Ok(low)
+    shifted_back(alloc, units, e, a, by, &x)
 }
 
 /// RightBy.
@@ -186,11 +156,7 @@ fn moved_right_by(
     by: &Argument,
 ) -> Result<Vec<Slice>, AllocError>
     requires fits { length units.old.items + 302 < 2 ^ 32 }
-    ensures grows { OnOk result (length units.new.items ≤ length units.old.items + 302) }
-    ensures units { IfOk result (λ s. units.new.items ≡
-        units_after units.old.items (operator_units e Op.RightBy (pair_of a.now by.now))) }
-    ensures slices { IfOk result (λ s. s.items ≡
-        slices_after units.old.items (operator_units e Op.RightBy (pair_of a.now by.now))) }
+    ensures { Makes 302 (operator_units e Op.RightBy (pair_of a.now by.now)) units.old units.new result }
 {
     if a.signed {
         return signed_moved_by(alloc, units, e, a, by);
@@ -207,11 +173,7 @@ fn concatenated(
     b: &Argument,
 ) -> Result<Vec<Slice>, AllocError>
     requires fits { length units.old.items + 1 < 2 ^ 32 }
-    ensures grows { OnOk result (length units.new.items ≤ length units.old.items + 1) }
-    ensures units { IfOk result (λ s. units.new.items ≡
-        units_after units.old.items (concatenated e (argument_of a.now) (argument_of b.now))) }
-    ensures slices { IfOk result (λ s. s.items ≡
-        slices_after units.old.items (concatenated e (argument_of a.now) (argument_of b.now))) }
+    ensures { Makes 1 (concatenated e (argument_of a.now) (argument_of b.now)) units.old units.new result }
 {
     let all = joined(alloc, units, e, (a.width, b.width), &a.slices, &b.slices)?;
     Ok(all)
@@ -227,11 +189,7 @@ pub fn operator_two(
     b: &Argument,
 ) -> Result<Vec<Slice>, AllocError>
     requires fits { length units.old.items + 20000 < 2 ^ 32 }
-    ensures grows { OnOk result (length units.new.items ≤ length units.old.items + 20000) }
-    ensures units { IfOk result (λ s. units.new.items ≡
-        units_after units.old.items (operator_units e op (pair_of a.now b.now))) }
-    ensures slices { IfOk result (λ s. s.items ≡
-        slices_after units.old.items (operator_units e op (pair_of a.now b.now))) }
+    ensures { Makes 20000 (operator_units e op (pair_of a.now b.now)) units.old units.new result }
 {
     match op {
         Op::Add => both_added(alloc, units, e, a, b),
@@ -263,11 +221,7 @@ pub fn operator_choice(
     b: &Argument,
 ) -> Result<Vec<Slice>, AllocError>
     requires fits { length units.old.items + 3 < 2 ^ 32 }
-    ensures grows { OnOk result (length units.new.items ≤ length units.old.items + 3) }
-    ensures units { IfOk result (λ s. units.new.items ≡
-        units_after units.old.items (operator_units e Op.Choose (triple_of c.now a.now b.now))) }
-    ensures slices { IfOk result (λ s. s.items ≡
-        slices_after units.old.items (operator_units e Op.Choose (triple_of c.now a.now b.now))) }
+    ensures { Makes 3 (operator_units e Op.Choose (triple_of c.now a.now b.now)) units.old units.new result }
 {
     both_chosen(alloc, units, e, &c.slices, a, b)
 }
@@ -284,11 +238,7 @@ pub fn finished(
     requires some { 1 ≤ e }
     requires whole { length x.now ≡ slices_of e }
     requires fits { length units.old.items + 1 < 2 ^ 32 }
-    ensures grows { OnOk result (length units.new.items ≤ length units.old.items + 1) }
-    ensures units { IfOk result (λ s. units.new.items ≡
-        units_after units.old.items (filled (slices_of w) (widened (read_as signed e x.now) w))) }
-    ensures slices { IfOk result (λ s. s.items ≡
-        slices_after units.old.items (filled (slices_of w) (widened (read_as signed e x.now) w))) }
+    ensures { Makes 1 (filled (slices_of w) (widened (read_as signed e x.now) w)) units.old units.new result }
 {
     if !(signed && e < w) {
         return filled_slices(alloc, w, x);

@@ -1,20 +1,15 @@
-use Rattle.std.proofs.Common.{List}
-use Rattle.std.proofs.lemmas.Result.{IfOk-from_err}
+use Rattle.std.proofs.Common.{List, arith}
 use Rattle.pr_net.specs.declared.cells.Slice.{Slice}
 use Rattle.pr_cut_units.specs.Parts.{Making}
 use Rattle.pr_cut_units.specs.Products.{product}
-use Rattle.pr_cut_ops.proofs.LastCalls.{last_units, last_slices}
+use Rattle.pr_cut_ops.proofs.LastCalls.{last_call, none_made}
 use Rattle.pr_cut_ops.proofs.compared.both_multiplied.Goals as goal
 
-pub returns-clause-units : goal.returns-clause-units
-returns-clause-units c =
+pub returns : goal.returns
+returns c =
     let making : List Slice → List Slice → Making = λ x y. product c.args.e x c.args.widths.0 y c.args.widths.1 in
-    last_units _ making _ _ _ _ _ _ _ c.product.ensures.units c.deref.ensures.value c.deref-2.ensures.value (c.in_ok-both.ensures.units making)
-
-pub returns-clause-slices : goal.returns-clause-slices
-returns-clause-slices c =
-    let making : List Slice → List Slice → Making = λ x y. product c.args.e x c.args.widths.0 y c.args.widths.1 in
-    last_slices _ making _ _ _ _ _ _ c.product.ensures.slices c.deref.ensures.value c.deref-2.ensures.value (c.in_ok-both.ensures.slices making)
+    let made = c.product.ensures in
+    last_call 10240 2 20000 making _ c.args.units.now c.both_widened.new.units c.product.new.units c.product.result _ _ _ _ (record { grows = made.grows; units = made.units; slices = made.slices }) c.deref.ensures.value c.deref-2.ensures.value c.in_ok-both.ensures.grows (omega arith) (c.in_ok-both.ensures.units making) (c.in_ok-both.ensures.slices making)
 
 pub returns-in_err-both : goal.returns-in_err-both
-returns-in_err-both c = let h = c.from_residual.ensures.0 in record { grows = IfOk-from_err _ _ h; units = IfOk-from_err _ _ h; slices = IfOk-from_err _ _ h }
+returns-in_err-both c = none_made _ _ _ _ _ c.from_residual.ensures.0

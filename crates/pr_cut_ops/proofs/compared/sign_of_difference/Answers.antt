@@ -1,8 +1,12 @@
-use Rattle.std.proofs.lemmas.Result.{IfOk-from_err}
+use Rattle.std.proofs.Common.{◌+◌, arith}
+use Rattle.pr_cut_units.specs.Operators.{subtracted, sign_unit}
+use Rattle.pr_cut_ops.proofs.LastCalls.{then_made, none_made}
 use Rattle.pr_cut_ops.proofs.compared.sign_of_difference.Goals as goal
 
-pub returns-in_err-difference : goal.returns-in_err-difference
-returns-in_err-difference c = let h = c.from_residual.ensures.0 in record { grows = IfOk-from_err _ _ h; units = IfOk-from_err _ _ h; slices = IfOk-from_err _ _ h }
+pub returns : goal.returns
+returns c =
+    let was = c.in_ok-difference.ensures in
+    then_made 1 40 48 (subtracted (c.args.m + 1) c.args.x.now c.args.y.now) (sign_unit c.args.m c.args.table) _ _ _ c.in_ok-difference.difference.items _ _ was.units was.slices was.grows c.sign_unit.ensures c.deref.ensures.value (omega arith)
 
-pub returns-in_err-bit : goal.returns-in_err-bit
-returns-in_err-bit c = let h = c.from_residual-in_err-bit.ensures.0 in record { grows = IfOk-from_err _ _ h; units = IfOk-from_err _ _ h; slices = IfOk-from_err _ _ h }
+pub returns-in_err-difference : goal.returns-in_err-difference
+returns-in_err-difference c = none_made _ _ _ _ _ c.from_residual.ensures.0
