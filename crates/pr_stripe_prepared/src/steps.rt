@@ -2,12 +2,11 @@
 
 ghost use Rattle.std.specs.Prelude.{◌≡◌, ◌+◌, ◌-◌, ◌*◌, ◌/◌, ◌%◌, ◌<◌, ◌≤◌, false, [], ℕ, ◌==◌, if◌then◌else◌, slice_index, slice_index_or, true, replicate, ◌++◌, length, vec_len, List};
 ghost use Rattle.pr_conf.specs.declared.pes.Pe.{Pe};
-ghost use Rattle.pr_conf.specs.StageMap.{passed, made_from, registers_to, state_map};
+ghost use Rattle.pr_conf.specs.StageMap.{passed, registers_to};
 ghost use Rattle.pr_base.specs.Pe.{Made};
 ghost use Rattle.pr_stripe_columns.specs.Elements.{outputs_of};
 ghost use Rattle.pr_stripe_prepared.specs.Elements.{AreMarks};
-ghost use Rattle.pr_stripe_prepared.specs.Prepared.{IsPrepared};
-ghost use Rattle.pr_stripe_prepared.specs.Steps.{IsStep};
+ghost use Rattle.pr_stripe_prepared.specs.Steps.{IsStep, IsFirstStep};
 
 use crate::rounds::columns;
 use crate::stages::Prepared;
@@ -56,53 +55,114 @@ fn pass(registers: &mut [u8], before: &[u8], marks: &[u8], output: &[u8], count:
     }
 }
 
-/// A step in one round, or in as many as there are.
-#[inline(always)]
-fn step_by<const ONCE: bool>(
-    q: &Prepared,
-    registers: &mut [u8],
-    state: &mut [u8],
-    row: &[u8],
-    before: &[u8],
+/// The step of a stage that makes so many registers, of those before.
+#[derive(Clone, Copy)]
+struct StageStep<'a> {
+    stage: &'a Prepared,
+    before: &'a [u8],
     count: usize,
-)
-    requires once { ONCE ≡ true → q.now.rounds ≡ 1 }
-    requires few { count ≤ 16 }
-    requires registers { length registers.old ≡ count * 16 }
-    requires before { length before.now ≡ count * 16 }
-    requires marks { vec_len q.now.marks ≡ count * 16 }
-    requires row { q.now.reach ≤ length row.now }
-    requires state { length state.old ≡ 16 }
-    ensures { IsStep q.now count row.now before.now state.old registers.new state.new }
-{
-    let was = loaded(state);
-    let made = columns::<ONCE>(q, row, was);
-    pass(registers, before, &q.marks, &made.output.to_array(), count);
-    if q.has_state {
-        let first = choose(was, made.output, row_of(&q.to_output));
-        store(state, choose(first, made.a, row_of(&q.to_a)));
+    ghost few: { count ≤ 16 },
+    ghost long: { length before.now ≡ count * 16 },
+    ghost marks: { vec_len stage.now.marks ≡ count * 16 },
+}
+
+impl StageStep<'_> {
+    /// In one round, or in as many as there are.
+    #[inline(always)]
+    fn by<const ONCE: bool>(self, row: &[u8], registers: &mut [u8], state: &mut [u8])
+        requires once { ONCE ≡ true → self.stage.now.rounds ≡ 1 }
+        requires row { self.stage.now.reach ≤ length row.now }
+        requires registers { length registers.old ≡ self.count * 16 }
+        requires state { length state.old ≡ 16 }
+        ensures { IsStep self.entry.stage.now self.entry.count row.now self.entry.before.now
+            state.old registers.new state.new }
+    {
+        let was = loaded(state);
+        let made = columns::<ONCE>(self.stage, row, was);
+        pass(
+            registers,
+            self.before,
+            &self.stage.marks,
+            &made.output.to_array(),
+            self.count,
+        );
+        if self.stage.has_state {
+            let first = choose(was, made.output, row_of(&self.stage.to_output));
+            store(state, choose(first, made.a, row_of(&self.stage.to_a)));
+        }
+    }
+
+    /// In as many rounds as there are. It stands apart, so that the step of most stages keeps nothing for it.
+    #[inline(never)]
+    fn in_rounds(self, row: &[u8], registers: &mut [u8], state: &mut [u8])
+        requires row { self.stage.now.reach ≤ length row.now }
+        requires registers { length registers.old ≡ self.count * 16 }
+        requires state { length state.old ≡ 16 }
+        ensures { IsStep self.entry.stage.now self.entry.count row.now self.entry.before.now
+            state.old registers.new state.new }
+    {
+        self.by::<false>(row, registers, state);
+    }
+
+    /// Of the row that is read.
+    #[inline(always)]
+    fn take(self, row: &[u8], registers: &mut [u8], state: &mut [u8])
+        requires row { self.stage.now.reach ≤ length row.now }
+        requires registers { length registers.old ≡ self.count * 16 }
+        requires state { length state.old ≡ 16 }
+        ensures { IsStep self.entry.stage.now self.entry.count row.now self.entry.before.now
+            state.old registers.new state.new }
+    {
+        if self.stage.rounds == 1 {
+            self.by::<true>(row, registers, state);
+        } else {
+            self.in_rounds(row, registers, state);
+        }
+    }
+
+    /// Of a sample with zeros behind it, where zeros are passed on.
+    #[inline(always)]
+    fn take_wide(self, wide: &[u8], registers: &mut [u8], state: &mut [u8])
+        requires zeros { self.before.now ≡ replicate (self.count * 16) 0 }
+        requires wide { self.stage.now.reach ≤ length wide.now }
+        requires registers { length registers.old ≡ self.count * 16 }
+        requires state { length state.old ≡ 16 }
+        ensures { (bus : List ℕ) (k : ℕ) → wide.now ≡ bus ++ replicate k 0
+            → IsFirstStep self.entry.stage.now self.entry.count bus state.old registers.new state.new }
+    {
+        self.take(wide, registers, state);
+    }
+
+    /// Of a sample that is longer than most, or of another fabric.
+    #[inline(never)]
+    fn take_far(self, bus: &[u8], registers: &mut [u8], state: &mut [u8])
+        requires few { self.count ≤ 15 }
+        requires zeros { self.before.now ≡ replicate (self.count * 16) 0 }
+        requires reach { self.stage.now.reach ≡ self.count * 16 }
+        requires registers { length registers.old ≡ self.count * 16 }
+        requires state { length state.old ≡ 16 }
+        ensures { IsFirstStep self.entry.stage.now self.entry.count bus.now state.old registers.new state.new }
+    {
+        // Of 240 bytes is the longest row.
+        if bus.len() < 240 {
+            let mut wide = [0; 240];
+            pad(&mut wide, bus);
+            self.take_wide(&wide, registers, state);
+            return;
+        }
+        self.take_wide(bus, registers, state);
     }
 }
 
-/// A step in as many rounds as there are. It stands apart, so that the step of most stages keeps nothing for it.
-#[inline(never)]
-fn step_in_rounds(
-    q: &Prepared,
-    registers: &mut [u8],
-    state: &mut [u8],
-    row: &[u8],
-    before: &[u8],
-    count: usize,
-)
-    requires few { count ≤ 16 }
-    requires registers { length registers.old ≡ count * 16 }
-    requires before { length before.now ≡ count * 16 }
-    requires marks { vec_len q.now.marks ≡ count * 16 }
-    requires row { q.now.reach ≤ length row.now }
-    requires state { length state.old ≡ 16 }
-    ensures { IsStep q.now count row.now before.now state.old registers.new state.new }
+/// Puts a sample at the front of zeros.
+#[inline(always)]
+fn pad<const LONG: usize>(wide: &mut [u8; LONG], bus: &[u8])
+    requires room { length bus.now ≤ LONG }
+    requires zeros { wide.old ≡ replicate LONG 0 }
+    ensures long { length wide.new ≡ LONG }
+    ensures bytes { wide.new ≡ bus.now ++ replicate (LONG - length bus.now) 0 }
 {
-    step_by::<false>(q, registers, state, row, before, count);
+    copy_row(&mut wide[..bus.len()], bus);
 }
 
 /// Makes so many registers of the row that is read and of those before, and changes the state.
@@ -121,84 +181,14 @@ pub fn step(
     requires marks { vec_len q.now.marks ≡ count * 16 }
     requires row { q.now.reach ≤ length row.now }
     requires state { length state.old ≡ 16 }
-    ensures registers { (pes : List Pe) → IsPrepared q.now pes count
-        → registers.new ≡ registers_to count 16 false pes (made_from 16 row.now state.old [] pes) before.now }
-    ensures state { (pes : List Pe) → IsPrepared q.now pes count → state.new ≡ state_map 16 pes state.old row.now }
+    ensures { IsStep q.now count row.now before.now state.old registers.new state.new }
 {
-    if q.rounds == 1 {
-        step_by::<true>(q, registers, state, row, before, count);
-    } else {
-        step_in_rounds(q, registers, state, row, before, count);
-    }
-}
-
-/// A step that reads a sample with zeros behind it, and passes on zeros.
-#[inline(always)]
-fn wide_step(
-    q: &Prepared,
-    registers: &mut [u8],
-    state: &mut [u8],
-    wide: &[u8],
-    zeros: &[u8],
-    count: usize,
-)
-    requires few { count ≤ 15 }
-    requires registers { length registers.old ≡ count * 16 }
-    requires zeros { zeros.now ≡ replicate (count * 16) 0 }
-    requires long { length zeros.now ≡ count * 16 }
-    requires marks { vec_len q.now.marks ≡ count * 16 }
-    requires wide { q.now.reach ≤ length wide.now }
-    requires state { length state.old ≡ 16 }
-    ensures registers { (pes : List Pe) (bus : List ℕ) (k : ℕ) → IsPrepared q.now pes count
-        → wide.now ≡ bus ++ replicate k 0
-        → registers.new ≡ registers_to count 16 true pes (made_from 16 bus state.old [] pes) bus }
-    ensures state { (pes : List Pe) (bus : List ℕ) (k : ℕ) → IsPrepared q.now pes count
-        → wide.now ≡ bus ++ replicate k 0
-        → state.new ≡ state_map 16 pes state.old bus }
-{
-    step(q, registers, state, wide, zeros, count);
-}
-
-/// Puts a sample at the front of zeros.
-#[inline(always)]
-fn pad<const LONG: usize>(wide: &mut [u8; LONG], bus: &[u8])
-    requires room { length bus.now ≤ LONG }
-    requires zeros { wide.old ≡ replicate LONG 0 }
-    ensures long { length wide.new ≡ LONG }
-    ensures bytes { wide.new ≡ bus.now ++ replicate (LONG - length bus.now) 0 }
-{
-    copy_row(&mut wide[..bus.len()], bus);
-}
-
-/// The step of a first stage of another fabric, or that reads a longer sample.
-#[inline(never)]
-fn far_step(
-    q: &Prepared,
-    registers: &mut [u8],
-    state: &mut [u8],
-    bus: &[u8],
-    zeros: &[u8],
-    count: usize,
-)
-    requires few { count ≤ 15 }
-    requires registers { length registers.old ≡ count * 16 }
-    requires zeros { zeros.now ≡ replicate (count * 16) 0 }
-    requires long { length zeros.now ≡ count * 16 }
-    requires marks { vec_len q.now.marks ≡ count * 16 }
-    requires reach { q.now.reach ≡ count * 16 }
-    requires state { length state.old ≡ 16 }
-    ensures registers { (pes : List Pe) → IsPrepared q.now pes count
-        → registers.new ≡ registers_to count 16 true pes (made_from 16 bus.now state.old [] pes) bus.now }
-    ensures state { (pes : List Pe) → IsPrepared q.now pes count → state.new ≡ state_map 16 pes state.old bus.now }
-{
-    // Of 240 bytes is the longest row.
-    if bus.len() < 240 {
-        let mut wide = [0; 240];
-        pad(&mut wide, bus);
-        wide_step(q, registers, state, &wide, zeros, count);
-        return;
-    }
-    wide_step(q, registers, state, bus, zeros, count);
+    let step = StageStep {
+        stage: q,
+        before,
+        count,
+    };
+    step.take(row, registers, state);
 }
 
 /// The step of a first stage, which reads a sample, and passes on zeros.
@@ -218,16 +208,19 @@ pub fn first_step(
     requires marks { vec_len q.now.marks ≡ count * 16 }
     requires reach { q.now.reach ≡ count * 16 }
     requires state { length state.old ≡ 16 }
-    ensures registers { (pes : List Pe) → IsPrepared q.now pes count
-        → registers.new ≡ registers_to count 16 true pes (made_from 16 bus.now state.old [] pes) bus.now }
-    ensures state { (pes : List Pe) → IsPrepared q.now pes count → state.new ≡ state_map 16 pes state.old bus.now }
+    ensures { IsFirstStep q.now count bus.now state.old registers.new state.new }
 {
+    let step = StageStep {
+        stage: q,
+        before: zeros,
+        count,
+    };
     // The base fabric has seven registers beside the state, in 112 bytes; the number is known where it is tested.
     if count == 7 && bus.len() <= 112 {
         let mut wide = [0; 112];
         pad(&mut wide, bus);
-        wide_step(q, registers, state, &wide, zeros, count);
+        step.take_wide(&wide, registers, state);
         return;
     }
-    far_step(q, registers, state, bus, zeros, count);
+    step.take_far(bus, registers, state);
 }
