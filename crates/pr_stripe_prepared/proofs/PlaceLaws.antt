@@ -1,7 +1,5 @@
 -- What is gathered by the places of a source is the byte of the source.
-use Rattle.std.proofs.Common.{◌≡◌, ℕ, ◌+◌, ◌-◌, ◌*◌, ◌<◌, Bool, true, false, List, get_or, nat_lt, bit_or, length, set, if◌then◌else◌, inl, inr, get_or-set_same, get_or-set_other, refl, sym, ap, ◌∙◌, arith}
-use Rattle.std.proofs.lemmas.Bool.{cases_eq}
-use Rattle.std.proofs.lemmas.List.{get_or_default}
+use Rattle.std.proofs.Common.{◌≡◌, ℕ, ◌+◌, ◌-◌, ◌*◌, ◌<◌, Bool, true, false, List, get_or, nat_lt, bit_or, if◌then◌else◌, refl, sym, ap, ◌∙◌, arith}
 use Rattle.std.proofs.lemmas.Bool.{ltb-true}
 use Rattle.std.specs.Int.Bits.{or_zero_r}
 use Rattle.pr_conf.specs.declared.pes.Source.{Source}
@@ -45,11 +43,3 @@ lane_is n known states heres rows terms has s k few h e1 e2 e3 none e4 gives row
     ∙ ap (λ y. so_far (get_or rows k 0) n y (get_or row (get_or rows k 0) 0)) (begun_is has (get_or known k 0) (get_or states k 0) (get_or heres k 0) st made s e1 e2 e3 none)
     ∙ ap (λ p. so_far p n (bit_or (bit_or (known_in s) (looked (state_in s) 0 st)) (looked (here_in s) 0 made)) (get_or row p 0)) e4
     ∙ placed n row st made s few h
-
--- one lane more of a row that is made of a list, place by place
-pub row_more : {X : Type 0} (f : X → ℕ) (xs : List ℕ) (ys : List X) (k v : ℕ) (e : X) → k < length xs → k < length ys → v ≡ f (get_or ys k e) → ((j : ℕ) (d : X) → j < k → get_or xs j 0 ≡ f (get_or ys j d))
-    → (j : ℕ) (d : X) → j < k + 1 → get_or (set xs k v) j 0 ≡ f (get_or ys j d)
-row_more f xs ys k v e lx ly is old j d h = elim (cases_eq j k) as (λ _. get_or (set xs k v) j 0 ≡ f (get_or ys j d)) [
-  | inl same ↦ ap (λ i. get_or (set xs k v) i 0) same ∙ get_or-set_same xs k v 0 lx ∙ is ∙ ap f (get_or_default ys k e d ly ∙ ap (λ i. get_or ys i d) (sym same))
-  | inr ne ↦ get_or-set_other xs k j v 0 ne ∙ old j d (omega arith)
-]

@@ -2,6 +2,7 @@
 use Rattle.std.specs.Prelude.{ℕ, suc, ◌+◌, ◌-◌, ◌*◌, ◌/◌, ◌%◌, ◌==◌, ◌^◌, ◌≡◌, ◌<◌, nat_lt, Bool, true, false, List, slice_index, slice_index_or, if◌then◌else◌}
 use Rattle.pr_base.specs.Pe.{carry_in, next_state}
 use Rattle.pr_stripe_prepared.specs.Places.{is_suited}
+use Rattle.pr_stripe_prepared.specs.Rows.{EachItem}
 use Rattle.pr_base.specs.declared.choices.Mode.{Mode}
 use Rattle.pr_base.specs.declared.choices.Carry.{Carry}
 use Rattle.pr_conf.specs.declared.pes.Pe.{Pe}
@@ -109,7 +110,7 @@ rest_source pes k d = if nat_lt k 16 then (slice_index_or pes k d).lo else c_sou
 
 -- this holds of the element of each of 16 columns
 abbrev pub EachColumn : List Pe → (ℕ → Pe → Type 0) → Type 0
-EachColumn pes Holds = (k : ℕ) (d : Pe) → k < 16 → Holds k (slice_index_or pes k d)
+EachColumn pes Holds = EachItem 16 pes Holds
 
 -- all ones at each place of each register to which its column writes, and else 0
 abbrev pub AreMarks : ℕ → List Pe → List ℕ → Type 0

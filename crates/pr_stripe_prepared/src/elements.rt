@@ -6,9 +6,11 @@ ghost use Rattle.pr_conf.specs.declared.pes.Pe.{Pe};
 ghost use Rattle.pr_conf.specs.declared.pes.Source.{Source};
 ghost use Rattle.pr_lanes.specs.Rows.{ones_where, half};
 ghost use Rattle.pr_stripe_prepared.specs.Elements.{sum_mark, c_source, c_bit, c_carry, is_read_bit, from_c, low_mask, zero_mask, takes_carry, is_chain, goes_on, table_of, bit_of, carry_bit_of, from_c_of, carry_of, shift_of, output_of, a_of, both_source, rest_source, EachColumn, IsSuited};
+ghost use Rattle.pr_stripe_prepared.specs.Rows.{IsRow};
 ghost use Rattle.pr_stripe_prepared.specs.Tables.{HasTable};
 
 use crate::places::suits;
+use crate::rows::made_of;
 use crate::stages::Table;
 use pr_conf::{Bit, Carry, Mode, Next, Pe, Source};
 
@@ -192,14 +194,9 @@ pub(crate) fn are_given(pes: &[Pe], registers: usize) -> bool
 
 fn table_row(pes: &[Pe], c: u8, bit: u8) -> [u8; 16]
     requires pes { length pes.now ≡ 16 }
-    ensures long { length result ≡ 16 }
-    ensures each { (k : ℕ) (d : Pe) → k < 16 → slice_index result k ≡ table_of c bit (slice_index_or pes.now k d) }
+    ensures { IsRow 16 (λ _. table_of c bit) pes.now result }
 {
-    let mut row = [0; 16];
-    for k in 0..16 {
-        row[k] = table_byte(pes[k].table, c, bit);
-    }
-    row
+    made_of(pes, |_, pe| table_byte(pe.table, c, bit))
 }
 
 /// The bits in which two rows differ.
@@ -253,144 +250,87 @@ pub(crate) fn tables(pes: &[Pe], c: u8) -> Table
 
 pub(crate) fn c_row(pes: &[Pe]) -> [u8; 16]
     requires pes { length pes.now ≡ 16 }
-    requires read { (k : ℕ) (d : Pe) → k < 16 → is_read_bit (slice_index_or pes.now k d).c ≡ true }
-    ensures long { length result ≡ 16 }
-    ensures each { (k : ℕ) (d : Pe) → k < 16 → slice_index result k ≡ bit_of (slice_index_or pes.now k d) }
+    requires read { EachColumn pes.now (λ _ pe. is_read_bit pe.c ≡ true) }
+    ensures { IsRow 16 (λ _. bit_of) pes.now result }
 {
-    let mut row = [0; 16];
-    for k in 0..16 {
-        row[k] = bit_byte(pes[k].c);
-    }
-    row
+    made_of(pes, |_, pe| bit_byte(pe.c))
 }
 
 pub(crate) fn c_carry_row(pes: &[Pe]) -> [u8; 16]
     requires pes { length pes.now ≡ 16 }
-    ensures long { length result ≡ 16 }
-    ensures each { (k : ℕ) (d : Pe) → k < 16 → slice_index result k ≡ carry_bit_of (slice_index_or pes.now k d) }
+    ensures { IsRow 16 (λ _. carry_bit_of) pes.now result }
 {
-    let mut row = [0; 16];
-    for k in 0..16 {
-        row[k] = carry_bit(pes[k].c);
-    }
-    row
+    made_of(pes, |_, pe| carry_bit(pe.c))
 }
 
 pub(crate) fn from_c_row(pes: &[Pe]) -> [u8; 16]
     requires pes { length pes.now ≡ 16 }
-    ensures long { length result ≡ 16 }
-    ensures each { (k : ℕ) (d : Pe) → k < 16 → slice_index result k ≡ from_c_of (slice_index_or pes.now k d) }
+    ensures { IsRow 16 (λ _. from_c_of) pes.now result }
 {
-    let mut row = [0; 16];
-    for k in 0..16 {
-        row[k] = from_c_byte(pes[k].cin);
-    }
-    row
+    made_of(pes, |_, pe| from_c_byte(pe.cin))
 }
 
 pub(crate) fn sum_row(pes: &[Pe]) -> [u8; 16]
     requires pes { length pes.now ≡ 16 }
-    ensures long { length result ≡ 16 }
-    ensures each { (k : ℕ) (d : Pe) → k < 16 → slice_index result k ≡ sum_mark (slice_index_or pes.now k d).mode }
+    ensures { IsRow 16 (λ _ pe. sum_mark pe.mode) pes.now result }
 {
-    let mut row = [0; 16];
-    for k in 0..16 {
-        row[k] = sum_byte(pes[k].mode);
-    }
-    row
+    made_of(pes, |_, pe| sum_byte(pe.mode))
 }
 
 pub(crate) fn carry_row(pes: &[Pe]) -> [u8; 16]
     requires pes { length pes.now ≡ 16 }
-    ensures long { length result ≡ 16 }
-    ensures each { (k : ℕ) (d : Pe) → k < 16 → slice_index result k ≡ carry_of (slice_index_or pes.now k d) }
+    ensures { IsRow 16 (λ _. carry_of) pes.now result }
 {
-    let mut row = [0; 16];
-    for k in 0..16 {
-        row[k] = carry_byte(pes[k].cin);
-    }
-    row
+    made_of(pes, |_, pe| carry_byte(pe.cin))
 }
 
 pub(crate) fn mask_row(pes: &[Pe]) -> [u8; 16]
     requires pes { length pes.now ≡ 16 }
-    ensures long { length result ≡ 16 }
-    ensures each { (k : ℕ) (d : Pe) → k < 16 → slice_index result k ≡ (slice_index_or pes.now k d).mask }
+    ensures { IsRow 16 (λ _ pe. pe.mask) pes.now result }
 {
-    let mut row = [0; 16];
-    for k in 0..16 {
-        row[k] = pes[k].mask;
-    }
-    row
+    made_of(pes, |_, pe| pe.mask)
 }
 
 pub(crate) fn output_row(pes: &[Pe]) -> [u8; 16]
     requires pes { length pes.now ≡ 16 }
-    ensures long { length result ≡ 16 }
-    ensures each { (k : ℕ) (d : Pe) → k < 16 → slice_index result k ≡ output_of (slice_index_or pes.now k d) }
+    ensures { IsRow 16 (λ _. output_of) pes.now result }
 {
-    let mut row = [0; 16];
-    for k in 0..16 {
-        row[k] = output_byte(pes[k].next);
-    }
-    row
+    made_of(pes, |_, pe| output_byte(pe.next))
 }
 
 pub(crate) fn a_row(pes: &[Pe]) -> [u8; 16]
     requires pes { length pes.now ≡ 16 }
-    ensures long { length result ≡ 16 }
-    ensures each { (k : ℕ) (d : Pe) → k < 16 → slice_index result k ≡ a_of (slice_index_or pes.now k d) }
+    ensures { IsRow 16 (λ _. a_of) pes.now result }
 {
-    let mut row = [0; 16];
-    for k in 0..16 {
-        row[k] = a_byte(pes[k].next);
-    }
-    row
+    made_of(pes, |_, pe| a_byte(pe.next))
 }
 
 pub(crate) fn shift_row(pes: &[Pe]) -> [u16; 16]
     requires pes { length pes.now ≡ 16 }
-    requires few { (k : ℕ) (d : Pe) → k < 16 → (slice_index_or pes.now k d).shift < 8 }
-    ensures long { length result ≡ 16 }
-    ensures each { (k : ℕ) (d : Pe) → k < 16 → slice_index result k ≡ shift_of (slice_index_or pes.now k d) }
+    requires few { EachColumn pes.now (λ _ pe. pe.shift < 8) }
+    ensures { IsRow 16 (λ _. shift_of) pes.now result }
 {
-    let mut row = [0; 16];
-    for k in 0..16 {
-        row[k] = shift_word(pes[k].shift);
-    }
-    row
+    made_of(pes, |_, pe| shift_word(pe.shift))
 }
 
 pub(crate) fn low_row(pes: &[Pe]) -> [u8; 16]
     requires pes { length pes.now ≡ 16 }
-    ensures long { length result ≡ 16 }
-    ensures each { (k : ℕ) (d e : Pe) → k < 16
-        → slice_index result k ≡ low_mask (slice_index_or pes.now k d).mode (goes_on pes.now k e) }
+    ensures { (e : Pe) → IsRow 16 (λ k pe. low_mask pe.mode (goes_on pes.now k e)) pes.now result }
 {
-    let mut row = [0; 16];
-    for k in 0..16 {
-        row[k] = low_byte(pes[k].mode, goes_up(pes, k));
-    }
-    row
+    made_of(pes, |k, pe| low_byte(pe.mode, goes_up(pes, k)))
 }
 
 pub(crate) fn zero_row(pes: &[Pe]) -> [u8; 16]
     requires pes { length pes.now ≡ 16 }
-    ensures long { length result ≡ 16 }
-    ensures each { (k : ℕ) (d e : Pe) → k < 16
-        → slice_index result k ≡ zero_mask (slice_index_or pes.now k d).mode (goes_on pes.now k e) }
+    ensures { (e : Pe) → IsRow 16 (λ k pe. zero_mask pe.mode (goes_on pes.now k e)) pes.now result }
 {
-    let mut row = [0; 16];
-    for k in 0..16 {
-        row[k] = zero_byte(pes[k].mode, goes_up(pes, k));
-    }
-    row
+    made_of(pes, |k, pe| zero_byte(pe.mode, goes_up(pes, k)))
 }
 
 /// Whether a column moves B, or has C that is a bit of a byte.
 pub(crate) fn any_rest(pes: &[Pe]) -> bool
     requires pes { length pes.now ≡ 16 }
-    requires read { (k : ℕ) (d : Pe) → k < 16 → is_read_bit (slice_index_or pes.now k d).c ≡ true }
+    requires read { EachColumn pes.now (λ _ pe. is_read_bit pe.c ≡ true) }
     ensures { result ≡ false → EachColumn pes.now (λ k pe. (pe.shift ≡ 0) × (c_bit pe.c ≡ 0)) }
 {
     for k in 0..16 {
@@ -404,7 +344,7 @@ pub(crate) fn any_rest(pes: &[Pe]) -> bool
 /// Whether a column has C.
 pub(crate) fn any_c(pes: &[Pe]) -> bool
     requires pes { length pes.now ≡ 16 }
-    requires read { (k : ℕ) (d : Pe) → k < 16 → is_read_bit (slice_index_or pes.now k d).c ≡ true }
+    requires read { EachColumn pes.now (λ _ pe. is_read_bit pe.c ≡ true) }
     ensures { result ≡ false → EachColumn pes.now (λ k pe. (c_bit pe.c ≡ 0) × (c_carry pe.c ≡ 0)) }
 {
     for k in 0..16 {

@@ -4,7 +4,9 @@ ghost use Rattle.std.specs.Prelude.{true, false, ◌≡◌, ◌+◌, ◌<◌, �
 ghost use Rattle.pr_conf.specs.declared.pes.Source.{Source};
 ghost use Rattle.pr_stripe_prepared.specs.Places.{known_in, state_in, here_in, row_in, is_suited};
 ghost use Rattle.pr_lanes.specs.Lanes.{is_place};
+ghost use Rattle.pr_stripe_prepared.specs.Rows.{IsRow};
 
+use crate::rows::made_of;
 use pr_conf::Source;
 
 fn known_of(source: Source) -> u8
@@ -60,35 +62,23 @@ pub(crate) fn suits(registers: usize, source: Source) -> bool
 
 /// The bytes that are known, and 0 elsewhere.
 pub(crate) fn known_row(sources: &[Source; 32]) -> [u8; 32]
-    ensures { (k : ℕ) (d : Source) → k < 32 → slice_index result k ≡ known_in (slice_index_or sources.now k d) }
+    ensures { IsRow 32 (λ _. known_in) sources.now result }
 {
-    let mut row = [0; 32];
-    for k in 0..32 {
-        row[k] = known_of(sources[k]);
-    }
-    row
+    made_of(sources, |_, source| known_of(source))
 }
 
 /// The columns of the state.
 pub(crate) fn state_row(sources: &[Source; 32]) -> [u8; 32]
-    ensures { (k : ℕ) (d : Source) → k < 32 → slice_index result k ≡ state_in (slice_index_or sources.now k d) }
+    ensures { IsRow 32 (λ _. state_in) sources.now result }
 {
-    let mut row = [128; 32];
-    for k in 0..32 {
-        row[k] = state_of(sources[k]);
-    }
-    row
+    made_of(sources, |_, source| state_of(source))
 }
 
 /// The columns of the outputs.
 pub(crate) fn here_row(sources: &[Source; 32]) -> [u8; 32]
-    ensures { (k : ℕ) (d : Source) → k < 32 → slice_index result k ≡ here_in (slice_index_or sources.now k d) }
+    ensures { IsRow 32 (λ _. here_in) sources.now result }
 {
-    let mut row = [128; 32];
-    for k in 0..32 {
-        row[k] = here_of(sources[k]);
-    }
-    row
+    made_of(sources, |_, source| here_of(source))
 }
 
 /// Whether one of these is an output.
@@ -105,11 +95,7 @@ pub(crate) fn any_here(sources: &[Source; 32]) -> bool
 
 /// The places of the row.
 pub(crate) fn row_row(sources: &[Source; 32]) -> [u16; 32]
-    ensures { (k : ℕ) (d : Source) → k < 32 → slice_index result k ≡ row_in (slice_index_or sources.now k d) }
+    ensures { IsRow 32 (λ _. row_in) sources.now result }
 {
-    let mut row = [65535; 32];
-    for k in 0..32 {
-        row[k] = row_of(sources[k]);
-    }
-    row
+    made_of(sources, |_, source| row_of(source))
 }

@@ -1,12 +1,5 @@
-use Rattle.std.proofs.Common.{◌∙◌, arith}
-use Rattle.std.proofs.lemmas.List.{length-set}
-use Rattle.pr_conf.specs.declared.pes.Pe.{Pe}
-use Rattle.pr_stripe_prepared.specs.Elements.{sum_mark}
-use Rattle.pr_stripe_prepared.proofs.PlaceLaws.{row_more}
+use Rattle.std.proofs.Common.{rules}
 use Rattle.pr_stripe_prepared.proofs.elements.sum_row.Goals as goal
 
-pub loop-k-preserved : goal.loop-k-preserved
-loop-k-preserved c = record {
-  long = length-set c.loop-k.row c.loop-k.k _ ∙ c.loop-k.invariant.long;
-  each = row_more (λ (pe : Pe). sum_mark pe.mode) c.loop-k.row c.args.pes.now c.loop-k.k _ _ (omega arith) (omega arith) c.sum_byte.ensures c.loop-k.invariant.each;
-}
+pub returns : goal.returns
+returns c = record { long = c.made_of.ensures.long; each = λ k d l. let made = c.made_of.ensures.each 0 k d l in search rules }

@@ -1,11 +1,5 @@
-use Rattle.std.proofs.Common.{arith}
-use Rattle.std.proofs.lemmas.List.{length-set}
-use Rattle.pr_stripe_prepared.specs.Places.{known_in}
-use Rattle.pr_stripe_prepared.proofs.PlaceLaws.{row_more}
+use Rattle.std.proofs.Common.{rules}
 use Rattle.pr_stripe_prepared.proofs.places.known_row.Goals as goal
 
-pub loop-k-preserved : goal.loop-k-preserved
-loop-k-preserved c = record {
-  long = omega (arith, length-set c.loop-k.row c.loop-k.k c.known_of.result);
-  each = row_more known_in c.loop-k.row c.args.sources.now c.loop-k.k _ _ (omega arith) (omega arith) c.known_of.ensures c.loop-k.invariant.each;
-}
+pub returns : goal.returns
+returns c = record { long = c.made_of.ensures.long; each = λ k d l. let made = c.made_of.ensures.each 0 k d l in search rules }

@@ -1,0 +1,5 @@
+use Rattle.std.proofs.Common.{rules}
+use Rattle.pr_stripe_prepared.proofs.elements.low_row.Goals as goal
+
+pub returns : goal.returns
+returns c = λ e. record { long = c.made_of.ensures.long; each = λ k d l. let made = c.made_of.ensures.each 0 k d l in search rules }
