@@ -1,6 +1,6 @@
 //! The net of flat equations.
 
-ghost use Rattle.std.specs.Prelude.{◌≡◌, ◌≤◌, None, Some, Err, cond, map, vec_len, length, drop, take, IfOk, IfErr, OnOk};
+ghost use Rattle.std.specs.Prelude.{◌≡◌, ◌≢◌, ◌≤◌, None, Some, Err, cond, map, vec_len, length, drop, take, IfOk, IfErr, OnOk};
 ghost use Rattle.std.specs.List.{sum_by};
 ghost use Rattle.pr_base.specs.Numbers.{slices_of};
 ghost use Rattle.pr_base.specs.declared.caps.Cap.{Cap};
@@ -150,6 +150,10 @@ pub fn cut(alloc: Global, flat: &Flat, widths: &Widths, columns: usize) -> Resul
     ensures within { OnOk result (limit_passed columns (flat_net flat.now widths.now) ≡ None) }
     ensures refused { (cap : Cap) → result ≡ Err (CutFault.Limit cap) →
         limit_passed columns (flat_net flat.now widths.now) ≡ Some cap }
+
+    // The bytes of the inputs and the outputs are counted before any memory is asked for.
+    ensures passed { (cap : Cap) → limit_passed columns (flat_net flat.now widths.now) ≡ Some cap → cap ≢ Cap.Units →
+        result ≡ Err (CutFault.Limit cap) }
 {
     let plan = plan_of(alloc, flat, widths, columns)?;
     let source = Source {
