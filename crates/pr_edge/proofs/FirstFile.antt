@@ -1,8 +1,9 @@
 -- The first file of a name, and its reach.
-use Rattle.std.proofs.Common.{◌≡◌, ◌≢◌, ℕ, zero, suc, ◌+◌, ◌<◌, true, false, List, [], ◌∷◌, length, get_or, Some, slice_set, refl, sym, ap, ◌∙◌, arith, string_bytes, if◌then◌else◌, ◌==◌, max, get_or-set_same, length-set, replicate}
+use Rattle.std.proofs.Common.{◌≡◌, ◌≢◌, ℕ, zero, suc, ◌<◌, true, false, List, [], ◌∷◌, length, get_or, Option, Some, None, slice_set, refl, sym, ap, ◌∙◌, arith, string_bytes, if◌then◌else◌, get_or-set_same, length-set, replicate}
 use Rattle.std.proofs.lemmas.Slice.Eq.{slice_eq-Decides}
 use Rattle.std.proofs.lemmas.Bool.Decides.{Decides-eqb}
 use Rattle.std.proofs.lemmas.Bool.{false_from_ne_true}
+use Rattle.pr_edge.specs.Files.{raised}
 use Rattle.pr_edge.specs.Named.{Named, has_name, file_in, reach_in, IsFirst}
 
 tail_of : (f : Named) (fs : List Named) (name : List ℕ) (i : ℕ) → IsFirst (f ∷ fs) name (suc i) → IsFirst fs name i
@@ -13,7 +14,7 @@ file_in-first [] name i d h = absurd (omega (arith, h.within))
 file_in-first (f ∷ fs) name zero d h = rw (h.here d) refl
 file_in-first (f ∷ fs) name (suc i) d h = rw (h.before 0 d (omega arith)) (file_in-first fs name i d (tail_of f fs name i h))
 
-pub reach_in-first : (files : List Named) (rs : List ℕ) (name : List ℕ) (i : ℕ) → IsFirst files name i → length rs ≡ length files → reach_in files rs name ≡ get_or rs i 0
+pub reach_in-first : (files : List Named) (rs : List (Option ℕ)) (name : List ℕ) (i : ℕ) → IsFirst files name i → length rs ≡ length files → reach_in files rs name ≡ get_or rs i None
 reach_in-first [] rs name i h e = absurd (omega (arith, h.within))
 reach_in-first (f ∷ fs) [] name i h e = absurd (omega arith)
 reach_in-first (f ∷ fs) (r ∷ rs) name zero h e = rw (h.here f) refl
@@ -24,22 +25,21 @@ other_name f name q h ne =
     let is_name = (slice_eq-Decides Decides-eqb (string_bytes f.0) name _ refl).0 h in
     false_from_ne_true (has_name q f) (λ yes. ne (sym ((slice_eq-Decides Decides-eqb (string_bytes f.0) q _ refl).0 yes) ∙ is_name))
 
-pub reach_in-set_other : (files : List Named) (rs : List ℕ) (name q : List ℕ) (i v : ℕ) → IsFirst files name i → q ≢ name → reach_in files (slice_set rs i v) q ≡ reach_in files rs q
+pub reach_in-set_other : (files : List Named) (rs : List (Option ℕ)) (name q : List ℕ) (i : ℕ) (v : Option ℕ) → IsFirst files name i → q ≢ name → reach_in files (slice_set rs i v) q ≡ reach_in files rs q
 reach_in-set_other [] rs name q i v h ne = refl
 reach_in-set_other (f ∷ fs) [] name q i v h ne = refl
 reach_in-set_other (f ∷ fs) (r ∷ rs) name q zero v h ne = rw (other_name f name q (h.here f) ne) refl
-reach_in-set_other (f ∷ fs) (r ∷ rs) name q (suc i) v h ne = ap (λ (x : ℕ). if has_name q f then r else x) (reach_in-set_other fs rs name q i v (tail_of f fs name i h) ne)
+reach_in-set_other (f ∷ fs) (r ∷ rs) name q (suc i) v h ne = ap (λ (x : Option ℕ). if has_name q f then r else x) (reach_in-set_other fs rs name q i v (tail_of f fs name i h) ne)
 
-pub reach_in-raised : (files : List Named) (rs : List ℕ) (name : List ℕ) (i place count : ℕ) → IsFirst files name i → length rs ≡ length files
-    → reach_in files (slice_set rs i (if count == 0 then get_or rs i 0 else max (get_or rs i 0) (place + count))) name ≡ (if count == 0 then reach_in files rs name else max (reach_in files rs name) (place + count))
+pub reach_in-raised : (files : List Named) (rs : List (Option ℕ)) (name : List ℕ) (i place count : ℕ) → IsFirst files name i → length rs ≡ length files
+    → reach_in files (slice_set rs i (raised (get_or rs i None) place count)) name ≡ raised (reach_in files rs name) place count
 reach_in-raised files rs name i place count h e =
-    let was = reach_in-first files rs name i h e in
-    let v = if count == 0 then get_or rs i 0 else max (get_or rs i 0) (place + count) in
+    let v = raised (get_or rs i None) place count in
     let within : i < length rs = omega (arith, h.within) in
-    rw was (reach_in-first files (slice_set rs i v) name i h (length-set rs i v ∙ e) ∙ get_or-set_same rs i v 0 within)
+    rw (reach_in-first files rs name i h e) (reach_in-first files (slice_set rs i v) name i h (length-set rs i v ∙ e) ∙ get_or-set_same rs i v None within)
 
 -- no file was read
-pub reach_in-none : (files : List Named) (n : ℕ) (name : List ℕ) → reach_in files (replicate n 0) name ≡ 0
+pub reach_in-none : (files : List Named) (n : ℕ) (name : List ℕ) → reach_in files (replicate n (Some 0)) name ≡ Some 0
 reach_in-none [] n name = refl
 reach_in-none (f ∷ fs) zero name = refl
-reach_in-none (f ∷ fs) (suc n) name = elim (has_name name f) as (λ b. (if b then 0 else reach_in fs (replicate n 0) name) ≡ 0) [ true ↦ refl | false ↦ reach_in-none fs n name ]
+reach_in-none (f ∷ fs) (suc n) name = elim (has_name name f) as (λ b. (if b then Some 0 else reach_in fs (replicate n (Some 0)) name) ≡ Some 0) [ true ↦ refl | false ↦ reach_in-none fs n name ]

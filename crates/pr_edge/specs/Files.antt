@@ -1,5 +1,5 @@
 -- What a shelf tells of its files, and what a read gives.
-use Rattle.std.specs.Prelude.{◌≡◌, ℕ, ◌+◌, ◌<◌, ◌≤◌, ◌⊎◌, max, List, length, take, drop, ⊤, Option, Some, None, Result, Ok, Err, IfSome, if◌then◌else◌, ◌==◌}
+use Rattle.std.specs.Prelude.{◌≡◌, ℕ, ◌+◌, ◌<◌, ◌≤◌, ◌⊎◌, List, length, take, drop, ⊤, Option, Some, None, Result, Ok, Err, IfSome, IsSome, if◌then◌else◌, ◌==◌}
 use Rattle.pr_edge.specs.Count.{Rose}
 
 -- the bytes of each file by its name, where the shelf tells them
@@ -26,15 +26,24 @@ pub record IsPart (file : List ℕ) (place count : ℕ) (buffer : List ℕ) : Ty
   pub part : take count buffer ≡ take count (drop place file)
   pub end : 0 < length buffer → count ≡ 0 → length file ≤ place
 
--- a read of this many bytes from a place on raises the reach, where it is told
+-- a read of this many bytes from a place on moves the reach there; a read of bytes elsewhere leaves no reach
 abbrev pub raised : Option ℕ → ℕ → ℕ → Option ℕ
 raised None place count = None
-raised (Some reach) place count = Some (if count == 0 then reach else max reach (place + count))
+raised (Some reach) place count =
+    if place == reach then Some (reach + count) else (if count == 0 then Some reach else None)
 
 -- the reach of the name that a read was for; a failure leaves it
 abbrev pub reach_after : {E : Type 0} → Result ℕ E → Option ℕ → ℕ → Option ℕ
 reach_after (Ok count) reach place = raised reach place count
 reach_after (Err e) reach place = reach
+
+-- a file of which nothing was read before was read in order, and no byte of it twice, up to this place at most
+abbrev pub IsReadOnce : ℕ → Option ℕ → Option ℕ → Type 0
+IsReadOnce most before now = before ≡ Some 0 → (IsSome now × IfSome now (λ r. r ≤ most))
+
+-- a file of which nothing was read before was read in order, and no byte of it twice, up to this place
+abbrev pub IsReadTo : ℕ → Option ℕ → Option ℕ → Type 0
+IsReadTo place before now = before ≡ Some 0 → now ≡ Some place
 
 -- these bytes begin the file
 pub record IsPrefix (bytes file : List ℕ) : Type 0 where

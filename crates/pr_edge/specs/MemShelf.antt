@@ -20,12 +20,12 @@ calls_of s = s.calls
 abbrev pub faults_of : MemShelf → ℕ
 faults_of s = s.faults
 
--- it tells all its files, and how far each was read
+-- it tells all its files, and how far each was read in order
 abbrev pub told_of : MemShelf → Told
 told_of s = Some (file_in s.files.items)
 
 abbrev pub reach_of : MemShelf → List ℕ → Option ℕ
-reach_of s name = Some (reach_in s.files.items s.reached.items name)
+reach_of s name = reach_in s.files.items s.reached.items name
 
 -- the next call fails by its number
 abbrev pub fails_next : MemShelf → Bool

@@ -19,10 +19,10 @@ file_in (f ∷ fs) name = if has_name name f then Some f.1.items else file_in fs
 abbrev pub sure_file : List Named → List ℕ → List ℕ
 sure_file files name = unwrap_or (file_in files name) []
 
--- how far the first file of this name was read
-abbrev pub reach_in : List Named → List ℕ → List ℕ → ℕ
-reach_in [] reaches name = 0
-reach_in (f ∷ fs) [] name = 0
+-- how far the first file of this name was read in order, where it was
+abbrev pub reach_in : List Named → List (Option ℕ) → List ℕ → Option ℕ
+reach_in [] reaches name = Some 0
+reach_in (f ∷ fs) [] name = Some 0
 reach_in (f ∷ fs) (r ∷ rs) name = if has_name name f then r else reach_in fs rs name
 
 -- the first file of this name stands at this place

@@ -13,7 +13,7 @@ use std::alloc::{AllocError, Global};
 #[derive(Drop)]
 pub struct MemShelf {
     files: Vec<(String, Vec<u8>)>,
-    reached: Vec<u64>,
+    reached: Vec<Option<u64>>,
     failing: Vec<u64>,
     calls: u64,
     faults: u64,
@@ -38,7 +38,7 @@ impl MemShelf {
         ensures faults { IfOk result (λ s. faults_of s ≡ 0) }
         ensures unread { IfOk result (λ s. (name : List ℕ) → reach_of s name ≡ Some 0) }
     {
-        let reached = vec![in alloc; 0u64; files.len()]?;
+        let reached = vec![in alloc; Some(0u64); files.len()]?;
         Ok(MemShelf {
             files,
             reached,

@@ -1,6 +1,6 @@
-//! A part of a file, and how far a file was read.
-ghost use Rattle.std.specs.Prelude.{◌≡◌, ◌≤◌, ◌+◌, ◌<◌, ◌^◌, ◌==◌, length, drop, min, max, slice_set, slice_index, if◌then◌else◌, vec_len};
-ghost use Rattle.pr_edge.specs.Files.{IsPart};
+//! A part of a file, and how far a file was read in order.
+ghost use Rattle.std.specs.Prelude.{◌≡◌, ◌≤◌, ◌+◌, ◌<◌, ◌^◌, length, drop, min, slice_set, slice_index_or, None, vec_len};
+ghost use Rattle.pr_edge.specs.Files.{IsPart, raised};
 
 /// Copies the bytes from a place on, as many as there are and fit.
 pub fn copy_part(file: &[u8], place: u64, buf: &mut [u8]) -> usize
@@ -17,17 +17,23 @@ pub fn copy_part(file: &[u8], place: u64, buf: &mut [u8]) -> usize
     count
 }
 
-/// Raises the reach of a file.
-pub fn raise(reached: &mut Vec<u64>, i: usize, place: u64, count: usize)
+/// Moves the reach of a file to the end of a read, or drops it where the read did not begin at the reach.
+pub fn raise(reached: &mut Vec<Option<u64>>, i: usize, place: u64, count: usize)
     requires within { i < vec_len reached.old }
     requires fits { place + count < 2 ^ 64 }
-    ensures { reached.new.items ≡ slice_set reached.old.items i
-        (if count == 0 then slice_index reached.old.items i else max (slice_index reached.old.items i) (place + count)) }
+    ensures { reached.new.items
+        ≡ slice_set reached.old.items i (raised (slice_index_or reached.old.items i None) place count) }
 {
-    let was = reached[i];
-    reached[i] = if count == 0 {
-        was
-    } else {
-        was.max(place + count as u64)
+    reached[i] = match reached[i] {
+        None => None,
+        Some(reach) => {
+            if place == reach {
+                Some(reach + count as u64)
+            } else if count == 0 {
+                Some(reach)
+            } else {
+                None
+            }
+        }
     };
 }

@@ -1,6 +1,6 @@
 //! Files that are read from any place.
-ghost use Rattle.std.specs.Prelude.{◌≡◌, ◌≢◌, ℕ, ◌^◌, ◌<◌, ◌≤◌, ◌+◌, ◌⊎◌, List, length, Option, Some, IfOk, IfSome, OnOk, OnErr, IsErr, IsErrOf};
-ghost use Rattle.pr_edge.specs.Files.{Told, OfFile, IsMissing, IsPart, HasReadCause, reach_after};
+ghost use Rattle.std.specs.Prelude.{◌≡◌, ◌≢◌, ℕ, ◌^◌, ◌<◌, ◌≤◌, ◌+◌, ◌⊎◌, List, length, Option, IfOk, OnOk, OnErr, IsErr, IsErrOf};
+ghost use Rattle.pr_edge.specs.Files.{Told, OfFile, IsMissing, IsPart, HasReadCause, reach_after, IsReadOnce, IsReadTo};
 
 use crate::Failed;
 use std::alloc::{AllocError, Global};
@@ -8,8 +8,9 @@ use thiserror::Error;
 
 /// Files by their names.
 ///
-/// A shelf may tell the bytes of its files, and how far each was read, which is its reach. A shelf over a real file
-/// system tells neither.
+/// A shelf may tell the bytes of its files. It may also tell how many bytes of each were read in order, from its start
+/// on: this is the reach of the file. A read that gives bytes from any other place leaves the file without a reach. A
+/// shelf over a real file system tells neither.
 pub trait Shelf {
     ghost told: { Self → Told };
 
@@ -68,9 +69,10 @@ pub fn read_all<S: Shelf>(
     // A read that fails is not tried again: it ends with ReadFault.
     ensures steady { IsErrOf result ReadAll.ReadFault ⊎ S.faults shelf.new ≡ S.faults shelf.old }
 
-    // It reads at most 4,096 bytes past the limit.
-    ensures near { S.reach shelf.old name.now ≡ Some 0
-        → IfSome (S.reach shelf.new name.now) (λ r. r ≤ limit + 4096) }
+    // It reads the bytes in order and each of them once, at most 4,096 past the limit.
+    ensures once { IsReadOnce (limit + 4096) (S.reach shelf.old name.now) (S.reach shelf.new name.now) }
+    ensures all { IfOk result
+        (λ v. IsReadTo (length v.items) (S.reach shelf.old name.now) (S.reach shelf.new name.now)) }
 
     ensures same { S.told shelf.new ≡ S.told shelf.old }
     ensures others { (q : List ℕ) → q ≢ name.now → S.reach shelf.new q ≡ S.reach shelf.old q }
