@@ -42,8 +42,8 @@ abbrev pub IsReadOnce : ℕ → Option ℕ → Option ℕ → Type 0
 IsReadOnce most before now = before ≡ Some 0 → (IsSome now × IfSome now (λ r. r ≤ most))
 
 -- a file of which nothing was read before was read in order, and no byte of it twice, up to this place
-abbrev pub IsReadTo : ℕ → Option ℕ → Option ℕ → Type 0
-IsReadTo place before now = before ≡ Some 0 → now ≡ Some place
+abbrev pub IsReadThrough : ℕ → Option ℕ → Option ℕ → Type 0
+IsReadThrough place before now = before ≡ Some 0 → now ≡ Some place
 
 -- these bytes begin the file
 pub record IsPrefix (bytes file : List ℕ) : Type 0 where

@@ -1,6 +1,6 @@
 //! Files that are read from any place.
 ghost use Rattle.std.specs.Prelude.{◌≡◌, ◌≢◌, ℕ, ◌^◌, ◌<◌, ◌≤◌, ◌+◌, ◌⊎◌, List, length, Option, IfOk, OnOk, OnErr, IsErr, IsErrOf};
-ghost use Rattle.pr_edge.specs.Files.{Told, OfFile, IsMissing, IsPart, HasReadCause, reach_after, IsReadOnce, IsReadTo};
+ghost use Rattle.pr_edge.specs.Files.{Told, OfFile, IsMissing, IsPart, HasReadCause, reach_after, IsReadOnce, IsReadThrough};
 
 use crate::Failed;
 use std::alloc::{AllocError, Global};
@@ -72,7 +72,7 @@ pub fn read_all<S: Shelf>(
     // It reads the bytes in order and each of them once, at most 4,096 past the limit.
     ensures once { IsReadOnce (limit + 4096) (S.reach shelf.old name.now) (S.reach shelf.new name.now) }
     ensures all { IfOk result
-        (λ v. IsReadTo (length v.items) (S.reach shelf.old name.now) (S.reach shelf.new name.now)) }
+        (λ v. IsReadThrough (length v.items) (S.reach shelf.old name.now) (S.reach shelf.new name.now)) }
 
     ensures same { S.told shelf.new ≡ S.told shelf.old }
     ensures others { (q : List ℕ) → q ≢ name.now → S.reach shelf.new q ≡ S.reach shelf.old q }
