@@ -1,9 +1,9 @@
 -- The steps of a feed.
 
-use Rattle.std.proofs.Common.{◌≡◌, ℕ, ◌+◌, ◌-◌, ◌<◌, List, [], ◌++◌, take, drop, length, length-append, ap, sym, ◌∙◌, Some, None, inl, inr, max, if◌then◌else◌, ◌==◌, arith}
+use Rattle.std.proofs.Common.{◌≡◌, ℕ, ◌+◌, ◌-◌, ◌<◌, List, [], ◌++◌, take, drop, length, length-append, ap, sym, ◌∙◌, Some, None, inl, inr, refl, arith}
 use Rattle.std.proofs.lemmas.Bool.Decides.{eqb_tells}
 use Rattle.std.proofs.lemmas.List.{length-take, length-take-le, take_all, take-append-drop}
-use Rattle.pr_edge.specs.Files.{Told, OfFile, IsPart}
+use Rattle.pr_edge.specs.Files.{Told, OfFile, IsPart, raised}
 use Rattle.pr_samples.specs.declared.tails.Tail.{Tail}
 use Rattle.pr_samples.specs.declared.feed.Feed.{Feed}
 use Rattle.pr_samples.specs.declared.scan.Phase.{Phase}
@@ -62,8 +62,8 @@ fault_step f s file h is_open spent =
     IsReading-fault _ _ _ _ _ _ _ _ (rw (is_open, none) at h)
 
 -- a read from the reach on
-pub raised-here : (place count : ℕ) → (if count == 0 then place else max place (place + count)) ≡ place + count
-raised-here place count = elim (eqb_tells count 0) [ inl e ↦ rw e.0 (omega (arith, e.1)) | inr e ↦ rw e.0 (omega arith) ]
+pub raised-here : (place count : ℕ) → raised (Some place) place count ≡ Some (place + count)
+raised-here place count = elim (eqb_tells place place) [ inl e ↦ rw e.0 refl | inr e ↦ absurd (e.1 refl) ]
 
 -- a feed that may read on has given samples of whole lines alone
 pub open_gave_whole : (f : Feed) (file : List ℕ) → StandsFor f file → length (whole_samples f file) < f.given → f.tail ≡ Tail.Open → ⊥

@@ -114,7 +114,7 @@ loop-cursor-preserved g c =
       reached = λ known.
           rw named at c.in-Ok.ensures.reached
           ∙ ap (λ (r : Option ℕ). raised r f.place c.in-Ok.count) (c.loop-cursor.invariant.reached known)
-          ∙ ap Some (raised-here f.place c.in-Ok.count ∙ sym (c.meet-met.ensures.bytes.place ∙ c.advance.ensures.place));
+          ∙ (raised-here f.place c.in-Ok.count ∙ ap Some (sym (c.meet-met.ensures.bytes.place ∙ c.advance.ensures.place)));
       others = λ q other. c.read_at.ensures.others q (rw named other) ∙ c.loop-cursor.invariant.others q other;
     }
 
