@@ -461,6 +461,8 @@ impl Feed {
         ensures steady { OnOk result (S.faults shelf.new ≡ S.faults shelf.old) }
         ensures later { S.faults shelf.old ≤ S.faults shelf.new }
         ensures same { S.told shelf.new ≡ S.told shelf.old }
+        ensures reached { S.reach shelf.old (name_of self.old) ≡ Some (place_of self.old)
+            → S.reach shelf.new (name_of self.old) ≡ Some (place_of self.new) }
         ensures others { (q : List ℕ) → q ≢ name_of self.old → S.reach shelf.new q ≡ S.reach shelf.old q }
     {
         self.start = self.end;

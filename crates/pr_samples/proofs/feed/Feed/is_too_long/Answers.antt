@@ -1,8 +1,9 @@
-use Rattle.std.proofs.Common.{◌≡◌, ◌<◌, ◌∙◌, length, refl, subst, arith, rules}
-use Rattle.pr_edge.specs.Files.{Told, OfFile, IsPart}
+use Rattle.std.proofs.Common.{◌≡◌, ℕ, ◌<◌, ◌∙◌, length, Option, Some, refl, sym, ap, subst, arith, rules}
+use Rattle.pr_edge.specs.Files.{Told, OfFile, IsPart, raised}
 use Rattle.pr_samples.specs.declared.tails.Tail.{Tail}
 use Rattle.pr_samples.specs.Feed.{name_of}
 use Rattle.std.proofs.lemmas.Grind.{common_steps}
+use Rattle.pr_samples.proofs.Reading.{raised-here}
 use Rattle.pr_samples.proofs.SeenLemmas.{reads_more}
 use Rattle.pr_samples.proofs.feed.Feed.is_too_long.Goals as goal
 
@@ -30,6 +31,10 @@ loop-shelf-preserved g c =
       steady = c.in_ok-count.ensures.steady ∙ c.loop-shelf.invariant.steady;
       later = omega (arith, c.loop-shelf.invariant.later, c.read_at.ensures.later);
       same = c.read_at.ensures.same ∙ c.loop-shelf.invariant.same;
+      reached = λ known.
+          rw named at c.in_ok-count.ensures.reached
+          ∙ ap (λ (r : Option ℕ). raised r f.place c.in_ok-count.count) (c.loop-shelf.invariant.reached known)
+          ∙ (raised-here f.place c.in_ok-count.count ∙ ap Some (sym c.advance.ensures.place));
       others = λ q other. c.read_at.ensures.others q (rw named other) ∙ c.loop-shelf.invariant.others q other;
     }
 

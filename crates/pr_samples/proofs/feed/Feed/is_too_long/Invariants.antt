@@ -1,6 +1,6 @@
-use Rattle.std.proofs.Common.{◌≡◌, ◌≢◌, ℕ, ◌+◌, ◌-◌, ◌*◌, ◌≤◌, List}
+use Rattle.std.proofs.Common.{◌≡◌, ◌≢◌, ℕ, ◌+◌, ◌-◌, ◌*◌, ◌≤◌, List, Some}
 use Rattle.std.specs.Prelude.{⊤}
-use Rattle.pr_samples.specs.Feed.{SameFile, IsSeen, ReadsOn, name_of}
+use Rattle.pr_samples.specs.Feed.{SameFile, IsSeen, ReadsOn, name_of, place_of}
 use Rattle.pr_samples.proofs.Reading.{tail_weight}
 use Rattle.pr_samples.proofs.feed.Feed.is_too_long.Given as goal
 
@@ -12,6 +12,7 @@ invariant-loop-shelf g l = record {
   steady : g.S.Shelf.faults l.shelf ≡ g.S.Shelf.faults l.initial.shelf;
   later : g.S.Shelf.faults l.initial.shelf ≤ g.S.Shelf.faults l.shelf;
   same : g.S.Shelf.told l.shelf ≡ g.S.Shelf.told l.initial.shelf;
+  reached : g.S.Shelf.reach l.initial.shelf (name_of l.initial.self) ≡ Some (place_of l.initial.self) → g.S.Shelf.reach l.shelf (name_of l.initial.self) ≡ Some (place_of l.self);
   others : (q : List ℕ) → q ≢ name_of l.initial.self → g.S.Shelf.reach l.shelf q ≡ g.S.Shelf.reach l.initial.shelf q;
 }
 
