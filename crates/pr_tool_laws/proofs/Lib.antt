@@ -5,3 +5,5 @@ mod ByteConfigurations
 mod ByteStates
 mod Lengths
 mod Kept
+mod SampleLines
+mod GeneratedSamples

@@ -1,4 +1,5 @@
-//! What is written of a program's configuration is read as it. Nothing here runs.
+//! What is written of a program's configuration is read as it, and generated samples are as many as their lines.
+//! Nothing here runs.
 //!
 //! The laws of `pr_tool_modes` on configuration files and checkpoints ask that constants are bytes, and that the file is not too long.
 //! The laws here give that of each file that was written of a program.
@@ -17,6 +18,10 @@ ghost use Rattle.pr_tool_modes.specs.Behaviours.{IsKept};
 ghost use Rattle.pr_tool_modes.specs.Resumptions.{IsMarkKept};
 ghost use Rattle.pr_tool_modes.specs.Samples.{pieces};
 ghost use Rattle.pr_tool_laws.specs.Written.{IsWritten, IsMarkWritten};
+
+mod generated;
+
+pub use generated::generated_law;
 
 /// All constants of a compiled configuration are bytes, and so they are after samples.
 pub fn bytes_law()
