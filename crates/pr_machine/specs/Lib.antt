@@ -1,5 +1,6 @@
 pub mod Places
 pub mod Ready
+pub mod Fits
 pub mod Schedules
 pub mod Stands
 pub mod Results
