@@ -6,3 +6,4 @@ pub mod Stands
 pub mod Results
 pub mod Parking
 pub mod Emptying
+pub mod Rooms

@@ -385,7 +385,7 @@ fn leaving<const N: usize, const P: usize>(
     ensures result { row_if result into.new.items
         ≡ option_map (tapped N (shape_of conf.now)) (leaves (spots_of places.now) last) }
     ensures length { result ≡ true → length into.new.items ≡ bytes_in (output_widths (shape_of conf.now)) }
-    ensures room { vec_capacity into.old ≤ vec_capacity into.new }
+    ensures room { vec_capacity into.new ≡ vec_capacity into.old }
 {
     match last {
         None => false,
@@ -425,7 +425,7 @@ pub(crate) fn pass<const N: usize, const P: usize>(
     ensures length { result.left ≡ true →
         length buffers.new.result.items ≡ bytes_in (output_widths (shape_of conf.now)) }
     ensures rows { length buffers.new.store ≡ length buffers.old.store }
-    ensures buffer { vec_capacity buffers.old.result ≤ vec_capacity buffers.new.result }
+    ensures buffer { vec_capacity buffers.new.result ≡ vec_capacity buffers.old.result }
     ensures others { (buffers.new.input ≡ buffers.old.input) × (buffers.new.output ≡ buffers.old.output)
         × (buffers.new.sample ≡ buffers.old.sample) × (buffers.new.prepared ≡ buffers.old.prepared) }
     ensures here { AreHere (vec_len conf.now.stages) places.new }
