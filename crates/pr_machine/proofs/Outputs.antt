@@ -1,5 +1,5 @@
 -- The bytes that taps read, output by output.
-use Rattle.std.proofs.Common.{◌≡◌, ℕ, zero, suc, ◌+◌, ◌<◌, ◌≤◌, Bool, true, ◌&&◌, eqb, ltb, leb, List, [], ◌∷◌, ◌++◌, length, get_or, take, map, refl, sym, ap, ap₂, ◌∙◌, arith, append_assoc, length-append, Result, Ok, is_ok, cond}
+use Rattle.std.proofs.Common.{◌≡◌, ℕ, zero, suc, ◌+◌, ◌<◌, ◌≤◌, Bool, true, ◌&&◌, eqb, ltb, leb, List, [], ◌∷◌, ◌++◌, length, get_or, take, map, refl, sym, ap, ap₂, ◌∙◌, arith, append_assoc, length-append}
 use Rattle.std.specs.List.{flat_map, list_all}
 use Rattle.std.proofs.lemmas.Bool.{eqb-true}
 use Rattle.std.proofs.lemmas.List.{take_more, append-nil, map-append, length-map}
@@ -17,12 +17,11 @@ use Rattle.pr_machine.specs.Results.{bytes_read}
 use Rattle.pr_machine.proofs.Stages.{and_left, and_right}
 
 -- one more tap
-pub taps_more : {A B : Type 0} (f : Tap → ℕ) (taps : List Tap) (i : ℕ) (d : Tap) (old into new : List ℕ) (x : ℕ) (r : Result A B) (u : A) → i < length taps → into ≡ old ++ map f (take i taps) → new ≡ cond (is_ok r) (into ++ x ∷ []) into → r ≡ Ok u → x ≡ f (get_or taps i d) → new ≡ old ++ map f (take (i + 1) taps)
-taps_more f taps i d old into new x r u h e n o v =
-    n ∙ (ap (λ y. cond (is_ok y) (into ++ x ∷ []) into) o
-    ∙ (ap₂ (λ a b. a ++ b ∷ []) e v
+pub taps_more : (f : Tap → ℕ) (taps : List Tap) (i : ℕ) (d : Tap) (old into new : List ℕ) (x : ℕ) → i < length taps → into ≡ old ++ map f (take i taps) → new ≡ into ++ x ∷ [] → x ≡ f (get_or taps i d) → new ≡ old ++ map f (take (i + 1) taps)
+taps_more f taps i d old into new x h e n v =
+    n ∙ (ap₂ (λ a b. a ++ b ∷ []) e v
     ∙ (append_assoc old (map f (take i taps)) (f (get_or taps i d) ∷ [])
-    ∙ ap (λ a. old ++ a) (sym (map-append f (take i taps) (get_or taps i d ∷ [])) ∙ ap (map f) (sym (take_more taps i d h))))))
+    ∙ ap (λ a. old ++ a) (sym (map-append f (take i taps) (get_or taps i d ∷ [])) ∙ ap (map f) (sym (take_more taps i d h)))))
 
 -- one more output
 pub outputs_more : (N : ℕ) (row : List ℕ) (outputs : List Output) (i : ℕ) (o : Output) (into new : List ℕ) (taps : List Tap) → i < length outputs → o ≡ get_or outputs i o → taps ≡ o.taps.items → into ≡ bytes_read N row (take i outputs) → new ≡ into ++ map (tap_byte N row) taps

@@ -54,6 +54,7 @@ fn enter<const N: usize>(buffers: &mut Buffers<N>, first: Option<usize>) -> bool
     ensures rest { buffers.new.input.waiting ≡ rest_of buffers.old.input.waiting first }
     ensures size { buffers.new.input.size ≡ buffers.old.input.size }
     ensures length { vec_len buffers.new.sample ≡ vec_len buffers.old.sample }
+    ensures room { vec_capacity buffers.new.sample ≡ vec_capacity buffers.old.sample }
     ensures others { (buffers.new.store ≡ buffers.old.store) × (buffers.new.output ≡ buffers.old.output)
         × (buffers.new.result ≡ buffers.old.result) × (buffers.new.prepared ≡ buffers.old.prepared) }
 {
@@ -124,6 +125,7 @@ fn configured(event: Option<(u32, u32)>) -> Option<(u32, u32)>
 
 impl<const N: usize, const P: usize> Loaded<N, P> {
     ghost use Rattle.pr_machine.specs.Stands.{PartsStand, History, account_of, next_turn};
+    ghost use Rattle.pr_machine.specs.Rooms.{rooms_in, rooms_with};
 
     /// The parts of a machine at cycle 0.
     pub(crate) fn at_start(
@@ -145,6 +147,7 @@ impl<const N: usize, const P: usize> Loaded<N, P> {
         requires buffer { bytes_in (output_widths (shape_of conf)) ≤ vec_capacity buffers.result }
         ensures stands { PartsStand result (shape_of conf.entry) (length places.entry.items) [] }
         ensures conf { result.conf ≡ conf.entry }
+        ensures rooms { rooms_in result ≡ rooms_with (vec_capacity places.entry) buffers.entry }
     {
         let plan = Plan::make(conf.stages() as u32, places.len() as u32);
         Loaded {
@@ -206,6 +209,7 @@ impl<const N: usize, const P: usize> Loaded<N, P> {
         ensures conf { self.new.conf ≡ self.old.conf }
         ensures stripes { vec_len self.new.places ≡ vec_len self.old.places }
         ensures time { self.new.plan.time ≡ self.old.plan.time + 1 }
+        ensures rooms { rooms_in self.new ≡ rooms_in self.old }
     {
         let event = self.plan.next();
         let entering = enter(&mut self.buffers, schedule.first);

@@ -142,6 +142,7 @@ impl<const N: usize, const P: usize> Machine<N, P, Bare> {
 
 impl<const N: usize, const P: usize> Machine<N, P, Running> {
     ghost use Rattle.pr_machine.specs.Stands.{Stands, History, account_of, conf_of, stripes_of, time_of, sample_bytes_of, result_bytes_of, waiting_samples, waiting_results, reply_of, offer_reply, take_reply, cycle_reply, turn_of, IsStored, IsKept};
+    ghost use Rattle.pr_machine.specs.Rooms.{rooms_of};
 
     /// Puts a sample at the end of the input queue. The piece has the sample's bytes.
     ///
@@ -160,6 +161,7 @@ impl<const N: usize, const P: usize> Machine<N, P, Running> {
         ensures same { OnErr result (waiting_samples self.new ≡ waiting_samples self.old) }
         ensures kept { IsKept self.old self.new }
         ensures results { waiting_results self.new ≡ waiting_results self.old }
+        ensures rooms { rooms_of self.new ≡ rooms_of self.old }
     {
         match self.parts.buffers.input.put(piece) {
             Ok(()) => Ok(()),
@@ -184,6 +186,7 @@ impl<const N: usize, const P: usize> Machine<N, P, Running> {
         ensures same { OnErr result ((waiting_results self.new ≡ waiting_results self.old) × (into.new ≡ into.old)) }
         ensures kept { IsKept self.old self.new }
         ensures samples { waiting_samples self.new ≡ waiting_samples self.old }
+        ensures rooms { rooms_of self.new ≡ rooms_of self.old }
     {
         match self.parts.buffers.output.get(into) {
             Ok(()) => Ok(()),
@@ -206,6 +209,7 @@ impl<const N: usize, const P: usize> Machine<N, P, Running> {
         ensures conf { self.new.parts.conf ≡ self.old.parts.conf }
         ensures stripes { stripes_of self.new ≡ stripes_of self.old }
         ensures time { time_of self.new ≤ time_of self.old + 1 }
+        ensures rooms { rooms_of self.new ≡ rooms_of self.old }
     {
         let schedule = self.parts.schedule();
         if self.parts.is_held(&schedule) {

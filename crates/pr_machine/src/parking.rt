@@ -66,12 +66,14 @@ impl<const N: usize, const P: usize> Parked<N, P> {
 impl<const N: usize, const P: usize> Machine<N, P, Bare> {
     ghost use Rattle.pr_machine.specs.Stands.{Stands, bare_stripes};
     ghost use Rattle.pr_machine.specs.Parking.{parked_conf};
+    ghost use Rattle.pr_machine.specs.Rooms.{rooms_apart, rooms_of};
 
     /// Takes up a parked configuration: the machine begins at cycle 0 with empty queues, and each stage in the state in
     /// which the configuration has it begin. No memory is taken.
     pub fn resume(self, parked: Parked<N, P>) -> Machine<N, P, Running>
         ensures stands { Stands result (parked_conf parked.entry) (bare_stripes self.entry) [] }
         ensures conf { result.parts.conf ≡ parked.entry.conf }
+        ensures rooms { rooms_of result ≡ rooms_apart self.entry parked.entry }
     {
         let Machine { parts } = self;
         let Idle { places } = parts;
@@ -85,6 +87,7 @@ impl<const N: usize, const P: usize> Machine<N, P, Bare> {
 impl<const N: usize, const P: usize> Machine<N, P, Running> {
     ghost use Rattle.pr_machine.specs.Stands.{Stands, History, account_of, bare_stripes, stripes_of, conf_of, waiting_samples, waiting_results};
     ghost use Rattle.pr_machine.specs.Parking.{parked_conf};
+    ghost use Rattle.pr_machine.specs.Rooms.{rooms_apart, rooms_of};
 
     /// Parks the configuration of a machine in which nothing is in flight: each of its stages then begins in the state in
     /// which the samples left it. The machine is bare again. No memory is taken.
@@ -99,6 +102,7 @@ impl<const N: usize, const P: usize> Machine<N, P, Running> {
         ensures stripes { bare_stripes result.0 ≡ stripes_of self.entry }
         ensures inputs { (parked_conf result.1).inputs ≡ (conf_of self.entry).inputs }
         ensures outputs { (parked_conf result.1).outputs ≡ (conf_of self.entry).outputs }
+        ensures rooms { rooms_apart result.0 result.1 ≡ rooms_of self.entry }
     {
         let Machine { parts } = self;
         let Loaded {

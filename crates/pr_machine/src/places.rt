@@ -11,7 +11,8 @@ ghost use Rattle.pr_machine_refines.specs.Cycle.{will_leave as leaving_by, leave
 ghost use Rattle.pr_stripe.specs.Rows.{shown};
 ghost use Rattle.pr_stripe.specs.Rows.{entering as row_if};
 ghost use Rattle.pr_machine.specs.Places.{seen, place_at, spots_of, rows_of, is_there, IsHere, AreHere, AreIdle};
-ghost use Rattle.pr_machine.specs.Ready.{AreReady};
+ghost use Rattle.pr_machine.specs.Fits.{Fits};
+ghost use Rattle.pr_machine.specs.Schedules.{IsFor};
 
 use crate::buffers::Buffers;
 use crate::results::read_result;
@@ -66,9 +67,7 @@ fn compute_at<const N: usize, const P: usize>(
 )
     requires here { IsHere (vec_len conf.now.stages) place.old }
     requires prev { is_there prev.now ≡ true }
-    requires sample { vec_len buffers.now.sample ≡ bytes_in (shape_of conf.now).inputs }
-    requires ready { AreReady (P - 1) (shape_of conf.now).stages buffers.now.prepared.items }
-    requires count { vec_len buffers.now.prepared ≡ vec_len conf.now.stages }
+    requires fits { Fits conf.now buffers.now }
     ensures step { seen place.new ≡ stepped (steps_of N P (shape_of conf.now)) (row_if valid buffers.now.sample.items)
         (seen place.old) (shows (seen prev.now)) }
     ensures here { IsHere (vec_len conf.now.stages) place.new }
@@ -141,9 +140,7 @@ fn step_below<const N: usize, const P: usize>(
     requires from { from < length places.old }
     requires below { at < from }
     requires here { AreHere (vec_len conf.now.stages) places.old }
-    requires sample { vec_len buffers.now.sample ≡ bytes_in (shape_of conf.now).inputs }
-    requires ready { AreReady (P - 1) (shape_of conf.now).stages buffers.now.prepared.items }
-    requires count { vec_len buffers.now.prepared ≡ vec_len conf.now.stages }
+    requires fits { Fits conf.now buffers.now }
     ensures others { (j : ℕ) → j ≢ at → place_at places.new j ≡ place_at places.old j }
     ensures step { spots_of places.new at ≡
         stepped (steps_of N P (shape_of conf.now)) (row_if valid buffers.now.sample.items)
@@ -169,9 +166,7 @@ fn step_at<const N: usize, const P: usize>(
     requires from { from < length places.old }
     requires apart { at ≢ from }
     requires here { AreHere (vec_len conf.now.stages) places.old }
-    requires sample { vec_len buffers.now.sample ≡ bytes_in (shape_of conf.now).inputs }
-    requires ready { AreReady (P - 1) (shape_of conf.now).stages buffers.now.prepared.items }
-    requires count { vec_len buffers.now.prepared ≡ vec_len conf.now.stages }
+    requires fits { Fits conf.now buffers.now }
     ensures others { (j : ℕ) → j ≢ at → place_at places.new j ≡ place_at places.old j }
     ensures step { spots_of places.new at ≡
         stepped (steps_of N P (shape_of conf.now)) (row_if valid buffers.now.sample.items)
@@ -219,9 +214,7 @@ fn step_ring<const N: usize, const P: usize>(
     requires at { q < length places.old }
     requires small { length places.old ≤ 256 }
     requires here { AreHere (vec_len conf.now.stages) places.old }
-    requires sample { vec_len buffers.now.sample ≡ bytes_in (shape_of conf.now).inputs }
-    requires ready { AreReady (P - 1) (shape_of conf.now).stages buffers.now.prepared.items }
-    requires count { vec_len buffers.now.prepared ≡ vec_len conf.now.stages }
+    requires fits { Fits conf.now buffers.now }
     ensures ring { IsRingStep (steps_of N P (shape_of conf.now)) (row_if valid buffers.now.sample.items)
         (length places.old) q (spots_of places.old) (spots_of places.new) }
     ensures here { AreHere (vec_len conf.now.stages) places.new }
@@ -250,9 +243,7 @@ fn step_line<const N: usize, const P: usize>(
     requires live { live ≤ length places.old }
     requires idle { AreIdle live (spots_of places.old) }
     requires here { AreHere (vec_len conf.now.stages) places.old }
-    requires sample { vec_len buffers.now.sample ≡ bytes_in (shape_of conf.now).inputs }
-    requires ready { AreReady (P - 1) (shape_of conf.now).stages buffers.now.prepared.items }
-    requires count { vec_len buffers.now.prepared ≡ vec_len conf.now.stages }
+    requires fits { Fits conf.now buffers.now }
     ensures line { IsLineStep (steps_of N P (shape_of conf.now)) (row_if valid buffers.now.sample.items)
         (length places.old) (spots_of places.old) (spots_of places.new) }
     ensures here { AreHere (vec_len conf.now.stages) places.new }
@@ -273,15 +264,9 @@ fn compute<const N: usize, const P: usize>(
     buffers: &Buffers<N>,
     valid: bool,
 )
-    requires two { 2 ≤ length places.old }
-    requires small { length places.old ≤ 256 }
-    requires live { schedule.now.live ≤ length places.old }
-    requires idle { AreIdle schedule.now.live (spots_of places.old) }
+    requires schedule { IsFor places.old schedule.now }
     requires here { AreHere (vec_len conf.now.stages) places.old }
-    requires sample { vec_len buffers.now.sample ≡ bytes_in (shape_of conf.now).inputs }
-    requires ready { AreReady (P - 1) (shape_of conf.now).stages buffers.now.prepared.items }
-    requires count { vec_len buffers.now.prepared ≡ vec_len conf.now.stages }
-    requires ring { IfSome schedule.now.ring (λ q. q < length places.old) }
+    requires fits { Fits conf.now buffers.now }
     ensures stepped { AreStepped (steps_of N P (shape_of conf.now)) (row_if valid buffers.now.sample.items)
         (length places.old) schedule.now.ring (spots_of places.old) (spots_of places.new) }
     ensures here { AreHere (vec_len conf.now.stages) places.new }
@@ -400,7 +385,7 @@ fn leaving<const N: usize, const P: usize>(
     ensures result { row_if result into.new.items
         ≡ option_map (tapped N (shape_of conf.now)) (leaves (spots_of places.now) last) }
     ensures length { result ≡ true → length into.new.items ≡ bytes_in (output_widths (shape_of conf.now)) }
-    ensures room { vec_capacity into.old ≤ vec_capacity into.new }
+    ensures room { vec_capacity into.new ≡ vec_capacity into.old }
 {
     match last {
         None => false,
@@ -426,18 +411,11 @@ pub(crate) fn pass<const N: usize, const P: usize>(
     event: Option<(u32, u32)>,
     entering: bool,
 ) -> Passed
-    requires two { 2 ≤ length places.old }
-    requires small { length places.old ≤ 256 }
+    requires schedule { IsFor places.old schedule.now }
     requires here { AreHere (vec_len conf.now.stages) places.old }
+    requires fits { Fits conf.now buffers.old }
     requires rows { length buffers.old.store ≡ vec_len conf.now.stages }
-    requires sample { vec_len buffers.old.sample ≡ bytes_in (shape_of conf.now).inputs }
-    requires ready { AreReady (P - 1) (shape_of conf.now).stages buffers.old.prepared.items }
-    requires count { vec_len buffers.old.prepared ≡ vec_len conf.now.stages }
     requires buffer { bytes_in (output_widths (shape_of conf.now)) ≤ vec_capacity buffers.old.result }
-    requires live { schedule.now.live ≤ length places.old }
-    requires idle { AreIdle schedule.now.live (spots_of places.old) }
-    requires ring { IfSome schedule.now.ring (λ q. q < length places.old) }
-    requires last { IfSome schedule.now.last (λ i. i < length places.old) }
     requires inside { IsInside (vec_len conf.now.stages) (length places.old) event }
     ensures pass { IsPass (steps_of N P (shape_of conf.now)) (tapped N (shape_of conf.now))
         (vec_len conf.now.stages) (length places.old) schedule.now.ring schedule.now.last event
@@ -447,7 +425,7 @@ pub(crate) fn pass<const N: usize, const P: usize>(
     ensures length { result.left ≡ true →
         length buffers.new.result.items ≡ bytes_in (output_widths (shape_of conf.now)) }
     ensures rows { length buffers.new.store ≡ length buffers.old.store }
-    ensures buffer { vec_capacity buffers.old.result ≤ vec_capacity buffers.new.result }
+    ensures buffer { vec_capacity buffers.new.result ≡ vec_capacity buffers.old.result }
     ensures others { (buffers.new.input ≡ buffers.old.input) × (buffers.new.output ≡ buffers.old.output)
         × (buffers.new.sample ≡ buffers.old.sample) × (buffers.new.prepared ≡ buffers.old.prepared) }
     ensures here { AreHere (vec_len conf.now.stages) places.new }

@@ -24,20 +24,20 @@ fn read_tap<const N: usize, const P: usize>(row: &Row<N, P>, tap: Tap) -> u8
     }
 }
 
-/// Appends the bytes of an output. There is room for them, so no memory is taken.
+/// Appends the bytes of an output, for which there is room.
 #[inline(always)]
 fn append_output<const N: usize, const P: usize>(into: &mut Vec<u8>, row: &Row<N, P>, taps: &[Tap])
     requires lawful { list_all (is_lawful_tap N P) taps.now ≡ true }
     requires room { vec_len into.old + length taps.now ≤ vec_capacity into.old }
     ensures bytes { into.new.items ≡ into.old.items ++ map (tap_byte N (bytes_of row.now)) taps.now }
-    ensures capacity { vec_capacity into.old ≤ vec_capacity into.new }
+    ensures capacity { vec_capacity into.new ≡ vec_capacity into.old }
 {
     for tap in taps {
-        into.push(read_tap(row, *tap)).unwrap();
+        into.push_reserved(read_tap(row, *tap));
     }
 }
 
-/// Appends the bytes of outputs. There is room for them, so no memory is taken.
+/// Appends the bytes of outputs, for which there is room.
 #[inline(always)]
 fn append_outputs<const N: usize, const P: usize>(
     into: &mut Vec<u8>,
@@ -48,14 +48,14 @@ fn append_outputs<const N: usize, const P: usize>(
     requires empty { into.old.items ≡ [] }
     requires room { bytes_in (map (λ o. o.width) outputs.now) ≤ vec_capacity into.old }
     ensures bytes { into.new.items ≡ bytes_read N (bytes_of row.now) outputs.now }
-    ensures capacity { vec_capacity into.old ≤ vec_capacity into.new }
+    ensures capacity { vec_capacity into.new ≡ vec_capacity into.old }
 {
     for output in outputs {
         append_output(into, row, &output.taps);
     }
 }
 
-/// Fills a buffer with the result that a configuration reads from a row of its last stage. No memory is taken.
+/// Fills a buffer with the result that a configuration reads from a row of its last stage.
 #[inline(always)]
 pub(crate) fn read_result<const N: usize, const P: usize>(
     conf: &Configuration<N, P>,
@@ -65,7 +65,7 @@ pub(crate) fn read_result<const N: usize, const P: usize>(
     requires { bytes_in (output_widths (shape_of conf.now)) ≤ vec_capacity into.old }
     ensures bytes { into.new.items ≡ tapped N (shape_of conf.now) (bytes_of row.now) }
     ensures length { length into.new.items ≡ bytes_in (output_widths (shape_of conf.now)) }
-    ensures capacity { vec_capacity into.old ≤ vec_capacity into.new }
+    ensures capacity { vec_capacity into.new ≡ vec_capacity into.old }
 {
     into.clear();
     append_outputs(into, row, &conf.outputs);

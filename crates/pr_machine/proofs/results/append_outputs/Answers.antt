@@ -1,4 +1,4 @@
-use Rattle.std.proofs.Common.{lit<, arith, vec_len, vec_capacity}
+use Rattle.std.proofs.Common.{lit<, arith, ◌∙◌, vec_len, vec_capacity}
 use Rattle.pr_machine.specs.Places.{bytes_of}
 use Rattle.pr_machine.proofs.Outputs.{taps_lawful, room_left, outputs_more}
 use Rattle.pr_machine.proofs.results.append_outputs.Goals as goal
@@ -15,5 +15,5 @@ append_output-requires g c = (
 pub loop-output-preserved : goal.loop-output-preserved
 loop-output-preserved g c = record {
   bytes = outputs_more g.row.N (bytes_of c.args.row.now) c.args.outputs.now c.loop-output.output-index c.output-item.result c.loop-output.into.items c.append_output.new.into.items c.deref.result.now c.loop-output-test.true c.output-item.is c.deref.ensures.value c.loop-output.invariant.bytes c.append_output.ensures.bytes;
-  capacity = omega (arith, c.append_output.ensures.capacity, c.loop-output.invariant.capacity);
+  capacity = c.append_output.ensures.capacity ∙ c.loop-output.invariant.capacity;
 }

@@ -43,8 +43,19 @@ returns-clause-turn g c =
 pub pass-passed-requires : goal.pass-passed-requires
 pass-passed-requires g c =
     let s = c.args.self.now in
-    let ready = same_ready (g.row.P - 1) (shape_of s.conf).stages s.buffers.prepared.items _ (ap (λ v. v.items) c.enter-entering.ensures.others.3) s.ready in
-    (omega arith, (omega arith, (omega arith, (search rules, (search rules, (search rules, (search rules, (search rules, (ready, (search rules, (search rules, (search rules, (search rules, search rules)))))))))))))
+    let ready = same_ready (g.row.P - 1) (shape_of s.conf).stages s.buffers.prepared.items _ (ap (λ v. v.items) c.enter-entering.ensures.others.3) s.ready in (
+      omega arith,
+      (
+        omega arith,
+        (
+          omega arith,
+          (
+            record { two = search rules; small = search rules; live = search rules; idle = search rules; ring = search rules; last = search rules },
+            (search rules, (record { sample = search rules; ready = ready; count = search rules }, (search rules, (search rules, search rules)))),
+          ),
+        ),
+      ),
+    )
 
 pub invariant_of-self-clause-ready : goal.invariant_of-self-clause-ready
 invariant_of-self-clause-ready g c =
