@@ -1,3 +1,5 @@
 pub mod Files
 pub mod Slots
 pub mod Streams
+pub mod Gathering
+pub mod Words

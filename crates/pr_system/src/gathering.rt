@@ -2,6 +2,7 @@
 ghost use Rattle.std.specs.Prelude.{◌≡◌, ◌≤◌, [], length, true, false, None, IfOk, IfSome, IsErr, is_some};
 ghost use Rattle.std.specs.Io.Buffered.{writer_contents, writer_inner, writer_buffer};
 ghost use Rattle.std.specs.Io.KnownBytes.{Keeps, WriteAppends};
+ghost use Rattle.pr_system.specs.Gathering.{are_through};
 
 use crate::streams::flush_once;
 use std::alloc::Global;
@@ -100,6 +101,16 @@ impl<W> Finished<W> {
         ensures { result ≡ is_some self.now.stream }
     {
         self.stream.is_some()
+    }
+}
+
+/// Whether the last results were handed on, and went through.
+pub fn are_through<W>(last: &Option<Finished<W>>) -> bool
+    ensures { result ≡ are_through last.now }
+{
+    match last {
+        Some(finished) => finished.went_through(),
+        None => false,
     }
 }
 
