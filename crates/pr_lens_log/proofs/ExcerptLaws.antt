@@ -1,5 +1,5 @@
 -- What is kept of cycles, with one cycle more.
-use Rattle.std.proofs.Common.{◌≡◌, ◌+◌, ◌-◌, ◌<◌, ◌≤◌, ◌++◌, ◌∷◌, ◌∙◌, ◌==◌, [], ℕ, zero, suc, Bool, true, false, max, if◌then◌else◌, List, Option, Some, None, length, take, drop, map, replicate, inl, inr, refl, sym, ap, subst, arith, length-append, length-take, length-drop}
+use Rattle.std.proofs.Common.{◌≡◌, ◌+◌, ◌-◌, ◌≤◌, ◌++◌, ◌∷◌, ◌∙◌, ◌==◌, [], ℕ, zero, suc, Bool, true, false, max, if◌then◌else◌, List, Option, Some, None, length, take, drop, map, replicate, inl, inr, refl, sym, ap, subst, arith, length-take, length-drop}
 use Rattle.std.specs.Prelude.{fold, nat_eq, nat_lt, slice_get, slice_range, slice_set}
 use Rattle.std.proofs.lemmas.Bool.{cases_Bool, cases_lt, lt-ltb, ltb-true}
 use Rattle.std.proofs.lemmas.List.{drop-append-le, length_push, map_push, set_past, take-append-le, take-replicate, take_all, take_rest}

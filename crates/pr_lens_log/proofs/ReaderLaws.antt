@@ -1,5 +1,5 @@
 -- Logs that are read piece by piece.
-use Rattle.std.proofs.Common.{◌≡◌, ◌≢◌, ◌⊎◌, ◌+◌, ◌-◌, ◌<◌, ◌≤◌, ◌++◌, ◌∷◌, ◌∙◌, [], ℕ, max, List, Option, Some, None, length, take, drop, get_or, inl, inr, refl, sym, ap, subst, arith, append_assoc, length-append, length-drop}
+use Rattle.std.proofs.Common.{◌≡◌, ◌≢◌, ◌+◌, ◌-◌, ◌<◌, ◌≤◌, ◌++◌, ◌∷◌, ◌∙◌, [], ℕ, List, Option, Some, None, length, take, drop, get_or, inl, inr, refl, sym, ap, subst, arith, append_assoc, length-append, length-drop}
 use Rattle.std.specs.Prelude.{slice_range, IfErr, OnOk, Result, Ok, Err, Vec}
 use Rattle.std.specs.declared.alloc.Global.{Global}
 use Rattle.std.proofs.lemmas.Bool.{cases_eq, cases_lt}
@@ -19,7 +19,7 @@ use Rattle.pr_lens_log.specs.Excerpts.{AreTotals, IsExcerpt, first_in, most, str
 use Rattle.pr_lens_log.specs.Pasts.{IsPast}
 use Rattle.pr_lens_log.specs.Windows.{part_in}
 use Rattle.pr_lens_log.specs.Lines.{IsCycleLine, IsEndLine, IsResultLine}
-use Rattle.pr_lens_log.specs.Logs.{AreDrawn, HasTale, IsBadAt, IsKept, IsLineFault, IsLineOf, IsLogAnswer, IsLogOf, IsTaken, IsTaleOf, IsUnlawful, TakesLine, Tale, TellsNoCycle, TellsTo, adds, counts, keeps, most_line_bytes, nothing, one_more, with_cycle}
+use Rattle.pr_lens_log.specs.Logs.{AreDrawn, HasTale, IsBadAt, IsKept, IsLineFault, IsLineOf, IsLogAnswer, IsLogOf, IsTaken, IsUnlawful, TakesLine, Tale, TellsNoCycle, TellsTo, adds, counts, keeps, most_line_bytes, nothing, one_more, with_cycle}
 use Rattle.pr_lens_log.specs.Readers.{HasRead, HasReadAll, HasRoom, HasTaken, IsAtLine}
 use Rattle.pr_lens_log.proofs.ExcerptLaws.{most_more, past_cut, slice_same}
 use Rattle.pr_lens_log.proofs.LineLaws.{end_is_other, result_is_other}

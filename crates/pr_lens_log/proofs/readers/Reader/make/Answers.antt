@@ -1,4 +1,4 @@
-use Rattle.std.proofs.Common.{◌≡◌, arith, inl, refl}
+use Rattle.std.proofs.Common.{arith, inl, refl}
 use Rattle.pr_lens_log.specs.Logs.{nothing, nothing_told}
 use Rattle.pr_lens_log.proofs.readers.Reader.make.Goals as goal
 

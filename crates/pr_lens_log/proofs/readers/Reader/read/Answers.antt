@@ -1,7 +1,7 @@
 use Rattle.std.proofs.Common.{◌∙◌, ◌+◌, ◌-◌, ◌++◌, ℕ, List, length, take, drop, arith, subst}
 use Rattle.pr_lens_log.specs.Logs.{IsLineFault}
 use Rattle.pr_lens_log.specs.Readers.{HasRead}
-use Rattle.pr_lens_log.proofs.ReaderLaws.{bad_joins, line_open, line_some, read_joins, room_less}
+use Rattle.pr_lens_log.proofs.ReaderLaws.{bad_joins, read_joins, room_less}
 use Rattle.pr_lens_log.proofs.readers.Reader.read.Goals as goal
 
 pub put-requires-clause-room : goal.put-requires-clause-room
