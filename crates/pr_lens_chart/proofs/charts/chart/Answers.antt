@@ -1,4 +1,4 @@
-use Rattle.std.proofs.Common.{◌∙◌, List, ℕ}
+use Rattle.std.proofs.Common.{◌∙◌}
 use Rattle.std.proofs.lemmas.Result.{IfOk-weaker}
 use Rattle.pr_lens_chart.proofs.PictureLaws.{kept_chart}
 use Rattle.pr_lens_chart.proofs.charts.chart.Goals as goal
