@@ -1,15 +1,18 @@
 -- The line that is held back, and the one that is written.
-use Rattle.std.proofs.Common.{◌≡◌, ◌⊎◌, ◌≤◌, ◌∙◌, ℕ, Bool, true, false, cond, List, [], length, Option, Some, None, IsSome, sym, ap, arith, inl, inr, true≢false}
+use Rattle.std.proofs.Common.{◌≡◌, ◌⊎◌, ◌≤◌, ◌∙◌, ℕ, Bool, true, false, cond, List, [], length, Option, Some, None, IsSome, Ok, Err, String, Vec, Global, sym, ap, arith, inl, inr, true≢false}
 use Rattle.pr_edge.specs.Count.{Rose}
 use Rattle.pr_edge.specs.SureSink.{bytes_of, room_of, has_dropped, told_of}
 use Rattle.pr_edge.specs.Tape.{Tape, IsAppended}
 use Rattle.pr_edge.specs.declared.sure_sink.SureSink.{SureSink}
+use Rattle.pr_system.specs.declared.words.WordsFault.{WordsFault}
+use Rattle.pr_system.specs.Words.{Given}
 use Rattle.pr_tool.specs.declared.notes.Bounds.{Bounds}
 use Rattle.pr_tool.specs.Noted.{GainsNote}
 use Rattle.pr_tool.specs.Notes.{note_of}
-use Rattle.pr_tool.specs.Words.{bounds_in}
+use Rattle.pr_tool.specs.Words.{Asked, asked_by, bounds_in}
 use Rattle.pr_tool_answers.specs.declared.answers.Answer.{Answer}
 use Rattle.piperench.specs.Settled.{settled, line_after}
+use Rattle.piperench.specs.Ends.{asked_in}
 
 -- ---- the line that is held back
 abbrev tape : Option (List ℕ) → ℕ → Tape
@@ -47,3 +50,10 @@ line_is bounds told a false held is e = ap (note_of bounds) (sym e)
 -- and so is that of want of memory
 pub memory_line : (bounds : Bounds) (refused a : Answer) → refused ≡ Answer.Memory → a ≡ refused → note_of (bounds_in None) refused ≡ note_of bounds a
 memory_line bounds refused a memory e = ap (note_of (bounds_in None)) memory ∙ sym (ap (note_of bounds) (e ∙ memory))
+
+-- ---- words, and why they cannot be had
+pub asked_is : (given : Given) (words : Vec (String Global) Global) (list : List (String Global)) → given ≡ Ok words → list ≡ words.items → asked_by list ≡ asked_in given
+asked_is given words list is same = ap asked_by same ∙ sym (ap asked_in is)
+
+pub refused_line : (given : Given) (fault : WordsFault) (answer a : Answer) → given ≡ Err fault → a ≡ answer → note_of (bounds_in None) answer ≡ note_of (bounds_in (asked_in given)) a
+refused_line given fault answer a is same = ap (note_of (bounds_in None)) (sym same) ∙ ap (λ (asked : Asked). note_of (bounds_in asked) a) (sym (ap asked_in is))

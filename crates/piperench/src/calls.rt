@@ -3,7 +3,7 @@ ghost use Rattle.std.specs.Prelude.{◌≡◌, ◌⊎◌, [], Some, None, IsSome
 ghost use Rattle.pr_edge.specs.SureSink.{bytes_of, told_of};
 ghost use Rattle.pr_tool.specs.Notes.{note_of};
 ghost use Rattle.pr_tool.specs.Words.{asked_by, bounds_in};
-ghost use Rattle.piperench.specs.Settled.{went_through, settled};
+ghost use Rattle.piperench.specs.Settled.{settled};
 
 use pr_edge::{Shelf, Sink, SureSink};
 use pr_system::{FileShelf, Finished, Gathered, Gathering, OutSink};
@@ -25,18 +25,6 @@ pub struct Called<W> {
     pub note: SureSink,
     /// What became of the last results; after a write fault no more are handed on.
     pub last: Option<Finished<W>>,
-}
-
-impl<W> Called<W> {
-    /// Whether its last results went through.
-    pub fn went_through(&self) -> bool
-        ensures { result ≡ went_through self.now.last }
-    {
-        match &self.last {
-            Some(last) => last.went_through(),
-            None => false,
-        }
-    }
 }
 
 /// What a call comes to: what the tool answered, if its last results then went through, and else a write fault.

@@ -1,32 +1,24 @@
 //! The program: the system's words, files and streams, put through the tool.
 #![tactic(auto)]
 
-ghost use Rattle.std.specs.Prelude.{◌≡◌, ◌⊎◌, None};
+ghost use Rattle.std.specs.Prelude.{◌≡◌, ◌⊎◌, None, IfErr};
+ghost use Rattle.std.specs.Process.{exit_status};
 ghost use Rattle.pr_edge.specs.SureSink.{bytes_of};
+ghost use Rattle.pr_system.specs.Gathering.{are_through};
 ghost use Rattle.pr_tool.specs.Noted.{GainsNote};
 ghost use Rattle.pr_tool.specs.Notes.{note_of};
 ghost use Rattle.pr_tool.specs.Words.{asked_by, bounds_in};
-ghost use Rattle.piperench.specs.Settled.{went_through, settled, line_after};
+ghost use Rattle.piperench.specs.Settled.{settled, line_after};
+ghost use Rattle.piperench.specs.Ends.{IsEnded, asked_in, refusal_of};
 
 mod calls;
 
 use calls::{Called, call, settle};
 use pr_edge::{Sink, write_all};
-use pr_system::OutSink;
+use pr_system::{OutSink, WordsFault, are_through, words_of};
 use pr_tool::{Answer, Bounds, put_note};
-use std::env;
-use std::io::ErrorKind;
 use std::process::ExitCode;
 use std::rt::{Env, Files};
-
-/// The words of the command line; else the answer to them.
-fn words_of<R: Env + AllocGlobal>(rt: &R) -> Result<Vec<String>, Answer> {
-    match env::args(rt) {
-        Ok(words) => words.collect(rt.alloc()).map_err(|_| Answer::Memory),
-        Err(e) if e.kind() == ErrorKind::InvalidData => Err(Answer::Usage),
-        Err(_) => Err(Answer::Memory),
-    }
-}
 
 /// Writes the line that was held back, where the last results went through, and else that of a write fault.
 fn put_held<E: Sink>(held: &[u8], through: bool, stderr: &mut E)
@@ -46,11 +38,11 @@ fn put_held<E: Sink>(held: &[u8], through: bool, stderr: &mut E)
 
 /// Writes the note of a call, and says with which answer to end.
 fn report<W, E: Sink>(called: &Called<W>, stderr: &mut E) -> Answer
-    ensures answer { result ≡ settled called.now.told (went_through called.now.last) }
+    ensures answer { result ≡ settled called.now.told (are_through called.now.last) }
     ensures note { GainsNote (E.told stderr.old) (E.told stderr.new) (E.faults stderr.old) (E.faults stderr.new)
-        (line_after (bytes_of called.now.note) (went_through called.now.last)) }
+        (line_after (bytes_of called.now.note) (are_through called.now.last)) }
 {
-    let through = called.went_through();
+    let through = are_through(&called.last);
     put_held(called.note.bytes(), through, stderr);
     settle(called.told, through)
 }
@@ -86,11 +78,43 @@ fn answer_to<R: Files + Print + AllocGlobal, E: Sink>(
     }
 }
 
+/// The answer where the words cannot be had.
+fn refusal_of(fault: WordsFault) -> Answer
+    ensures { result ≡ refusal_of fault }
+{
+    match fault {
+        WordsFault::NoText => Answer::Usage,
+        WordsFault::Memory => Answer::Memory,
+    }
+}
+
+/// Answers the words of a command line, where they can be had, and writes the note.
+fn answered<R: Files + Print + AllocGlobal, E: Sink>(
+    rt: &R,
+    given: Result<Vec<String>, WordsFault>,
+    stderr: &mut E,
+) -> Answer
+    ensures refused { IfErr given (λ fault. result ≡ refusal_of fault) }
+    ensures usage { result ≡ Answer.Usage → asked_in given ≡ None }
+    ensures wrong { asked_in given ≡ None
+        → (result ≡ Answer.Usage) ⊎ ((result ≡ Answer.Memory) ⊎ (result ≡ Answer.WriteFault)) }
+    ensures note { GainsNote (E.told stderr.old) (E.told stderr.new) (E.faults stderr.old) (E.faults stderr.new)
+        (note_of (bounds_in (asked_in given)) result) }
+{
+    match given {
+        Ok(words) => answer_to(rt, &words, stderr),
+        Err(fault) => refuse(refusal_of(fault), stderr),
+    }
+}
+
+/// Answers the words that the system gives, writes the note, and ends with the status of the answer.
+fn ended<R: Env + Files + Print + AllocGlobal, E: Sink>(rt: &R, stderr: &mut E) -> ExitCode
+    ensures { IsEnded (E.told stderr.old) (E.told stderr.new) (E.faults stderr.old) (E.faults stderr.new)
+        (exit_status result) }
+{
+    ExitCode::from(answered(rt, words_of(rt), stderr).status())
+}
+
 fn main(rt: HostRuntime) -> ExitCode {
-    let mut stderr = OutSink::new(rt.stderr());
-    let answer = match words_of(&rt) {
-        Ok(words) => answer_to(&rt, &words, &mut stderr),
-        Err(answer) => refuse(answer, &mut stderr),
-    };
-    ExitCode::from(answer.status())
+    ended(&rt, &mut OutSink::new(rt.stderr()))
 }

@@ -3,24 +3,24 @@ use Rattle.pr_edge.specs.SureSink.{bytes_of}
 use Rattle.pr_tool.specs.Noted.{GainsNote}
 use Rattle.pr_tool.specs.Words.{asked_by, bounds_in}
 use Rattle.pr_tool_answers.specs.declared.answers.Answer.{Answer}
-use Rattle.piperench.specs.Settled.{went_through}
+use Rattle.pr_system.specs.Gathering.{are_through}
 use Rattle.piperench.proofs.NoteLemmas.{settled_usage, settled_wrong, line_is, memory_line}
 use Rattle.piperench.proofs.answer_to.Goals as goal
 
 pub returns-in-Ok-clause-usage : goal.returns-in-Ok-clause-usage
 returns-in-Ok-clause-usage g c = λ is. (
     let called = c.in-Ok.called in
-    c.in-Ok.ensures.usage (settled_usage called.told (went_through called.last) (sym c.report.ensures.answer ∙ is)))
+    c.in-Ok.ensures.usage (settled_usage called.told (are_through called.last) (sym c.report.ensures.answer ∙ is)))
 
 pub returns-in-Ok-clause-wrong : goal.returns-in-Ok-clause-wrong
 returns-in-Ok-clause-wrong g c = λ none. (
     let called = c.in-Ok.called in
-    settled_wrong called.told c.report.result (went_through called.last) c.report.ensures.answer (c.in-Ok.ensures.wrong none))
+    settled_wrong called.told c.report.result (are_through called.last) c.report.ensures.answer (c.in-Ok.ensures.wrong none))
 
 pub returns-in-Ok-clause-note : goal.returns-in-Ok-clause-note
 returns-in-Ok-clause-note g c =
     let called = c.in-Ok.called in
-    let line = line_is (bounds_in (asked_by c.args.words.now)) called.told c.report.result (went_through called.last) (bytes_of called.note) c.in-Ok.ensures.note c.report.ensures.answer in
+    let line = line_is (bounds_in (asked_by c.args.words.now)) called.told c.report.result (are_through called.last) (bytes_of called.note) c.in-Ok.ensures.note c.report.ensures.answer in
     subst (λ (t : List ℕ). GainsNote (g.E.Sink.told c.args.stderr.now) (g.E.Sink.told c.report.new.stderr) (g.E.Sink.faults c.args.stderr.now) (g.E.Sink.faults c.report.new.stderr) t) line c.report.ensures.note
 
 pub returns-in-Err-clause-usage : goal.returns-in-Err-clause-usage
