@@ -1,6 +1,7 @@
 pub mod CompileLaws
 pub mod ReasonLemmas
 pub mod FileLemmas
+pub mod OrderLemmas
 pub mod SourceLemmas
 pub mod UnloggedLemmas
 pub mod RunLemmas

@@ -1,5 +1,5 @@
 -- Files that are read whole.
-use Rattle.std.specs.Prelude.{◌≡◌, ◌<◌, ◌≤◌, ◌⊎◌, ℕ, List, length, Some, None, ⊤, Option}
+use Rattle.std.specs.Prelude.{◌≡◌, ◌<◌, ◌≤◌, ◌⊎◌, ℕ, List, length, Some, None, ⊤, Option, IsSome}
 use Rattle.pr_base.specs.declared.caps.Cap.{Cap}
 use Rattle.pr_edge.specs.Files.{Told, HasReadCause}
 use Rattle.pr_tool_answers.specs.declared.answers.Answer.{Answer}
@@ -12,6 +12,10 @@ IsText (Some files) name text = files name ≡ Some text
 -- no failed read is kept quiet: the answer is a read fault, or the shelf's count of faults is as it was
 abbrev pub ShowsFault : ℕ → ℕ → Answer → Type 0
 ShowsFault before now answer = (answer ≡ Answer.ReadFault) ⊎ (now ≡ before)
+
+-- a file of which nothing was read before was read in order, and no byte of it twice
+abbrev pub IsInOrder : Option ℕ → Option ℕ → Type 0
+IsInOrder before now = before ≡ Some 0 → IsSome now
 
 -- the file has more bytes than the limit
 pub record IsLong (told : Told) (name : List ℕ) (limit : ℕ) : Type 0 where

@@ -1,5 +1,5 @@
 -- What a run is asked to do.
-use Rattle.std.specs.Prelude.{◌≢◌, ℕ, Bool, List, Option, Some, option_map}
+use Rattle.std.specs.Prelude.{◌≡◌, ◌≢◌, ℕ, Bool, List, Option, Some, option_map}
 use Rattle.pr_tool_modes.specs.declared.jobs.Source.{Source as NamedSource}
 use Rattle.pr_tool_modes.specs.declared.jobs.Source.TheVariants as named
 use Rattle.pr_tool_modes.specs.declared.jobs.Run.{Run}
@@ -42,6 +42,18 @@ IsNoStall j q = j.stall ≢ Some q
 -- nor that of the first file
 abbrev pub IsNeither : Job → List ℕ → Type 0
 IsNeither j q = (q ≢ first_of j) × IsNoStall j q
+
+-- the samples and the stall file are not both of this name
+abbrev pub IsNotBoth : List ℕ → Option (List ℕ) → List ℕ → Type 0
+IsNotBoth second stall q = q ≡ second → stall ≢ Some q
+
+-- at most one of the job's files is of this name
+abbrev pub IsNamedOnce : Job → List ℕ → Type 0
+IsNamedOnce j q = (q ≡ first_of j → (q ≢ j.second) × IsNoStall j q) × IsNotBoth j.second j.stall q
+
+-- the same of a run that goes on, whatever the count of its checkpoint
+abbrev pub IsResumedOnce : Resumption → List ℕ → Type 0
+IsResumedOnce r q = IsNamedOnce (resumed r 0) q
 
 -- ---- as the code has them
 abbrev pub source_of : NamedSource → Source

@@ -26,6 +26,12 @@ name_in (File name) = name
 name_in (Text name target) = name
 name_in (Mark name count) = name
 
+-- how many bytes its file may have
+abbrev pub most_bytes : Source → ℕ
+most_bytes (File name) = most_config_bytes
+most_bytes (Text name target) = most_program_bytes
+most_bytes (Mark name count) = most_config_bytes
+
 -- how many samples came before
 abbrev pub count_in : Source → ℕ
 count_in (File name) = 0

@@ -1,5 +1,7 @@
 //! Configurations that are read from checkpoints.
-ghost use Rattle.std.specs.Prelude.{◌≡◌, ◌≢◌, ◌≤◌, ◌^◌, ℕ, List, drop, None, IfOk, OnOk, IfErr};
+ghost use Rattle.std.specs.Prelude.{◌≡◌, ◌≢◌, ◌≤◌, ◌+◌, ◌^◌, ℕ, List, drop, None, IfOk, OnOk, IfErr};
+ghost use Rattle.pr_base.specs.Limits.{most_config_bytes};
+ghost use Rattle.pr_edge.specs.Files.{IsReadOnce};
 ghost use Rattle.pr_conf.specs.Configuration.{shape_of};
 ghost use Rattle.pr_code.specs.Marks.{IsMark, bad_mark, count_read, shape_marked};
 ghost use Rattle.pr_tool_modes.specs.Files.{ShowsFault};
@@ -89,6 +91,7 @@ pub fn read_checkpoint<S: Shelf>(alloc: Global, shelf: &mut S, name: &str) -> Re
     ensures steady { OnOk result (S.faults shelf.new ≡ S.faults shelf.old) }
     ensures shown { IfErr result (ShowsFault (S.faults shelf.old) (S.faults shelf.new)) }
     ensures same { S.told shelf.new ≡ S.told shelf.old }
+    ensures once { IsReadOnce (most_config_bytes + 4096) (S.reach shelf.old name.now) (S.reach shelf.new name.now) }
     ensures others { (q : List ℕ) → q ≢ name.now → S.reach shelf.new q ≡ S.reach shelf.old q }
 {
     let bytes = read_file(alloc, shelf, name, Cap::MOST_CONFIG_BYTES, Cap::ConfigBytes)?;

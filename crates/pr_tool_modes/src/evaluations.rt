@@ -2,6 +2,7 @@
 ghost use Rattle.std.specs.Prelude.{◌≡◌, ◌≢◌, ◌≤◌, ℕ, List};
 ghost use Rattle.pr_run.specs.Setting.{view};
 ghost use Rattle.pr_tool_modes.specs.Calls.{call};
+ghost use Rattle.pr_tool_modes.specs.Files.{IsInOrder};
 ghost use Rattle.pr_tool_modes.specs.Evaluations.{answer_by, IsPut, IsEvaluated};
 
 use crate::programs::load_program;
@@ -53,6 +54,10 @@ pub fn eval<S: Shelf, K: Sink>(
         (K.told out.old) (K.told out.new) (K.faults out.old) (K.faults out.new)) result }
 
     ensures told { S.told shelf.new ≡ S.told shelf.old }
+
+    // A file that is not both the program and the samples is read in order, and no byte of it twice.
+    ensures once { (q : List ℕ) → (q ≡ program.now → q ≢ samples.now)
+        → IsInOrder (S.reach shelf.old q) (S.reach shelf.new q) }
     ensures others { (q : List ℕ) → q ≢ program.now → q ≢ samples.now → S.reach shelf.new q ≡ S.reach shelf.old q }
     ensures shelf_later { S.faults shelf.old ≤ S.faults shelf.new }
     ensures out_later { K.faults out.old ≤ K.faults out.new }

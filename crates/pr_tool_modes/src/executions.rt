@@ -4,8 +4,8 @@ ghost use Rattle.pr_edge.specs.Count.{Rose};
 ghost use Rattle.pr_conf.specs.Configuration.{shape_of};
 ghost use Rattle.pr_run.specs.Setting.{view};
 ghost use Rattle.pr_tool_modes.specs.Calls.{call};
-ghost use Rattle.pr_tool_modes.specs.Files.{ShowsFault};
-ghost use Rattle.pr_tool_modes.specs.Jobs.{job_on, job_of, stall_in, IsNoStall, IsNeither};
+ghost use Rattle.pr_tool_modes.specs.Files.{IsInOrder, ShowsFault};
+ghost use Rattle.pr_tool_modes.specs.Jobs.{job_on, job_of, stall_in, IsNoStall, IsNeither, IsNotBoth, IsNamedOnce};
 ghost use Rattle.pr_tool_modes.specs.Sources.{Source, count_in};
 ghost use Rattle.pr_tool_modes.specs.Stalls.{IsStallRefusal};
 ghost use Rattle.pr_tool_modes.specs.Executions.{answer_in, bench_in, HasRun, IsRunOn, IsRunOf, HasCome};
@@ -48,6 +48,8 @@ fn run_on<const N: usize, const P: usize, S: Shelf, K: Sink>(
         ((q : List ℕ) → stall_in run.now ≢ Some q → S.reach shelf.new q ≡ S.reach shelf.old q) }
     ensures write_fault { IfOk result (λ o. o.answer ≡ Answer.WriteFault → Rose (K.faults out.old) (K.faults out.new)) }
     ensures told { S.told shelf.new ≡ S.told shelf.old }
+    ensures once { (q : List ℕ) → IsNotBoth run.now.samples.now (stall_in run.now) q
+        → IsInOrder (S.reach shelf.old q) (S.reach shelf.new q) }
     ensures others { (q : List ℕ) → q ≢ run.now.samples.now → stall_in run.now ≢ Some q
         → S.reach shelf.new q ≡ S.reach shelf.old q }
     ensures shelf_later { S.faults shelf.old ≤ S.faults shelf.new }
@@ -112,6 +114,8 @@ pub fn run_either<S: Shelf, K: Sink>(
     ensures unread { OnErr result
         ((q : List ℕ) → stall_in run.now ≢ Some q → S.reach shelf.new q ≡ S.reach shelf.old q) }
     ensures told { S.told shelf.new ≡ S.told shelf.old }
+    ensures once { (q : List ℕ) → IsNotBoth run.now.samples.now (stall_in run.now) q
+        → IsInOrder (S.reach shelf.old q) (S.reach shelf.new q) }
     ensures others { (q : List ℕ) → q ≢ run.now.samples.now → stall_in run.now ≢ Some q
         → S.reach shelf.new q ≡ S.reach shelf.old q }
     ensures shelf_later { S.faults shelf.old ≤ S.faults shelf.new }
@@ -141,6 +145,8 @@ pub fn run_from<S: Shelf, K: Sink>(
         (view (S.told shelf.new) (S.reach shelf.new) (S.faults shelf.new))
         (K.told out.old) (K.told out.new) (K.faults out.old) (K.faults out.new)) bench.old bench.new result }
     ensures told { S.told shelf.new ≡ S.told shelf.old }
+    ensures once { (q : List ℕ) → IsNotBoth run.now.samples.now (stall_in run.now) q
+        → IsInOrder (S.reach shelf.old q) (S.reach shelf.new q) }
     ensures others { (q : List ℕ) → q ≢ run.now.samples.now → stall_in run.now ≢ Some q
         → S.reach shelf.new q ≡ S.reach shelf.old q }
     ensures shelf_later { S.faults shelf.old ≤ S.faults shelf.new }
@@ -171,6 +177,8 @@ pub fn run_loaded<S: Shelf, K: Sink>(
         (view (S.told shelf.new) (S.reach shelf.new) (S.faults shelf.new))
         (K.told out.old) (K.told out.new) (K.faults out.old) (K.faults out.new)) bench.old bench.new result }
     ensures told { S.told shelf.new ≡ S.told shelf.old }
+    ensures once { (q : List ℕ) → IsNotBoth (job_of job.now).second (job_of job.now).stall q
+        → IsInOrder (S.reach shelf.old q) (S.reach shelf.new q) }
     ensures others { (q : List ℕ) → q ≢ (job_of job.now).second → IsNoStall (job_of job.now) q
         → S.reach shelf.new q ≡ S.reach shelf.old q }
     ensures shelf_later { S.faults shelf.old ≤ S.faults shelf.new }
@@ -202,6 +210,10 @@ pub fn execute<S: Shelf, K: Sink>(
         (K.told out.old) (K.told out.new) (K.faults out.old) (K.faults out.new)) bench.old bench.new result }
 
     ensures told { S.told shelf.new ≡ S.told shelf.old }
+
+    // Each file that the job names once is read in order, and no byte of it twice.
+    ensures once { (q : List ℕ) → IsNamedOnce (job_of job.now) q
+        → IsInOrder (S.reach shelf.old q) (S.reach shelf.new q) }
     ensures others { (q : List ℕ) → q ≢ (job_of job.now).second → IsNeither (job_of job.now) q
         → S.reach shelf.new q ≡ S.reach shelf.old q }
     ensures shelf_later { S.faults shelf.old ≤ S.faults shelf.new }

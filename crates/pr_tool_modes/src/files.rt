@@ -1,5 +1,6 @@
 //! Files that are read whole.
-ghost use Rattle.std.specs.Prelude.{◌≡◌, ◌≢◌, ◌≤◌, ℕ, List, length, IfOk, OnOk, IfErr};
+ghost use Rattle.std.specs.Prelude.{◌≡◌, ◌≢◌, ◌≤◌, ◌+◌, ℕ, List, length, IfOk, OnOk, IfErr};
+ghost use Rattle.pr_edge.specs.Files.{IsReadOnce};
 ghost use Rattle.pr_tool_modes.specs.Files.{IsText, ShowsFault, IsUnread};
 
 use pr_base::Cap;
@@ -26,6 +27,9 @@ pub fn read_file<S: Shelf>(
     ensures shown { IfErr result (ShowsFault (S.faults shelf.old) (S.faults shelf.new)) }
 
     ensures same { S.told shelf.new ≡ S.told shelf.old }
+
+    // It is read in order and each byte of it once, at most 4,096 past the limit.
+    ensures once { IsReadOnce (limit + 4096) (S.reach shelf.old name.now) (S.reach shelf.new name.now) }
     ensures others { (q : List ℕ) → q ≢ name.now → S.reach shelf.new q ≡ S.reach shelf.old q }
 {
     match read_all(alloc, shelf, name, limit) {

@@ -6,7 +6,8 @@ ghost use Rattle.pr_samples.specs.Feed.{name_of, most_of};
 ghost use Rattle.pr_machine.specs.Stands.{conf_of, stripes_of};
 ghost use Rattle.pr_run.specs.Setting.{view, stall_turns};
 ghost use Rattle.pr_tool_modes.specs.Calls.{call};
-ghost use Rattle.pr_tool_modes.specs.Jobs.{job_on, job_of, stall_in, resumption_of, IsNoStall, IsNeither};
+ghost use Rattle.pr_tool_modes.specs.Files.{IsInOrder};
+ghost use Rattle.pr_tool_modes.specs.Jobs.{job_on, job_of, stall_in, resumption_of, IsNoStall, IsNeither, IsNotBoth, IsNamedOnce, IsResumedOnce};
 ghost use Rattle.pr_tool_modes.specs.Ready.{IsReady};
 ghost use Rattle.pr_tool_modes.specs.Resumptions.{IsNoFile};
 ghost use Rattle.pr_tool_modes.specs.Runs.{course};
@@ -47,6 +48,8 @@ fn fold_all<const N: usize, const P: usize, S: Shelf>(
         (view (S.told shelf.old) (S.reach shelf.old) (S.faults shelf.old))
         (view (S.told shelf.new) (S.reach shelf.new) (S.faults shelf.new)) untold untold)) }
     ensures told { S.told shelf.new ≡ S.told shelf.old }
+    ensures once { IsInOrder (S.reach shelf.old (name_of ready.entry.feed))
+        (S.reach shelf.new (name_of ready.entry.feed)) }
     ensures others { (q : List ℕ) → q ≢ name_of ready.entry.feed → S.reach shelf.new q ≡ S.reach shelf.old q }
     ensures later { S.faults shelf.old ≤ S.faults shelf.new }
 {
@@ -87,6 +90,8 @@ fn fold_on<const N: usize, const P: usize, S: Shelf>(
         (view (S.told shelf.old) (S.reach shelf.old) (S.faults shelf.old))
         (view (S.told shelf.new) (S.reach shelf.new) (S.faults shelf.new))) }
     ensures told { S.told shelf.new ≡ S.told shelf.old }
+    ensures once { (q : List ℕ) → IsNotBoth run.now.samples.now (stall_in run.now) q
+        → IsInOrder (S.reach shelf.old q) (S.reach shelf.new q) }
     ensures others { (q : List ℕ) → q ≢ run.now.samples.now → stall_in run.now ≢ Some q
         → S.reach shelf.new q ≡ S.reach shelf.old q }
     ensures later { S.faults shelf.old ≤ S.faults shelf.new }
@@ -113,6 +118,8 @@ fn fold_loaded<S: Shelf>(
         (view (S.told shelf.old) (S.reach shelf.old) (S.faults shelf.old))
         (view (S.told shelf.new) (S.reach shelf.new) (S.faults shelf.new))) }
     ensures told { S.told shelf.new ≡ S.told shelf.old }
+    ensures once { (q : List ℕ) → IsNotBoth run.now.samples.now (stall_in run.now) q
+        → IsInOrder (S.reach shelf.old q) (S.reach shelf.new q) }
     ensures others { (q : List ℕ) → q ≢ run.now.samples.now → stall_in run.now ≢ Some q
         → S.reach shelf.new q ≡ S.reach shelf.old q }
     ensures later { S.faults shelf.old ≤ S.faults shelf.new }
@@ -150,6 +157,8 @@ fn fold_from<S: Shelf, K: Sink>(
         (view (S.told shelf.new) (S.reach shelf.new) (S.faults shelf.new))
         (K.told out.old) (K.told out.new) (K.faults out.old) (K.faults out.new)) result }
     ensures told { S.told shelf.new ≡ S.told shelf.old }
+    ensures once { (q : List ℕ) → IsNotBoth run.now.samples.now (stall_in run.now) q
+        → IsInOrder (S.reach shelf.old q) (S.reach shelf.new q) }
     ensures others { (q : List ℕ) → q ≢ run.now.samples.now → stall_in run.now ≢ Some q
         → S.reach shelf.new q ≡ S.reach shelf.old q }
     ensures shelf_later { S.faults shelf.old ≤ S.faults shelf.new }
@@ -172,6 +181,10 @@ pub fn fold<S: Shelf, K: Sink>(alloc: Global, job: &Job<'_>, shelf: &mut S, out:
         (view (S.told shelf.new) (S.reach shelf.new) (S.faults shelf.new))
         (K.told out.old) (K.told out.new) (K.faults out.old) (K.faults out.new)) result }
     ensures told { S.told shelf.new ≡ S.told shelf.old }
+
+    // Each file that the job names once is read in order, and no byte of it twice.
+    ensures once { (q : List ℕ) → IsNamedOnce (job_of job.now) q
+        → IsInOrder (S.reach shelf.old q) (S.reach shelf.new q) }
     ensures others { (q : List ℕ) → q ≢ (job_of job.now).second → IsNeither (job_of job.now) q
         → S.reach shelf.new q ≡ S.reach shelf.old q }
     ensures shelf_later { S.faults shelf.old ≤ S.faults shelf.new }
@@ -196,6 +209,10 @@ pub fn extend<S: Shelf, K: Sink>(
         (view (S.told shelf.new) (S.reach shelf.new) (S.faults shelf.new))
         (K.told out.old) (K.told out.new) (K.faults out.old) (K.faults out.new)) result }
     ensures told { S.told shelf.new ≡ S.told shelf.old }
+
+    // Each file that it names once is read in order, and no byte of it twice.
+    ensures once { (q : List ℕ) → IsResumedOnce (resumption_of resumption.now) q
+        → IsInOrder (S.reach shelf.old q) (S.reach shelf.new q) }
     ensures others { (q : List ℕ) → IsNoFile (resumption_of resumption.now) q
         → S.reach shelf.new q ≡ S.reach shelf.old q }
     ensures shelf_later { S.faults shelf.old ≤ S.faults shelf.new }

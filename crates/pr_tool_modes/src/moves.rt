@@ -2,7 +2,8 @@
 ghost use Rattle.std.specs.Prelude.{◌≡◌, ◌≤◌, ℕ, List};
 ghost use Rattle.pr_run.specs.Setting.{view};
 ghost use Rattle.pr_tool_modes.specs.Calls.{call};
-ghost use Rattle.pr_tool_modes.specs.Jobs.{resumption_of};
+ghost use Rattle.pr_tool_modes.specs.Files.{IsInOrder};
+ghost use Rattle.pr_tool_modes.specs.Jobs.{resumption_of, IsResumedOnce};
 ghost use Rattle.pr_tool_modes.specs.Resumptions.{HasMoved, IsNoFile};
 
 use crate::benches::Bench;
@@ -31,6 +32,10 @@ pub fn move_on<S: Shelf, K: Sink>(
         (K.told out.old) (K.told out.new) (K.faults out.old) (K.faults out.new)) bench.old bench.new result }
 
     ensures told { S.told shelf.new ≡ S.told shelf.old }
+
+    // Each file that it names once is read in order, and no byte of it twice.
+    ensures once { (q : List ℕ) → IsResumedOnce (resumption_of resumption.now) q
+        → IsInOrder (S.reach shelf.old q) (S.reach shelf.new q) }
     ensures others { (q : List ℕ) → IsNoFile (resumption_of resumption.now) q
         → S.reach shelf.new q ≡ S.reach shelf.old q }
     ensures shelf_later { S.faults shelf.old ≤ S.faults shelf.new }

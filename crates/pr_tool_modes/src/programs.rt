@@ -1,6 +1,8 @@
 //! Programs that are read from files.
-ghost use Rattle.std.specs.Prelude.{◌≡◌, ◌≢◌, ◌≤◌, ◌⊎◌, ℕ, List, length, IfOk, OnOk, IfErr};
+ghost use Rattle.std.specs.Prelude.{◌≡◌, ◌≢◌, ◌≤◌, ◌+◌, ◌⊎◌, ℕ, List, length, IfOk, OnOk, IfErr};
 ghost use Rattle.pr_base.specs.Fabrics.{columns, registers};
+ghost use Rattle.pr_base.specs.Limits.{most_program_bytes};
+ghost use Rattle.pr_edge.specs.Files.{IsReadOnce};
 ghost use Rattle.pr_conf.specs.Configuration.{shape_of};
 ghost use Rattle.pr_compile.specs.Configured.{IsCompiled, HasUnits};
 ghost use Rattle.pr_tool_modes.specs.Files.{ShowsFault};
@@ -52,6 +54,7 @@ pub fn load_program<S: Shelf>(alloc: Global, shelf: &mut S, name: &str) -> Resul
     ensures steady { OnOk result (S.faults shelf.new ≡ S.faults shelf.old) }
     ensures shown { IfErr result (ShowsFault (S.faults shelf.old) (S.faults shelf.new)) }
     ensures same { S.told shelf.new ≡ S.told shelf.old }
+    ensures once { IsReadOnce (most_program_bytes + 4096) (S.reach shelf.old name.now) (S.reach shelf.new name.now) }
     ensures others { (q : List ℕ) → q ≢ name.now → S.reach shelf.new q ≡ S.reach shelf.old q }
 {
     let most = Cap::MOST_PROGRAM_BYTES;
@@ -111,6 +114,7 @@ pub fn compile_on<const N: usize, const P: usize, S: Shelf>(
     ensures steady { OnOk result (S.faults shelf.new ≡ S.faults shelf.old) }
     ensures shown { IfErr result (ShowsFault (S.faults shelf.old) (S.faults shelf.new)) }
     ensures same { S.told shelf.new ≡ S.told shelf.old }
+    ensures once { IsReadOnce (most_program_bytes + 4096) (S.reach shelf.old name.now) (S.reach shelf.new name.now) }
     ensures others { (q : List ℕ) → q ≢ name.now → S.reach shelf.new q ≡ S.reach shelf.old q }
 {
     let most = Cap::MOST_PROGRAM_BYTES;
@@ -136,6 +140,7 @@ pub fn compile_file<S: Shelf>(
     ensures steady { OnOk result (S.faults shelf.new ≡ S.faults shelf.old) }
     ensures shown { IfErr result (ShowsFault (S.faults shelf.old) (S.faults shelf.new)) }
     ensures same { S.told shelf.new ≡ S.told shelf.old }
+    ensures once { IsReadOnce (most_program_bytes + 4096) (S.reach shelf.old name.now) (S.reach shelf.new name.now) }
     ensures others { (q : List ℕ) → q ≢ name.now → S.reach shelf.new q ≡ S.reach shelf.old q }
 {
     match target.fabric {

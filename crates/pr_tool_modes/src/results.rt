@@ -1,13 +1,13 @@
 //! The results of a program on the samples of a file.
-ghost use Rattle.std.specs.Prelude.{◌≡◌, ◌≢◌, ◌≤◌, ◌↔◌, ℕ, List, length, vec_len, IfOk, IfErr, IsTrue, OnErr, OnOk};
+ghost use Rattle.std.specs.Prelude.{◌≡◌, ◌≢◌, ◌≤◌, ◌↔◌, ℕ, List, length, vec_len, Some, IfOk, IfErr, IsTrue, OnErr, OnOk};
 ghost use Rattle.pr_samples.specs.declared.feed.Got.{Got};
 ghost use Rattle.pr_base.specs.declared.caps.Cap.{Cap};
 ghost use Rattle.pr_edge.specs.Files.{IsMissing, HasReadCause};
 ghost use Rattle.pr_flat.specs.Widths.{AreWidths};
 ghost use Rattle.pr_expand_spec.specs.Programs.{equations_of};
 ghost use Rattle.pr_compile_front.specs.Passed.{HasEquations};
-ghost use Rattle.pr_samples.specs.Feed.{name_of, SameFile};
-ghost use Rattle.pr_tool_modes.specs.Files.{ShowsFault, IsUnread};
+ghost use Rattle.pr_samples.specs.Feed.{name_of, place_of, SameFile};
+ghost use Rattle.pr_tool_modes.specs.Files.{IsInOrder, ShowsFault, IsUnread};
 ghost use Rattle.pr_tool_modes.specs.Programs.{inputs_of};
 ghost use Rattle.pr_tool_modes.specs.Evaluations.{IsShortFeed, HasEvaluated, HasLines};
 
@@ -60,6 +60,8 @@ fn results_in<S: Shelf>(
     ensures file { SameFile feed.old feed.new }
     ensures later { S.faults shelf.old ≤ S.faults shelf.new }
     ensures same { S.told shelf.new ≡ S.told shelf.old }
+    ensures reached { S.reach shelf.old (name_of feed.old) ≡ Some (place_of feed.old)
+        → S.reach shelf.new (name_of feed.old) ≡ Some (place_of feed.new) }
     ensures others { (q : List ℕ) → q ≢ name_of feed.old → S.reach shelf.new q ≡ S.reach shelf.old q }
 {
     let mut evaluator = Evaluator::new(alloc, &front.flat)?;
@@ -97,6 +99,8 @@ fn evaluate<S: Shelf>(
     ensures file { SameFile feed.old feed.new }
     ensures later { S.faults shelf.old ≤ S.faults shelf.new }
     ensures same { S.told shelf.new ≡ S.told shelf.old }
+    ensures reached { S.reach shelf.old (name_of feed.old) ≡ Some (place_of feed.old)
+        → S.reach shelf.new (name_of feed.old) ≡ Some (place_of feed.new) }
     ensures others { (q : List ℕ) → q ≢ name_of feed.old → S.reach shelf.new q ≡ S.reach shelf.old q }
 {
     let mut sample = vec![in alloc; 0; front.scoped.inputs.len()]?;
@@ -125,6 +129,7 @@ pub fn results_of<S: Shelf>(
 
     ensures later { S.faults shelf.old ≤ S.faults shelf.new }
     ensures same { S.told shelf.new ≡ S.told shelf.old }
+    ensures once { IsInOrder (S.reach shelf.old samples.now) (S.reach shelf.new samples.now) }
     ensures others { (q : List ℕ) → q ≢ samples.now → S.reach shelf.new q ≡ S.reach shelf.old q }
 {
     let inputs = &front.scoped.inputs;

@@ -4,6 +4,7 @@ ghost use Rattle.pr_edge.specs.Count.{Rose};
 ghost use Rattle.pr_samples.specs.Feed.{name_of, most_of};
 ghost use Rattle.pr_machine.specs.Stands.{conf_of, stripes_of};
 ghost use Rattle.pr_run.specs.Setting.{view, stall_turns};
+ghost use Rattle.pr_tool_modes.specs.Files.{IsInOrder};
 ghost use Rattle.pr_tool_modes.specs.Ready.{IsReady};
 ghost use Rattle.pr_tool_modes.specs.Runs.{answer_by, course, IsRun};
 
@@ -50,6 +51,8 @@ pub fn run_all<const N: usize, const P: usize, S: Shelf, K: Sink>(
         (K.told out.old) (K.told out.new)) result.machine result.answer }
     ensures write_fault { result.answer ≡ Answer.WriteFault → Rose (K.faults out.old) (K.faults out.new) }
     ensures told { S.told shelf.new ≡ S.told shelf.old }
+    ensures once { IsInOrder (S.reach shelf.old (name_of ready.entry.feed))
+        (S.reach shelf.new (name_of ready.entry.feed)) }
     ensures others { (q : List ℕ) → q ≢ name_of ready.entry.feed → S.reach shelf.new q ≡ S.reach shelf.old q }
     ensures shelf_later { S.faults shelf.old ≤ S.faults shelf.new }
     ensures out_later { K.faults out.old ≤ K.faults out.new }

@@ -1,7 +1,8 @@
 //! Configurations of either fabric, and where they come from.
-ghost use Rattle.std.specs.Prelude.{◌≡◌, ◌≢◌, ◌≤◌, ℕ, List, IfOk, OnOk, IfErr};
+ghost use Rattle.std.specs.Prelude.{◌≡◌, ◌≢◌, ◌≤◌, ◌+◌, ℕ, List, IfOk, OnOk, IfErr};
+ghost use Rattle.pr_edge.specs.Files.{IsReadOnce};
 ghost use Rattle.pr_tool_modes.specs.Files.{ShowsFault};
-ghost use Rattle.pr_tool_modes.specs.Sources.{columns_in, registers_in, shape_in, name_in, Gives, IsSourceRefusal};
+ghost use Rattle.pr_tool_modes.specs.Sources.{columns_in, registers_in, shape_in, name_in, most_bytes, Gives, IsSourceRefusal};
 ghost use Rattle.pr_tool_modes.specs.Jobs.{source_of};
 
 use crate::configurations::read_configuration;
@@ -23,6 +24,8 @@ pub fn load<S: Shelf>(alloc: Global, source: &Source<'_>, shelf: &mut S) -> Resu
     ensures steady { OnOk result (S.faults shelf.new ≡ S.faults shelf.old) }
     ensures shown { IfErr result (ShowsFault (S.faults shelf.old) (S.faults shelf.new)) }
     ensures same { S.told shelf.new ≡ S.told shelf.old }
+    ensures once { IsReadOnce (most_bytes (source_of source.now) + 4096)
+        (S.reach shelf.old (name_in (source_of source.now))) (S.reach shelf.new (name_in (source_of source.now))) }
     ensures others { (q : List ℕ) → q ≢ name_in (source_of source.now) → S.reach shelf.new q ≡ S.reach shelf.old q }
 {
     match *source {

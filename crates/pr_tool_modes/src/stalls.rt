@@ -1,6 +1,8 @@
 //! Stall texts that are read from files.
-ghost use Rattle.std.specs.Prelude.{◌≡◌, ◌≢◌, ◌≤◌, ℕ, List, length, Some, IfOk, OnOk, IfErr, IsSomeAnd, option_map};
+ghost use Rattle.std.specs.Prelude.{◌≡◌, ◌≢◌, ◌≤◌, ◌+◌, ℕ, List, length, Some, IfOk, OnOk, IfErr, IsSomeAnd, option_map};
 ghost use Rattle.pr_base.specs.declared.caps.Cap.{Cap};
+ghost use Rattle.pr_base.specs.Limits.{most_stall_bytes};
+ghost use Rattle.pr_edge.specs.Files.{IsReadOnce};
 ghost use Rattle.pr_samples.specs.Stall.{turns_left};
 ghost use Rattle.pr_run.specs.Setting.{stall_turns};
 ghost use Rattle.pr_tool_modes.specs.Files.{ShowsFault, IsUnread};
@@ -24,6 +26,8 @@ fn read_text<S: Shelf>(alloc: Global, shelf: &mut S, name: Option<&str>) -> Resu
     ensures steady { OnOk result (S.faults shelf.new ≡ S.faults shelf.old) }
     ensures shown { IfErr result (ShowsFault (S.faults shelf.old) (S.faults shelf.new)) }
     ensures same { S.told shelf.new ≡ S.told shelf.old }
+    ensures once { (q : List ℕ) → option_map (λ s. s.now) name.entry ≡ Some q
+        → IsReadOnce (most_stall_bytes + 4096) (S.reach shelf.old q) (S.reach shelf.new q) }
     ensures others { (q : List ℕ) → option_map (λ s. s.now) name.entry ≢ Some q
         → S.reach shelf.new q ≡ S.reach shelf.old q }
 {
@@ -49,6 +53,8 @@ pub fn read_stall<S: Shelf>(
     ensures steady { OnOk result (S.faults shelf.new ≡ S.faults shelf.old) }
     ensures shown { IfErr result (ShowsFault (S.faults shelf.old) (S.faults shelf.new)) }
     ensures same { S.told shelf.new ≡ S.told shelf.old }
+    ensures once { (q : List ℕ) → option_map (λ s. s.now) name.entry ≡ Some q
+        → IsReadOnce (most_stall_bytes + 4096) (S.reach shelf.old q) (S.reach shelf.new q) }
     ensures others { (q : List ℕ) → option_map (λ s. s.now) name.entry ≢ Some q
         → S.reach shelf.new q ≡ S.reach shelf.old q }
 {

@@ -1,10 +1,11 @@
 //! Texts of configurations.
-ghost use Rattle.std.specs.Prelude.{◌≡◌, ◌≢◌, ◌≤◌, ℕ, List, IfOk};
+ghost use Rattle.std.specs.Prelude.{◌≡◌, ◌≢◌, ◌≤◌, ◌+◌, ℕ, List, IfOk};
+ghost use Rattle.pr_edge.specs.Files.{IsReadOnce};
 ghost use Rattle.pr_conf.specs.Configuration.{shape_of};
 ghost use Rattle.pr_run.specs.Setting.{view};
 ghost use Rattle.pr_tool_modes.specs.Calls.{call};
 ghost use Rattle.pr_tool_modes.specs.Jobs.{source_of};
-ghost use Rattle.pr_tool_modes.specs.Sources.{name_in, columns_in, registers_in, shape_in};
+ghost use Rattle.pr_tool_modes.specs.Sources.{name_in, most_bytes, columns_in, registers_in, shape_in};
 ghost use Rattle.pr_tool_modes.specs.Texts.{text_in, IsPut, IsTexted};
 
 use crate::jobs::Source;
@@ -82,6 +83,10 @@ pub fn write_text<S: Shelf, K: Sink>(
         (K.told out.old) (K.told out.new) (K.faults out.old) (K.faults out.new)) result }
 
     ensures told { S.told shelf.new ≡ S.told shelf.old }
+
+    // The file of the source is read once.
+    ensures once { IsReadOnce (most_bytes (source_of source.now) + 4096)
+        (S.reach shelf.old (name_in (source_of source.now))) (S.reach shelf.new (name_in (source_of source.now))) }
     ensures others { (q : List ℕ) → q ≢ name_in (source_of source.now) → S.reach shelf.new q ≡ S.reach shelf.old q }
     ensures shelf_later { S.faults shelf.old ≤ S.faults shelf.new }
     ensures out_later { K.faults out.old ≤ K.faults out.new }

@@ -7,6 +7,7 @@ use Rattle.pr_tool_modes.specs.Files.{IsUnread}
 use Rattle.pr_tool_modes.specs.Evaluations.{HasLines}
 use Rattle.pr_tool_modes.proofs.EvalVerdicts.{file_end, put_end, evaluated}
 use Rattle.pr_tool_modes.proofs.FileLemmas.{shown_earlier}
+use Rattle.pr_tool_modes.proofs.OrderLemmas.{order_once, order_one, order_after}
 use Rattle.pr_tool_modes.proofs.evaluations.eval.Goals as goal
 
 -- the program is refused
@@ -29,3 +30,14 @@ returns-in-Ok-results_of-clause-ended g c =
     evaluated c.args.program.now c.args.samples.now c.in-Ok.front k c.put_results.result c.in-Ok.ensures.loaded
     (put_end c.args.samples.now program lines.bytes c.in-Ok-results_of.results.text.items c.in-Ok-results_of.results.end k c.put_results.result lines.file lines.short lines.results c.put_results.ensures.put)
     (inr (c.in-Ok-results_of.ensures.steady ∙ c.in-Ok.ensures.steady))
+
+pub returns-in-Err-clause-once : goal.returns-in-Err-clause-once
+returns-in-Err-clause-once g c = λ q once. order_one (g.S.Shelf.reach c.args.shelf.now) (g.S.Shelf.reach c.load_program.new.shelf) c.args.program.now q (order_once _ _ _ c.load_program.ensures.once) c.load_program.ensures.others
+
+pub returns-clause-once : goal.returns-clause-once
+returns-clause-once g c = λ q once. order_after (g.S.Shelf.reach c.args.shelf.now) (g.S.Shelf.reach c.load_program.new.shelf) (g.S.Shelf.reach c.results_of.new.shelf) _ c.args.program.now q c.load_program.ensures.once c.load_program.ensures.others
+    (λ e. c.results_of.ensures.others q (once e)) (order_one (g.S.Shelf.reach c.load_program.new.shelf) (g.S.Shelf.reach c.results_of.new.shelf) c.args.samples.now q c.results_of.ensures.once c.results_of.ensures.others)
+
+pub returns-in-Ok-results_of-clause-once : goal.returns-in-Ok-results_of-clause-once
+returns-in-Ok-results_of-clause-once g c = λ q once. order_after (g.S.Shelf.reach c.args.shelf.now) (g.S.Shelf.reach c.load_program.new.shelf) (g.S.Shelf.reach c.results_of.new.shelf) _ c.args.program.now q c.load_program.ensures.once c.load_program.ensures.others
+    (λ e. c.results_of.ensures.others q (once e)) (order_one (g.S.Shelf.reach c.load_program.new.shelf) (g.S.Shelf.reach c.results_of.new.shelf) c.args.samples.now q c.results_of.ensures.once c.results_of.ensures.others)

@@ -1,8 +1,10 @@
 use Rattle.std.proofs.Common.{◌∙◌}
 use Rattle.pr_run.specs.Setting.{view}
 use Rattle.pr_tool_modes.specs.Calls.{call}
-use Rattle.pr_tool_modes.specs.Jobs.{job_of}
+use Rattle.pr_tool_modes.specs.Jobs.{source_of, job_of}
 use Rattle.pr_tool_modes.proofs.RunVerdicts.{come_of}
+use Rattle.pr_tool_modes.specs.Sources.{name_in}
+use Rattle.pr_tool_modes.proofs.OrderLemmas.{order_once, order_one, order_after}
 use Rattle.pr_tool_modes.proofs.executions.execute.Goals as goal
 
 pub returns-in-Ok-clause-ended : goal.returns-in-Ok-clause-ended
@@ -15,3 +17,10 @@ returns-in-Ok-clause-ended g c =
 
 pub returns-in-Ok-clause-others : goal.returns-in-Ok-clause-others
 returns-in-Ok-clause-others g c = λ q second neither. c.run_loaded.ensures.others q second neither.1 ∙ c.load.ensures.others q neither.0
+
+pub returns-in-Err-clause-once : goal.returns-in-Err-clause-once
+returns-in-Err-clause-once g c = λ q once. order_one (g.S.Shelf.reach c.args.shelf.now) (g.S.Shelf.reach c.load.new.shelf) (name_in (source_of c.args.job.now.source)) q (order_once _ _ _ c.load.ensures.once) c.load.ensures.others
+
+pub returns-in-Ok-clause-once : goal.returns-in-Ok-clause-once
+returns-in-Ok-clause-once g c = λ q once. order_after (g.S.Shelf.reach c.args.shelf.now) (g.S.Shelf.reach c.load.new.shelf) (g.S.Shelf.reach c.run_loaded.new.shelf) _ (name_in (source_of c.args.job.now.source)) q c.load.ensures.once c.load.ensures.others
+    (λ e. c.run_loaded.ensures.others q (once.0 e).0 (once.0 e).1) (c.run_loaded.ensures.once q once.1)
