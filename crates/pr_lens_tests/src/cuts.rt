@@ -57,6 +57,35 @@ accepted
 p:3:10: warning: cut-bits
 ...By what is known of the operands, the values here go from 0 to 10, and the width 3 holds those from 0 to 7: ...
 $ pipelens why p
+input x:4;
+let k:8 = 200;
+output y:4 = x + 3;
+output z:4 = signed(0) - x - 1;
+output u:8 = k@1 + 60;
+output v:5 = (~x | 16) + 8 * (x{1..0} + 1);
+= 0
+accepted
+p:3:10: warning: cut-bits
+  3 | output y:4 = x + 3;
+    |          ^
+By what is known of the operands, the values here go from 3 to 18, and the width 4 holds those from 0 to 15: the bits above are cut off.
+Declare a greater width, of at most 128. Where these bits are not wanted, a slice says so: `(..){3..0}`, and `signed` of it where the stream is signed.
+p:4:10: warning: cut-bits
+  4 | output z:4 = signed(0) - x - 1;
+    |          ^
+By what is known of the operands, the values here go from -16 to -1, and the width 4 holds those from -8 to 7: the bits above are cut off.
+Declare a greater width, of at most 128. Where these bits are not wanted, a slice says so: `(..){3..0}`, and `signed` of it where the stream is signed.
+p:5:10: warning: cut-bits
+  5 | output u:8 = k@1 + 60;
+    |          ^
+By what is known of the operands, the values here go from 60 to 260, and the width 8 holds those from 0 to 255: the bits above are cut off.
+Declare a greater width, of at most 128. Where these bits are not wanted, a slice says so: `(..){7..0}`, and `signed` of it where the stream is signed.
+p:6:10: warning: cut-bits
+  6 | output v:5 = (~x | 16) + 8 * (x{1..0} + 1);
+    |          ^
+By what is known of the operands, the values here go from 24 to 63, and the width 5 holds those from 0 to 31: the bits above are cut off.
+Declare a greater width, of at most 128. Where these bits are not wanted, a slice says so: `(..){4..0}`, and `signed` of it where the stream is signed.
+$ pipelens why p
 input x:128;
 output y:8 = x + x;
 = 0
@@ -152,6 +181,20 @@ accepted
 $ pipelens why p
 input x:4;
 output y:8 = (x << 4) + x;
+= 0
+accepted
+$ pipelens why p
+input x:8;
+let low = signed(0) - 3;
+output a:8 = signed(cat(0, x)) - 128;
+output b:8 = (200 - x{6..0}) + 50;
+output c:8 = (~(x | 240)) + 240;
+output d:8 = ((x & 3) | (x & 12)) + ((x & 10) ^ 5) + 225;
+output e:8 = ((signed(x) - 100) >> 1) + 10;
+output f:8 = (signed(x) & 15) + 112;
+output g:8 = signed(cat(0, 1, x{3..0})) - 144;
+output h:8 = ~signed(x) * (signed(0) - 1) - 1;
+output i:8 = ((signed(cat(0, x{3..0})) - 60) * low + low) - 60;
 = 0
 accepted
 $ pipelens why p
