@@ -83,6 +83,58 @@ p:7:34: warning: cheap-product
 `10 * x@d` takes 8 units, and `((x@d << 3) + (x@d << 1))` takes 3.
 Write this in the place of the product: it gives the same numbers, and is as wide.
 $ pipelens why p
+input x:8;
+output y = 11 * x + 3;
+= 0
+accepted
+p:2:15: warning: cheap-product
+  2 | output y = 11 * x + 3;
+    |               ^
+`11 * x` takes 8 units, and `x * 11` takes 4.
+Write this in the place of the product: it gives the same numbers, and is as wide.
+$ pipelens why p
+input x:8;
+input a:2;
+const k = 11;
+rec s:8 = 0 by x + k*s@1;
+let low = 3 * x@2;
+let gain = a * 200 + a * 5;
+output y = s ^ low ^ gain ^ x * 8 ^ 8 * x;
+= 0
+accepted
+p:4:21: warning: cheap-product
+  4 | rec s:8 = 0 by x + k*s@1;
+    |                     ^
+`k*s@1` takes 8 units, and `s@1 * k` takes 4.
+Write this in the place of the product: it gives the same numbers, and is as wide.
+p:5:13: warning: cheap-product
+  5 | let low = 3 * x@2;
+    |             ^
+`3 * x@2` takes 8 units, and `x@2 * 3` takes 2.
+Write this in the place of the product: it gives the same numbers, and is as wide.
+p:6:14: warning: cheap-product
+  6 | let gain = a * 200 + a * 5;
+    |              ^
+`a * 200` takes 8 units, and `200 * a` takes 2.
+Write this in the place of the product: it gives the same numbers, and is as wide.
+p:6:24: warning: cheap-product
+  6 | let gain = a * 200 + a * 5;
+    |                        ^
+`a * 5` takes 3 units, and `5 * a` takes 2.
+Write this in the place of the product: it gives the same numbers, and is as wide.
+p:7:31: warning: cheap-product
+  7 | output y = s ^ low ^ gain ^ x * 8 ^ 8 * x;
+    |                               ^
+`x * 8` takes 4 units, and `(x << 3)` takes 1.
+Write this in the place of the product: it gives the same numbers, and has one bit less.
+See whether a difference, `~`, `signed`, a slice or `cat` reads this bit.
+p:7:39: warning: cheap-product
+  7 | output y = s ^ low ^ gain ^ x * 8 ^ 8 * x;
+    |                                       ^
+`8 * x` takes 8 units, and `(x << 3)` takes 1.
+Write this in the place of the product: it gives the same numbers, and has one bit less.
+See whether a difference, `~`, `signed`, a slice or `cat` reads this bit.
+$ pipelens why p
 input x:64;
 output y = x * 18446744073709551615;
 = 0
@@ -94,7 +146,7 @@ output y = x * 18446744073709551615;
 const PLAIN_PRODUCTS: &str = "\
 $ pipelens why p
 input x:8;
-output y = x * 3 + x * 6 + x * 11 + 11 * x + x * 0 + x * x;
+output y = x * 3 + x * 6 + x * 11 + x * 0 + x * x;
 = 0
 accepted
 $ pipelens why p
