@@ -90,7 +90,7 @@ cut_of o w (Some e) = cut_by o w e
 
 -- ---- arguments that are read by `signed`
 abbrev pub negative_by : ℕ → Option ℕ → ℕ → Option Reach → Verdict
-negative_by at (Some n) w (Some r) = if nat_lt 0 r.below then Negative at n w r.below else Unseen
+negative_by at (Some n) w (Some r) = if nat_lt 0 r.least.below then Negative at n w r.least.below else Unseen
 negative_by at _ w _ = Unseen
 
 -- a constant at this place whose highest bit is 1

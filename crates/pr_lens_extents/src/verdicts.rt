@@ -223,14 +223,14 @@ pub fn negative_of(argument: u64, extent: Option<Extent>) -> Verdict
     let Some(reach) = signed_extent(extent).reach else {
         return Verdict::Unseen;
     };
-    if reach.below == 0 {
+    if reach.least.below == 0 {
         return Verdict::Unseen;
     }
     Verdict::Negative {
         argument,
         number,
         width: extent.form.width,
-        below: reach.below,
+        below: reach.least.below,
     }
 }
 

@@ -1,4 +1,4 @@
--- Products in a text that shifts make with fewer units.
+-- Products in a text that can be made with fewer units.
 use Rattle.std.specs.Prelude.{ℕ, ◌+◌, ◌-◌, Bool, true, false, List, Option, None, Some, option_map}
 use Rattle.std.specs.Option.{option_and_then, option_or}
 use Rattle.pr_lang.specs.declared.tokens.Token.{Token}
@@ -20,24 +20,23 @@ product_of reversed width number = None
 abbrev pub part : ℕ → ℕ → Part
 part first last = record { first = first; last = last }
 
-abbrev pub cheap : Part → Part → Cheaper → CheapProduct
-cheap whole stream cheaper = record { whole = whole; stream = stream; cheaper = cheaper }
-
-abbrev pub whole_of : List Token → ℕ → Part
-whole_of tokens at = part (left_of tokens at) (right_of tokens at)
+-- the product of a sign, of which the factor before it is the number or is not
+abbrev pub cheap_at : List Token → ℕ → Bool → Cheaper → CheapProduct
+cheap_at tokens at reversed cheaper =
+    record { before = part (left_of tokens at) (at - 1); behind = part (at + 1) (right_of tokens at); reversed = reversed; cheaper = cheaper }
 
 -- the stream stands before the sign of a product, and the constant behind it
 abbrev pub stream_before : List ℕ → List Token → List Span → ℕ → Option CheapProduct
 stream_before text tokens spans at =
-    option_map (cheap (whole_of tokens at) (part (left_of tokens at) (at - 1)))
+    option_map (cheap_at tokens at false)
     (option_and_then cheaper_of (product_of false (width_at text tokens spans (left_of tokens at)) (constant_at text tokens spans (at + 1))))
 
 -- the constant stands before the sign, and the stream behind it
 abbrev pub stream_behind : List ℕ → List Token → List Span → ℕ → Option CheapProduct
 stream_behind text tokens spans at =
-    option_map (cheap (whole_of tokens at) (part (at + 1) (right_of tokens at)))
+    option_map (cheap_at tokens at true)
     (option_and_then cheaper_of (product_of true (width_at text tokens spans (at + 1)) (constant_at text tokens spans (left_of tokens at))))
 
--- the product of the sign at a token, where shifts make it with fewer units
+-- the product of the sign at a token, where it can be made with fewer units
 abbrev pub cheap_product : List ℕ → List Token → List Span → ℕ → Option CheapProduct
 cheap_product text tokens spans at = option_or (stream_before text tokens spans at) (stream_behind text tokens spans at)

@@ -1,4 +1,4 @@
--- What is told of a product that shifts make with fewer units.
+-- What is told of a product that can be made with fewer units.
 use Rattle.std.specs.Prelude.{ℕ, ◌==◌, List, ◌++◌, codes, decimal, slice_range, if◌then◌else◌}
 use Rattle.pr_lang.specs.declared.tokens.Token.{Token}
 use Rattle.pr_lens_source.specs.Tokens.{start_of, end_of}
@@ -7,7 +7,8 @@ use Rattle.pr_lens_products.specs.declared.products.CheapProduct.{CheapProduct}
 use Rattle.pr_lens_products.specs.declared.products.Part.{Part}
 use Rattle.pr_lens_products.specs.declared.shifts.Shifts.{Shifts}
 use Rattle.pr_lens_products.specs.declared.shifts.Shifts.TheVariants.{One, Sum, Difference}
-use Rattle.pr_lens_products.specs.declared.units.Cheaper.{Cheaper}
+use Rattle.pr_lens_products.specs.declared.units.Way.{Way}
+use Rattle.pr_lens_products.specs.declared.units.Way.TheVariants.{Shifted, Swapped}
 
 -- tokens as they stand in the text, with what is between them
 abbrev pub part_text : List ℕ → List Token → Part → List ℕ
@@ -32,16 +33,31 @@ unit_word n = if n == 1 then codes " unit, and `" else codes " units, and `"
 unfoldable pub units_text : ℕ → List ℕ
 units_text n = codes " takes " ++ decimal n ++ unit_word n
 
-unfoldable pub made_text : List ℕ → Cheaper → List ℕ
-made_text name c = shifts_text name c.shifts ++ codes "` takes " ++ decimal c.units ++ codes ".\nWrite this in the place of the product: "
+-- the tokens of a product
+abbrev pub whole_of : CheapProduct → Part
+whole_of p = record { first = p.before.first; last = p.behind.last }
+
+-- the factor that is a stream
+abbrev pub stream_of : CheapProduct → Part
+stream_of p = if p.reversed then p.behind else p.before
+
+-- the factors in the other order
+unfoldable pub swapped_text : List ℕ → List Token → CheapProduct → List ℕ
+swapped_text text tokens p = part_text text tokens p.behind ++ codes " * " ++ part_text text tokens p.before
+
+abbrev pub way_text : List ℕ → List Token → CheapProduct → Way → List ℕ
+way_text text tokens p (Shifted shifts) = shifts_text (part_text text tokens (stream_of p)) shifts
+way_text text tokens p Swapped = swapped_text text tokens p
+
+unfoldable pub made_text : List ℕ → List Token → CheapProduct → List ℕ
+made_text text tokens p =
+    way_text text tokens p p.cheaper.way ++ codes "` takes " ++ decimal p.cheaper.units ++ codes ".\nWrite this in the place of the product: "
 
 -- a power of two has a bit more than the shift goes by
-abbrev pub width_text : Shifts → List ℕ
-width_text (One by) = codes "it gives the same numbers, and has one bit less.\nSee whether a difference, `~`, `signed`, a slice or `cat` reads this bit.\n"
-width_text (Sum by and) = codes "it gives the same numbers, and is as wide.\n"
-width_text (Difference by less) = codes "it gives the same numbers, and is as wide.\n"
+abbrev pub width_text : Way → List ℕ
+width_text (Shifted (One by)) = codes "it gives the same numbers, and has one bit less.\nSee whether a difference, `~`, `signed`, a slice or `cat` reads this bit.\n"
+width_text way = codes "it gives the same numbers, and is as wide.\n"
 
 unfoldable pub cheap_text : List ℕ → List Token → CheapProduct → List ℕ
 cheap_text text tokens p =
-    quoted (part_text text tokens p.whole) ++ units_text p.cheaper.product ++ made_text (part_text text tokens p.stream) p.cheaper
-    ++ width_text p.cheaper.shifts
+    quoted (part_text text tokens (whole_of p)) ++ units_text p.cheaper.product ++ made_text text tokens p ++ width_text p.cheaper.way

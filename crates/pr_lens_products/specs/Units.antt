@@ -1,5 +1,5 @@
 -- The units of products by a constant, and of the shifts that make them.
-use Rattle.std.specs.Prelude.{ℕ, ◌+◌, ◌==◌, nat_lt, if◌then◌else◌, List, [], ◌∷◌, Option, None, Some}
+use Rattle.std.specs.Prelude.{◌≡◌, ℕ, ◌+◌, ◌==◌, not, nat_lt, if◌then◌else◌, List, [], ◌∷◌, Option, None, Some, ⊤}
 use Rattle.pr_flat.specs.declared.equations.Op.{Op}
 use Rattle.pr_flat.specs.declared.forms.Form.{Form}
 use Rattle.pr_flat.specs.Forms.{number_width}
@@ -10,7 +10,9 @@ use Rattle.pr_lens_products.specs.declared.shifts.Shifts.{Shifts}
 use Rattle.pr_lens_products.specs.declared.shifts.Shifts.TheVariants.{One, Sum, Difference}
 use Rattle.pr_lens_products.specs.declared.units.Cheaper.{Cheaper}
 use Rattle.pr_lens_products.specs.declared.units.Product.{Product}
-use Rattle.pr_lens_products.specs.Shifts.{shifts_of}
+use Rattle.pr_lens_products.specs.declared.units.Way.{Way}
+use Rattle.pr_lens_products.specs.declared.units.Way.TheVariants.{Shifted, Swapped}
+use Rattle.pr_lens_products.specs.Shifts.{number_of, shifts_of}
 
 -- the units of an operator at its natural width
 abbrev pub natural_units : Op → List Form → ℕ
@@ -32,20 +34,45 @@ shifts_units width (One by) = shift_units width by
 shifts_units width (Sum by and) = shift_units width by + shift_units width and + natural_two Op.Add (width + by) (width + and)
 shifts_units width (Difference by less) = shift_units width by + shift_units width less + natural_two Op.Sub (width + by) (width + less)
 
-abbrev pub product_units : Product → ℕ
-product_units p =
-    if p.reversed then natural_two Op.Mul (number_width p.number) p.width else natural_two Op.Mul p.width (number_width p.number)
+-- the factors in their order
+abbrev pub factors : Product → List Form
+factors p =
+    if p.reversed then unsigned_form (number_width p.number) ∷ unsigned_form p.width ∷ []
+    else unsigned_form p.width ∷ unsigned_form (number_width p.number) ∷ []
 
-abbrev pub cheaper_by : Product → Shifts → Option Cheaper
-cheaper_by p shifts =
-    if nat_lt (shifts_units p.width shifts) (product_units p)
-    then Some (record { product = product_units p; units = shifts_units p.width shifts; shifts = shifts })
-    else None
+abbrev pub product_units : Product → ℕ
+product_units p = natural_units Op.Mul (factors p)
+
+-- the other order
+abbrev pub swapped : Product → Product
+swapped p = record { width = p.width; number = p.number; reversed = not p.reversed }
+
+-- ---- ways with fewer units
+abbrev pub cheaper_by : Product → ℕ → Way → Option Cheaper
+cheaper_by p units way =
+    if nat_lt units (product_units p) then Some (record { product = product_units p; units = units; way = way }) else None
+
+abbrev pub by_swap : Product → Option Cheaper
+by_swap p = cheaper_by p (product_units (swapped p)) Swapped
 
 abbrev pub cheaper_with : Product → Option Shifts → Option Cheaper
 cheaper_with p None = None
-cheaper_with p (Some shifts) = cheaper_by p shifts
+cheaper_with p (Some shifts) = cheaper_by p (shifts_units p.width shifts) (Shifted shifts)
 
--- shifts that make a product with fewer units
+abbrev pub by_shifts : Product → Option Cheaper
+by_shifts p = cheaper_with p (shifts_of p.number)
+
+-- the way with fewer units; of two with as many the first one
+abbrev pub fewer : Option Cheaper → Option Cheaper → Option Cheaper
+fewer None other = other
+fewer (Some a) None = Some a
+fewer (Some a) (Some b) = if nat_lt b.units a.units then Some b else Some a
+
+-- the factors in the other order, or shifts, where these take fewer units
 abbrev pub cheaper_of : Product → Option Cheaper
-cheaper_of p = cheaper_with p (shifts_of p.number)
+cheaper_of p = fewer (by_swap p) (by_shifts p)
+
+-- a way makes the product by a number
+abbrev pub Makes : ℕ → Way → Type 0
+Makes n (Shifted shifts) = number_of shifts ≡ n
+Makes n Swapped = ⊤

@@ -1,8 +1,8 @@
-//! Products in a text that shifts make with fewer units.
+//! Products in a text that can be made with fewer units.
 
 ghost use Rattle.std.specs.Prelude.{◌≡◌, ◌<◌, ◌≤◌, IfSome, length};
 ghost use Rattle.std.specs.Option.{option_and_then};
-ghost use Rattle.pr_lens_products.specs.Products.{cheap_product, product_of, stream_before, stream_behind, whole_of};
+ghost use Rattle.pr_lens_products.specs.Products.{cheap_at, cheap_product, product_of, stream_before, stream_behind};
 ghost use Rattle.pr_lens_products.specs.Units.{cheaper_of};
 
 use crate::factors::{left_of, right_of, width_at};
@@ -19,25 +19,35 @@ pub struct Part {
     pub last: usize,
 }
 
-/// A product in a text that shifts make with fewer units.
+/// A product in a text that can be made with fewer units.
 #[derive(Clone, Copy, PartialEq, Eq, Debug)]
 pub struct CheapProduct {
-    /// The product.
-    pub whole: Part,
-    /// The factor that is a stream.
-    pub stream: Part,
-    /// The shifts, and the units of both.
+    /// The factor before its sign.
+    pub before: Part,
+    /// The factor behind it.
+    pub behind: Part,
+    /// Whether the factor before its sign is the number.
+    pub reversed: bool,
+    /// The other way, and the units of both.
     pub cheaper: Cheaper,
 }
 
-/// The tokens of a product, by its sign.
-fn whole_of(source: &Source, at: usize) -> Part
+/// The product of a sign, of which the factor before it is the number or is not.
+fn cheap_at(source: &Source, at: usize, reversed: bool, cheaper: Cheaper) -> CheapProduct
     requires { at < length source.now.tokens.now }
-    ensures { result ≡ whole_of source.now.tokens.now at }
+    ensures { result ≡ cheap_at source.now.tokens.now at reversed cheaper }
 {
-    Part {
-        first: left_of(source, at),
-        last: right_of(source, at),
+    CheapProduct {
+        before: Part {
+            first: left_of(source, at),
+            last: at.saturating_sub(1),
+        },
+        behind: Part {
+            first: at + 1,
+            last: right_of(source, at),
+        },
+        reversed,
+        cheaper,
     }
 }
 
@@ -60,7 +70,7 @@ fn product_of(reversed: bool, width: Option<u16>, number: Option<u64>) -> Option
     }
 }
 
-/// The shifts that make a product with fewer units.
+/// The way to make a product with fewer units.
 fn cheaper_in(product: Option<Product>) -> Option<Cheaper>
     requires { IfSome product (λ p. p.width ≤ 128) }
     ensures { result ≡ option_and_then cheaper_of product }
@@ -77,18 +87,11 @@ fn stream_before(source: &Source, at: usize) -> Option<CheapProduct>
     ensures { let source = source.now in result
         ≡ stream_before source.text.now source.tokens.now source.spans.now at }
 {
-    let first = left_of(source, at);
-    let product = product_of(false, width_at(source, first), constant_at(source, at + 1));
+    let width = width_at(source, left_of(source, at));
+    let product = product_of(false, width, constant_at(source, at + 1));
     match cheaper_in(product) {
         None => None,
-        Some(cheaper) => Some(CheapProduct {
-            whole: whole_of(source, at),
-            stream: Part {
-                first,
-                last: at.saturating_sub(1),
-            },
-            cheaper,
-        }),
+        Some(cheaper) => Some(cheap_at(source, at, false, cheaper)),
     }
 }
 
@@ -102,19 +105,12 @@ fn stream_behind(source: &Source, at: usize) -> Option<CheapProduct>
     let product = product_of(true, width_at(source, at + 1), number);
     match cheaper_in(product) {
         None => None,
-        Some(cheaper) => Some(CheapProduct {
-            whole: whole_of(source, at),
-            stream: Part {
-                first: at + 1,
-                last: right_of(source, at),
-            },
-            cheaper,
-        }),
+        Some(cheaper) => Some(cheap_at(source, at, true, cheaper)),
     }
 }
 
-/// The product of the sign at a token, where shifts make it with fewer units. It is a product of a constant and an
-/// input or a recurrence of declared width.
+/// The product of the sign at a token, where it can be made with fewer units. It is a product of a constant and an input
+/// or a recurrence of declared width.
 pub fn cheap_product(source: &Source, at: usize) -> Option<CheapProduct>
     requires { at < length source.now.tokens.now }
     ensures { let source = source.now in result

@@ -1,12 +1,12 @@
-//! What is told of a product that shifts make with fewer units.
+//! What is told of a product that can be made with fewer units.
 
 ghost use Rattle.std.specs.Prelude.{◌≡◌, ◌++◌, OnOk};
 ghost use Rattle.pr_lens_names.specs.Pieces.{quoted};
-ghost use Rattle.pr_lens_products.specs.Texts.{cheap_text, made_text, part_text, shifted_text, shifts_text, two_text, unit_word, units_text, width_text};
+ghost use Rattle.pr_lens_products.specs.Texts.{cheap_text, made_text, part_text, shifted_text, shifts_text, stream_of, swapped_text, two_text, unit_word, units_text, way_text, whole_of, width_text};
 
 use crate::products::{CheapProduct, Part};
 use crate::shifts::Shifts;
-use crate::units::Cheaper;
+use crate::units::Way;
 use pr_lens_names::put_in_quotes;
 use pr_lens_source::Source;
 use pr_lens_text::{put, put_number};
@@ -89,28 +89,77 @@ fn put_units(message: &mut Vec<u8>, units: u32) -> Result<(), AllocError>
     put(message, unit_word(units))
 }
 
-/// Tells the shifts and their units.
-#[tactic(auto, unfolding(crate::specs::Texts::made_text))]
-fn put_made(message: &mut Vec<u8>, name: &[u8], cheaper: Cheaper) -> Result<(), AllocError>
-    ensures { OnOk result (message.new.items ≡ message.old.items ++ made_text name.now cheaper) }
+/// The tokens of a product.
+fn whole_of(cheap: &CheapProduct) -> Part
+    ensures { result ≡ whole_of cheap.now }
 {
-    put_shifts(message, name, cheaper.shifts)?;
+    Part {
+        first: cheap.before.first,
+        last: cheap.behind.last,
+    }
+}
+
+/// The factor that is a stream.
+fn stream_of(cheap: &CheapProduct) -> Part
+    ensures { result ≡ stream_of cheap.now }
+{
+    if cheap.reversed {
+        cheap.behind
+    } else {
+        cheap.before
+    }
+}
+
+/// Tells the factors in the other order.
+#[tactic(auto, unfolding(crate::specs::Texts::swapped_text))]
+fn put_swapped(
+    message: &mut Vec<u8>,
+    source: &Source,
+    cheap: &CheapProduct,
+) -> Result<(), AllocError>
+    ensures { OnOk result (message.new.items
+        ≡ message.old.items ++ swapped_text source.now.text.now source.now.tokens.now cheap.now) }
+{
+    message.extend_from_slice(part_text(source, cheap.behind))?;
+    put(message, " * ")?;
+    message.extend_from_slice(part_text(source, cheap.before))
+}
+
+/// Tells the other way to make a product.
+fn put_way(message: &mut Vec<u8>, source: &Source, cheap: &CheapProduct) -> Result<(), AllocError>
+    ensures { OnOk result (message.new.items
+        ≡ message.old.items ++ way_text source.now.text.now source.now.tokens.now cheap.now cheap.now.cheaper.way) }
+{
+    match cheap.cheaper.way {
+        Way::Shifted { shifts } => put_shifts(message, part_text(source, stream_of(cheap)), shifts),
+        Way::Swapped => put_swapped(message, source, cheap),
+    }
+}
+
+/// Tells the other way and its units.
+#[tactic(auto, unfolding(crate::specs::Texts::made_text))]
+fn put_made(message: &mut Vec<u8>, source: &Source, cheap: &CheapProduct) -> Result<(), AllocError>
+    ensures { OnOk result (message.new.items
+        ≡ message.old.items ++ made_text source.now.text.now source.now.tokens.now cheap.now) }
+{
+    put_way(message, source, cheap)?;
     put(message, "` takes ")?;
-    put_number(message, cheaper.units as usize)?;
+    put_number(message, cheap.cheaper.units as usize)?;
     put(message, ".\nWrite this in the place of the product: ")
 }
 
-/// Tells how wide shifts are beside the product.
-fn put_width(message: &mut Vec<u8>, shifts: Shifts) -> Result<(), AllocError>
-    ensures { OnOk result (message.new.items ≡ message.old.items ++ width_text shifts) }
+/// Tells how wide the other way is beside the product.
+fn put_width(message: &mut Vec<u8>, way: Way) -> Result<(), AllocError>
+    ensures { OnOk result (message.new.items ≡ message.old.items ++ width_text way) }
 {
-    match shifts {
-        Shifts::One { .. } => put(
+    match way {
+        Way::Shifted {
+            shifts: Shifts::One { .. },
+        } => put(
             message,
             "it gives the same numbers, and has one bit less.\nSee whether a difference, `~`, `signed`, a slice or `cat` reads this bit.\n",
         ),
-        Shifts::Sum { .. } => put(message, "it gives the same numbers, and is as wide.\n"),
-        Shifts::Difference { .. } => put(message, "it gives the same numbers, and is as wide.\n"),
+        _ => put(message, "it gives the same numbers, and is as wide.\n"),
     }
 }
 
@@ -122,20 +171,7 @@ fn put_part(message: &mut Vec<u8>, source: &Source, part: Part) -> Result<(), Al
     put_in_quotes(message, part_text(source, part))
 }
 
-/// Tells the shifts of a part of the text and their units.
-fn put_shifts_of(
-    message: &mut Vec<u8>,
-    source: &Source,
-    stream: Part,
-    cheaper: Cheaper,
-) -> Result<(), AllocError>
-    ensures { let source = source.now in OnOk result (message.new.items
-        ≡ message.old.items ++ made_text (part_text source.text.now source.tokens.now stream) cheaper) }
-{
-    put_made(message, part_text(source, stream), cheaper)
-}
-
-/// Tells that shifts make a product with fewer units.
+/// Tells that a product can be made with fewer units.
 #[tactic(auto, unfolding(crate::specs::Texts::cheap_text))]
 pub fn put_cheap(
     message: &mut Vec<u8>,
@@ -145,8 +181,8 @@ pub fn put_cheap(
     ensures { OnOk result (message.new.items
         ≡ message.old.items ++ cheap_text source.now.text.now source.now.tokens.now cheap.now) }
 {
-    put_part(message, source, cheap.whole)?;
+    put_part(message, source, whole_of(cheap))?;
     put_units(message, cheap.cheaper.product)?;
-    put_shifts_of(message, source, cheap.stream, cheap.cheaper)?;
-    put_width(message, cheap.cheaper.shifts)
+    put_made(message, source, cheap)?;
+    put_width(message, cheap.cheaper.way)
 }

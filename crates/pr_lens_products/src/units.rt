@@ -1,10 +1,11 @@
 //! The units of products by a constant, and of the shifts that make them.
 
 ghost use Rattle.std.specs.Prelude.{◌≡◌, ◌≤◌, ◌<◌, IfSome};
+ghost use Rattle.pr_flat.specs.Rows.{natural_width};
 ghost use Rattle.pr_flat.specs.declared.equations.Op.{Op};
 ghost use Rattle.pr_flat.specs.Forms.{number_width};
 ghost use Rattle.pr_lens_products.specs.Shifts.{AreFew, number_of};
-ghost use Rattle.pr_lens_products.specs.Units.{cheaper_by, cheaper_of, natural_one, natural_two, product_units, shift_units, shifts_units};
+ghost use Rattle.pr_lens_products.specs.Units.{Makes, by_shifts, by_swap, cheaper_by, cheaper_of, factors, fewer, natural_one, natural_two, product_units, shift_units, shifts_units, swapped};
 
 use crate::shifts::{Shifts, shifts_of};
 use pr_cutmul::{chain_count, product_count, slice_count};
@@ -21,15 +22,24 @@ pub struct Product {
     pub reversed: bool,
 }
 
-/// Shifts that make a product with fewer units.
+/// How else a product is made.
+#[derive(Clone, Copy, PartialEq, Eq, Debug)]
+pub enum Way {
+    /// By shifts.
+    Shifted { shifts: Shifts },
+    /// The factors change places.
+    Swapped,
+}
+
+/// Another way to make a product, with fewer units.
 #[derive(Clone, Copy, PartialEq, Eq, Debug)]
 pub struct Cheaper {
     /// The units of the product.
     pub product: u32,
-    /// Those of the shifts.
+    /// Those of the other way.
     pub units: u32,
-    /// The shifts.
-    pub shifts: Shifts,
+    /// The other way.
+    pub way: Way,
 }
 
 /// The unit of a shift by a constant; none by whole bytes.
@@ -105,35 +115,86 @@ fn shifts_units(width: u16, shifts: Shifts) -> u32
     }
 }
 
-/// These shifts, where they make a product with fewer units.
-fn cheaper_by(product: Product, shifts: Shifts) -> Option<Cheaper>
+/// This way with so many units, where the product takes more.
+fn cheaper_by(product: Product, units: u32, way: Way) -> Option<Cheaper>
     requires width { product.width ≤ 128 }
-    requires few { AreFew shifts }
-    ensures is { result ≡ cheaper_by product shifts }
-    ensures these { IfSome result (λ c. c.shifts ≡ shifts) }
+    ensures is { result ≡ cheaper_by product units way }
+    ensures this { IfSome result (λ c. c.way ≡ way) }
     ensures fewer { IfSome result (λ c. c.units < c.product) }
 {
     let whole = product_units(product);
-    let units = shifts_units(product.width, shifts);
     if units < whole {
         return Some(Cheaper {
             product: whole,
             units,
-            shifts,
+            way,
         });
     }
     None
 }
 
-/// The shifts that make a product with fewer units: one, or a sum or a difference of two; none where there are no such.
-pub fn cheaper_product(product: Product) -> Option<Cheaper>
-    requires { product.width ≤ 128 }
-    ensures is { result ≡ cheaper_of product }
-    ensures makes { IfSome result (λ c. number_of c.shifts ≡ product.number) }
+/// The same factors in the other order. Their product is as wide.
+#[tactic(auto, using(crate::proofs::UnitLemmas::swapped_natural))]
+fn swapped(product: Product) -> Product
+    ensures is { result ≡ swapped product }
+    ensures wide { natural_width Op.Mul (factors result) ≡ natural_width Op.Mul (factors product) }
+{
+    Product {
+        width: product.width,
+        number: product.number,
+        reversed: !product.reversed,
+    }
+}
+
+/// The factors in the other order, where they make a product with fewer units.
+fn by_swap(product: Product) -> Option<Cheaper>
+    requires width { product.width ≤ 128 }
+    ensures is { result ≡ by_swap product }
+    ensures makes { IfSome result (λ c. Makes product.number c.way) }
+    ensures fewer { IfSome result (λ c. c.units < c.product) }
+{
+    cheaper_by(product, product_units(swapped(product)), Way::Swapped)
+}
+
+/// The shifts that make a product with fewer units: one, or a sum or a difference of two.
+fn by_shifts(product: Product) -> Option<Cheaper>
+    requires width { product.width ≤ 128 }
+    ensures is { result ≡ by_shifts product }
+    ensures makes { IfSome result (λ c. Makes product.number c.way) }
     ensures fewer { IfSome result (λ c. c.units < c.product) }
 {
     match shifts_of(product.number) {
         None => None,
-        Some(shifts) => cheaper_by(product, shifts),
+        Some(shifts) => {
+            let units = shifts_units(product.width, shifts);
+            cheaper_by(product, units, Way::Shifted { shifts })
+        }
     }
+}
+
+/// The way with fewer units; of two with as many the first one.
+fn fewer(one: Option<Cheaper>, other: Option<Cheaper>) -> Option<Cheaper>
+    ensures { result ≡ fewer one other }
+{
+    let Some(first) = one else {
+        return other;
+    };
+    let Some(second) = other else {
+        return one;
+    };
+    if second.units < first.units {
+        return other;
+    }
+    one
+}
+
+/// The way to make a product with fewer units: its factors in the other order, or one shift, or a sum or a difference of
+/// two; none where there is no such.
+pub fn cheaper_product(product: Product) -> Option<Cheaper>
+    requires { product.width ≤ 128 }
+    ensures is { result ≡ cheaper_of product }
+    ensures makes { IfSome result (λ c. Makes product.number c.way) }
+    ensures fewer { IfSome result (λ c. c.units < c.product) }
+{
+    fewer(by_swap(product), by_shifts(product))
 }

@@ -14,8 +14,9 @@ use Rattle.pr_flat.specs.Forms.{number_width}
 use Rattle.pr_flat.specs.Rows.{natural_form, takes}
 use Rattle.pr_lang_meaning.specs.Expressions.{operator, shift_by}
 use Rattle.pr_lens_reach.specs.declared.extents.Extent.{Extent}
+use Rattle.pr_lens_reach.specs.declared.reaches.Bound.{Bound}
 use Rattle.pr_lens_reach.specs.declared.reaches.Reach.{Reach}
-use Rattle.pr_lens_reach.specs.Reaches.{between, common_of, difference_of, either_of, fits_at, lowered_of, product_of, raised_of, read_signed, sum_of, whole, whole_of}
+use Rattle.pr_lens_reach.specs.Reaches.{apart_of, common_of, difference_of, either_of, fits_at, greatest_of, lowered_of, only, over, product_of, raised_of, read_signed, sum_of, together_of, under, whole, whole_of, within}
 
 abbrev pub unsigned_form : ℕ → Form
 unsigned_form width = record { signed = false; width = width }
@@ -29,7 +30,7 @@ abbrev pub plain : Form → Extent
 plain f = varied (whole f) f
 
 abbrev pub constant : ℕ → Extent
-constant n = record { form = unsigned_form (number_width n); number = Some n; still = Some n; reach = Some (between 0 n) }
+constant n = record { form = unsigned_form (number_width n); number = Some n; still = Some n; reach = Some (only (over n)) }
 
 -- a comparison is 1 or 0
 abbrev pub truth : Extent
@@ -75,12 +76,14 @@ abbrev pub reach_of : Option Extent → Option Reach
 reach_of None = None
 reach_of (Some e) = e.reach
 
--- an operator of two operands, of which the kind and width are these
+-- an operator of two operands, of which the kind and width are these: a difference of unsigned numbers that goes below 0 wraps around
 abbrev pub reach_on : BinOp → Form → Reach → Reach → Option Reach
 reach_on binary.Add f r s = sum_of r s
 reach_on binary.Mul f r s = product_of r s
-reach_on binary.Sub f r s = if f.signed then difference_of r s else whole f
-reach_on binary.And f r s = if f.signed then whole f else Some (common_of r s)
+reach_on binary.Sub f r s = within (whole f) (difference_of r s)
+reach_on binary.And f r s = within (whole f) (common_of r s)
+reach_on binary.Or f r s = within (whole f) (together_of r s)
+reach_on binary.Xor f r s = within (whole f) (apart_of r s)
 reach_on o f r s = whole f
 
 abbrev pub reach_by : BinOp → Form → Option Reach → Option Reach → Option Reach
@@ -89,7 +92,7 @@ reach_by o f _ _ = whole f
 
 abbrev pub numbered : Option ℕ → Option Reach → Form → Extent
 numbered None r f = varied r f
-numbered (Some n) r f = record { form = f; number = Some n; still = Some n; reach = Some (between 0 n) }
+numbered (Some n) r f = record { form = f; number = Some n; still = Some n; reach = Some (only (over n)) }
 
 abbrev pub two_numbered : BinOp → Option Extent → Option Extent → Form → Extent
 two_numbered o a b f = numbered (applied_to (number_of a) (number_of b) o) (reach_by o f (reach_of a) (reach_of b)) f
@@ -99,7 +102,7 @@ operated o a b = option_map (two_numbered o a b) (of_two (operator o) (held a) (
 
 abbrev pub reach_shifted : Op → Form → Reach → Option Reach
 reach_shifted (op.Left k) f r = raised_of k r
-reach_shifted (op.Right k) f r = if f.signed then whole f else Some (lowered_of k r)
+reach_shifted (op.Right k) f r = Some (lowered_of k r)
 reach_shifted o f r = whole f
 
 abbrev pub reach_shifted_by : Op → Form → Option Reach → Option Reach
@@ -128,8 +131,19 @@ binary_of binary.Left a b = shifted binary.Left a b
 binary_of binary.Right a b = shifted binary.Right a b
 binary_of o a b = operated o a b
 
+-- a value and its complement together
+abbrev pub all_ones : Form → Option Bound
+all_ones f = if f.signed then Some (under 1) else cond (nat_le f.width 128) (Some (over (greatest_of false f.width))) None
+
+abbrev pub complements : Option Bound → Option Reach → Option Reach
+complements (Some ones) (Some r) = difference_of (only ones) r
+complements _ _ = None
+
+abbrev pub one_not : Option Extent → Form → Extent
+one_not a f = varied (within (whole f) (complements (all_ones f) (reach_of a))) f
+
 abbrev pub not_of : Option Extent → Option Extent
-not_of a = option_map plain (of_one op.Not (held a))
+not_of a = option_map (one_not a) (of_one op.Not (held a))
 
 abbrev pub either_by : Option Reach → Option Reach → Option Reach
 either_by (Some r) (Some s) = Some (either_of r s)
@@ -152,7 +166,7 @@ stream_of e = option_map named e
 
 -- the same some samples ago: it was 0 before the first one
 abbrev pub late : Extent → Extent
-late e = varied e.reach e.form
+late e = varied (either_by e.reach (Some (only (over 0)))) e.form
 
 abbrev pub past_of : Option Extent → Option Extent
 past_of e = option_map late e
@@ -170,11 +184,19 @@ signed_of e = option_map signed_extent e
 -- ---- parts beside one another
 -- no parts
 abbrev pub no_parts : Extent
-no_parts = record { form = unsigned_form 0; number = None; still = Some 0; reach = Some (between 0 0) }
+no_parts = record { form = unsigned_form 0; number = None; still = Some 0; reach = Some (only (over 0)) }
 
 -- parts are read as numbers
 abbrev pub bits_reach : Extent → Option Reach
 bits_reach e = if e.form.signed then whole_of false e.form.width else e.reach
+
+-- those of a part of this width beside what stands above it
+abbrev pub raised_beside : Option Reach → Option Reach → Option Reach
+raised_beside (Some above) (Some r) = sum_of above r
+raised_beside _ _ = None
+
+abbrev pub reach_beside : Option Reach → ℕ → Option Reach → Option Reach
+reach_beside above w r = raised_beside (option_and_then (raised_of w) above) r
 
 -- a part below others that are all 0
 abbrev pub below_zeros : ℕ → Extent → Extent
@@ -187,7 +209,8 @@ is_zero (Some n) = nat_eq n 0
 abbrev pub both_beside : Extent → Extent → Extent
 both_beside above e =
     let w = above.form.width + e.form.width in
-    if is_zero above.still then below_zeros w e else plain (unsigned_form w)
+    if is_zero above.still then below_zeros w e
+    else varied (reach_beside (bits_reach above) e.form.width (bits_reach e)) (unsigned_form w)
 
 abbrev pub two_beside : Extent → Extent → Option Extent
 two_beside above e = cond (nat_le above.form.width 128 && is_width e.form.width) (Some (both_beside above e)) None

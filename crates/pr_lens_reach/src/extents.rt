@@ -5,12 +5,12 @@ ghost use Rattle.std.specs.Option.{option_and_then};
 ghost use Rattle.pr_flat.specs.Forms.{IsForm};
 ghost use Rattle.pr_lang_meaning.specs.Expressions.{operator, shift_by};
 ghost use Rattle.pr_scope_names.specs.Amounts.{fixed_op};
-ghost use Rattle.pr_lens_reach.specs.Extents.{applied_to, beside, below_zeros, binary_of, bits_reach, both_beside, choice_of, constant, either_by, fitted_in, fitted_to, held, is_zero, no_parts, not_of, number_of, numbered, of_branches, of_one, of_two, one_shifted, operated, past_of, plain, reach_by, reach_of, reach_on, reach_shifted, reach_shifted_by, recurrence_of, settled_as, shifted, shifted_by, signed_extent, signed_of, slice_of, stream_of, truth, two_numbered, unsigned_form, varied, width_form};
-ghost use Rattle.pr_lens_reach.specs.Reaches.{whole};
+ghost use Rattle.pr_lens_reach.specs.Extents.{all_ones, applied_to, below_zeros, beside, binary_of, bits_reach, both_beside, choice_of, complements, constant, either_by, fitted_in, fitted_to, held, is_zero, no_parts, not_of, number_of, numbered, of_branches, of_one, of_two, one_not, one_shifted, operated, past_of, plain, reach_beside, reach_by, reach_of, reach_on, reach_shifted, reach_shifted_by, recurrence_of, settled_as, shifted, shifted_by, signed_extent, signed_of, slice_of, stream_of, truth, two_numbered, unsigned_form, varied, width_form};
+ghost use Rattle.pr_lens_reach.specs.Reaches.{whole, within};
 
 use crate::reaches::{
-    Reach, common_of, difference_of, either_of, fits_at, lowered_of, product_of, raised_of,
-    read_signed, sum_of, up_to, whole_of,
+    Bound, Reach, apart_of, common_of, difference_of, either_of, fits_at, greatest_of, lowered_of,
+    only, over, product_of, raised_of, read_signed, sum_of, together_of, under, whole_of, within,
 };
 use pr_flat::{Form, Op};
 use pr_flat_ops::{natural_choice, natural_one, natural_two, number_width};
@@ -73,7 +73,7 @@ pub fn constant(number: u64) -> Extent
         form: unsigned_form(u16::from(number_width(number).get())),
         number: Some(number),
         still: Some(number),
-        reach: Some(up_to(u128::from(number))),
+        reach: Some(only(over(u128::from(number)))),
     }
 }
 
@@ -211,20 +211,10 @@ fn reach_on(op: BinOp, form: Form, one: Reach, other: Reach) -> Option<Reach>
     match op {
         BinOp::Add => sum_of(one, other),
         BinOp::Mul => product_of(one, other),
-        BinOp::Sub => {
-            if form.signed {
-                difference_of(one, other)
-            } else {
-                whole(form)
-            }
-        }
-        BinOp::And => {
-            if form.signed {
-                whole(form)
-            } else {
-                Some(common_of(one, other))
-            }
-        }
+        BinOp::Sub => within(whole(form), difference_of(one, other)),
+        BinOp::And => within(whole(form), common_of(one, other)),
+        BinOp::Or => within(whole(form), together_of(one, other)),
+        BinOp::Xor => within(whole(form), apart_of(one, other)),
         _ => whole(form),
     }
 }
@@ -252,7 +242,7 @@ fn numbered(number: Option<u64>, reach: Option<Reach>, form: Form) -> Extent
             form,
             number: Some(number),
             still: Some(number),
-            reach: Some(up_to(u128::from(number))),
+            reach: Some(only(over(u128::from(number)))),
         },
     }
 }
@@ -300,13 +290,7 @@ fn reach_shifted(shift: Op, form: Form, reach: Reach) -> Option<Reach>
 {
     match shift {
         Op::Left(by) => raised_of(by, reach),
-        Op::Right(by) => {
-            if form.signed {
-                whole(form)
-            } else {
-                Some(lowered_of(by, reach))
-            }
-        }
+        Op::Right(by) => Some(lowered_of(by, reach)),
         _ => whole(form),
     }
 }
@@ -359,11 +343,48 @@ pub fn binary_of(op: BinOp, one: Option<Extent>, other: Option<Extent>) -> Optio
     }
 }
 
+/// What a value and its complement are together.
+fn all_ones(form: Form) -> Option<Bound>
+    ensures { result ≡ all_ones form }
+{
+    if form.signed {
+        return Some(under(1));
+    }
+    if form.width > 128 {
+        return None;
+    }
+    Some(over(greatest_of(false, form.width)))
+}
+
+/// The complements of these values, where a value and its complement are this together.
+fn complements(ones: Option<Bound>, reach: Option<Reach>) -> Option<Reach>
+    ensures { result ≡ complements ones reach }
+{
+    let Some(ones) = ones else {
+        return None;
+    };
+    let Some(reach) = reach else {
+        return None;
+    };
+    difference_of(only(ones), reach)
+}
+
+/// The complement of a stream, of which the kind and width are these.
+fn one_not(operand: Option<Extent>, form: Form) -> Extent
+    ensures { result ≡ one_not operand form }
+{
+    let reach = complements(all_ones(form), reach_of(operand));
+    varied(within(whole(form), reach), form)
+}
+
 /// The complement of a stream.
 pub fn not_of(operand: Option<Extent>) -> Option<Extent>
     ensures { result ≡ not_of operand }
 {
-    of_one(Op::Not, held(operand)).map(plain)
+    match of_one(Op::Not, held(operand)) {
+        None => None,
+        Some(form) => Some(one_not(operand, form)),
+    }
 }
 
 /// What one of two streams can be.
@@ -421,13 +442,16 @@ pub fn stream_of(extent: Option<Extent>) -> Option<Extent>
     }
 }
 
-/// The same some samples ago.
+/// The same some samples ago: before the first sample it was 0.
 pub fn past_of(extent: Option<Extent>) -> Option<Extent>
     ensures { result ≡ past_of extent }
 {
     match extent {
         None => None,
-        Some(extent) => Some(varied(extent.reach, extent.form)),
+        Some(extent) => {
+            let reach = either_by(extent.reach, Some(only(over(0))));
+            Some(varied(reach, extent.form))
+        }
     }
 }
 
@@ -465,7 +489,7 @@ pub fn no_parts() -> Extent
         form: unsigned_form(0),
         number: None,
         still: Some(0),
-        reach: Some(up_to(0)),
+        reach: Some(only(over(0))),
     }
 }
 
@@ -477,6 +501,23 @@ fn bits_reach(extent: Extent) -> Option<Reach>
         return whole_of(false, extent.form.width);
     }
     extent.reach
+}
+
+/// The numbers of a part of this width beside what stands above it.
+fn reach_beside(above: Option<Reach>, width: u16, part: Option<Reach>) -> Option<Reach>
+    requires { width ≤ 128 }
+    ensures { result ≡ reach_beside above width part }
+{
+    let Some(above) = above else {
+        return None;
+    };
+    let Some(part) = part else {
+        return None;
+    };
+    let Some(above) = raised_of(width as u8, above) else {
+        return None;
+    };
+    sum_of(above, part)
 }
 
 /// A part below others that are all 0.
@@ -510,7 +551,8 @@ fn both_beside(above: Extent, part: Extent) -> Extent
     if is_zero(above.still) {
         return below_zeros(width, part);
     }
-    plain(unsigned_form(width))
+    let reach = reach_beside(bits_reach(above), part.form.width, bits_reach(part));
+    varied(reach, unsigned_form(width))
 }
 
 /// A part beside what stands above it, where both have widths that parts can have.

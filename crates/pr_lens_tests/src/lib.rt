@@ -9,7 +9,13 @@ mod benches;
 #[cfg(test)]
 mod calls;
 #[cfg(test)]
+mod comparisons;
+#[cfg(test)]
+mod constants;
+#[cfg(test)]
 mod costs;
+#[cfg(test)]
+mod cuts;
 #[cfg(test)]
 mod fits;
 #[cfg(test)]
@@ -18,6 +24,10 @@ mod json;
 mod logs;
 #[cfg(test)]
 mod modules;
+#[cfg(test)]
+mod names;
+#[cfg(test)]
+mod products;
 #[cfg(test)]
 mod scope;
 #[cfg(test)]

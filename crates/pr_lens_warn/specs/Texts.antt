@@ -4,6 +4,7 @@ use Rattle.pr_lang.specs.declared.tokens.Token.{Token}
 use Rattle.pr_flat.specs.declared.forms.Form.{Form}
 use Rattle.pr_lens_products.specs.Texts.{cheap_text}
 use Rattle.pr_lens_reach.specs.declared.extents.Extent.{Extent}
+use Rattle.pr_lens_reach.specs.declared.reaches.Bound.{Bound}
 use Rattle.pr_lens_reach.specs.declared.reaches.Reach.{Reach}
 use Rattle.pr_lens_reach.specs.Reaches.{whole}
 use Rattle.pr_lens_source.specs.Tokens.{start_of}
@@ -98,12 +99,12 @@ settled_text answer left right =
     sides_text answer left right
     ++ codes ".\nCompare with a number in reach, or take the comparison out. `signed(s)` reads the highest bit of `s` as its sign.\n"
 
--- a value that is so far below 0
-abbrev pub least_text : ℕ → List ℕ
-least_text below = if nat_eq below 0 then codes "from 0 to " else codes "from -" ++ decimal below ++ codes " to "
+-- a value, which may be below 0
+abbrev pub bound_text : Bound → List ℕ
+bound_text b = if nat_eq b.below 0 then decimal b.above else codes "-" ++ decimal b.below
 
 abbrev pub span_text : Reach → List ℕ
-span_text r = least_text r.below ++ decimal r.above
+span_text r = codes "from " ++ bound_text r.least ++ codes " to " ++ bound_text r.greatest
 
 abbrev pub reach_text : Option Reach → List ℕ
 reach_text None = codes "beyond 128 bits"

@@ -1,14 +1,14 @@
 //! What is told of a warning.
 
 ghost use Rattle.std.specs.Prelude.{◌≡◌, ◌++◌, OnOk, decimal};
-ghost use Rattle.pr_lens_warn.specs.Texts.{amount_text, answer_text, argument_text, code_of, function_text, heading_of, indices_text, least_text, line_text, long_text, message_of, minus_text, narrow_text, parameter_text, reach_text, settled_text, side_text, sides_text, slice_text, span_text, unneeded_text, sign_text, unsigned_text, values_text, width_text, wrap_text};
+ghost use Rattle.pr_lens_warn.specs.Texts.{amount_text, answer_text, argument_text, bound_text, code_of, function_text, heading_of, indices_text, line_text, long_text, message_of, minus_text, narrow_text, parameter_text, reach_text, settled_text, side_text, sides_text, slice_text, span_text, unneeded_text, sign_text, unsigned_text, values_text, width_text, wrap_text};
 
 use crate::remarks::{Remark, Warning};
 use itoa::Buffer;
 use pr_flat::Form;
 use pr_lens_names::put_quoted;
 use pr_lens_products::put_cheap;
-use pr_lens_reach::{Extent, Reach, whole_of};
+use pr_lens_reach::{Bound, Extent, Reach, whole_of};
 use pr_lens_source::Source;
 use pr_lens_text::{line_at, put, put_counted};
 use std::alloc::AllocError;
@@ -232,24 +232,25 @@ fn put_wide(message: &mut Vec<u8>, number: u128) -> Result<(), AllocError>
     message.extend_from_slice(buffer.format(number).as_bytes())
 }
 
-/// Tells the least value, which is so far below 0.
-fn put_least(message: &mut Vec<u8>, below: u128) -> Result<(), AllocError>
-    ensures { OnOk result (message.new.items ≡ message.old.items ++ least_text below) }
+/// Tells a value.
+fn put_bound(message: &mut Vec<u8>, bound: Bound) -> Result<(), AllocError>
+    ensures { OnOk result (message.new.items ≡ message.old.items ++ bound_text bound) }
 {
-    if below == 0 {
-        return put(message, "from 0 to ");
+    if bound.below == 0 {
+        return put_wide(message, bound.above);
     }
-    put(message, "from -")?;
-    put_wide(message, below)?;
-    put(message, " to ")
+    put(message, "-")?;
+    put_wide(message, bound.below)
 }
 
 /// Tells between which values a stream stands.
 fn put_span(message: &mut Vec<u8>, reach: Reach) -> Result<(), AllocError>
     ensures { OnOk result (message.new.items ≡ message.old.items ++ span_text reach) }
 {
-    put_least(message, reach.below)?;
-    put_wide(message, reach.above)
+    put(message, "from ")?;
+    put_bound(message, reach.least)?;
+    put(message, " to ")?;
+    put_bound(message, reach.greatest)
 }
 
 /// The same, where the values can be beyond 128 bits.
