@@ -22,15 +22,19 @@ use Rattle.pr_lens_fits.specs.declared.groups.Unfit.{Unfit}
 use Rattle.pr_lens_fits.specs.Unfits.{AreTold, IsReadyOf, IsUnfit, HasUnfit, PassesLimit, IsNothing, cell_count}
 
 -- ---- cells
-pub count_more : (net : NetShape) (units : List ℕ) (i u d : ℕ) → i < length units → u ≡ get_or units i d
-    → min (cell_count net (take i units) + length (cells_of net u)) (2 ^ 64 - 1) ≡ cell_count net (take (i + 1) units)
-count_more net units i u d within is =
-    let f : ℕ → ℕ = λ k. length (cells_of net k) in
+-- one unit more, as far as 64 bits count
+pub sum_more : (f : ℕ → ℕ) (units : List ℕ) (i u d : ℕ) → i < length units → u ≡ get_or units i d
+    → min (min (sum_by f (take i units)) (2 ^ 64 - 1) + f u) (2 ^ 64 - 1) ≡ min (sum_by f (take (i + 1) units)) (2 ^ 64 - 1)
+sum_more f units i u d within is =
     let more : sum_by f (take (i + 1) units) ≡ sum_by f (take i units) + f u = ap (λ (us : List ℕ). sum_by f us) (take_more units i d within) ∙ (sum_by_push f (take i units) (get_or units i d) ∙ ap (λ (k : ℕ). sum_by f (take i units) + f k) (sym is)) in
     capped (sum_by f (take i units)) (f u) (sum_by f (take (i + 1) units)) (2 ^ 64 - 1) more
   where
     capped : (a b c most : ℕ) → c ≡ a + b → min (min a most + b) most ≡ min c most
     capped a b c most e = omega (arith, e)
+
+pub count_more : (net : NetShape) (units : List ℕ) (i u d : ℕ) → i < length units → u ≡ get_or units i d
+    → min (cell_count net (take i units) + length (cells_of net u)) (2 ^ 64 - 1) ≡ cell_count net (take (i + 1) units)
+count_more net = sum_more (λ k. length (cells_of net k))
 
 -- ---- the equations of which a net is made
 pub ready_told : (narrowed : Bool) (program : Program) (flat : Flat) (widths : List ℕ) (ready : Flat) (news : List ℕ) → HasEquations program flat → AreWidths (equations_of program).equations widths

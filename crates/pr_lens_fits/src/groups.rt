@@ -4,19 +4,19 @@ ghost use Rattle.std.specs.Prelude.{◌≡◌, ◌≤◌, ◌⊎◌, Err, Some, 
 ghost use Rattle.pr_base.specs.declared.caps.Cap.{Cap};
 ghost use Rattle.pr_flat.specs.Flats.{equations_of};
 ghost use Rattle.pr_flat.specs.Widths.{AreWidths};
-ghost use Rattle.pr_net.specs.Shape.{cells_of};
 ghost use Rattle.pr_net.specs.Whole.{shape_of};
 ghost use Rattle.pr_cut_units.specs.Flats.{flat_net, flat_plan};
 ghost use Rattle.pr_cut_units.specs.Nets.{limit_passed};
 ghost use Rattle.pr_cut_plan.specs.declared.faults.CutFault.{CutFault};
 ghost use Rattle.pr_lens_fits.specs.Makers.{HasMaker, IsMaker};
-ghost use Rattle.pr_lens_fits.specs.Unfits.{cell_count, ends_with, group_ending, IsUnfit, IsFound, IsNothing};
+ghost use Rattle.pr_lens_fits.specs.Unfits.{cell_count, group_ending, IsUnfit, IsFound, IsNothing};
 
+use crate::cells::{cells_in, group_ending};
 use crate::kept::kept_before;
 use crate::makers::unit_equation;
-use crate::ready::ready;
-use pr_cut::cut;
-use pr_cut_plan::{CutFault, plan_of};
+use crate::nets::plan_and_net;
+use crate::ready::ready_in;
+use pr_cut_plan::CutFault;
 use pr_flat::Flat;
 use pr_lens_find::equations_item;
 use pr_lens_source::Source;
@@ -24,47 +24,11 @@ use pr_net::Net;
 use pr_width::Widths;
 use std::alloc::{AllocError, Global};
 
-/// How many cells a unit has.
-fn cells_of(net: &Net, unit: u32) -> usize
-    ensures { result ≡ length (cells_of (shape_of net.now) unit) }
-{
-    match net.units.get(unit as usize) {
-        None => 0,
-        Some(found) => found.cells.len(),
-    }
-}
-
-/// How many cells these units have.
-fn cells_in(net: &Net, units: &[u32]) -> usize
-    ensures { result ≡ cell_count (shape_of net.now) units.now }
-{
-    let mut cells: usize = 0;
-    for unit in units {
-        cells = cells.saturating_add(cells_of(net, *unit));
-    }
-    cells
-}
-
-/// Whether this is the last of some units.
-fn ends_with(units: &[u32], unit: u32) -> bool
-    ensures { result ≡ ends_with unit units.now }
-{
-    match units.get(units.len().saturating_sub(1)) {
-        None => false,
-        Some(last) => *last == unit,
-    }
-}
-
 /// How many columns the group has whose last unit this is; 0 where there is none.
 fn group_columns(net: &Net, unit: u32) -> usize
     ensures { result ≡ cell_count (shape_of net.now) (group_ending (shape_of net.now) unit) }
 {
-    for group in &net.groups {
-        if ends_with(&group.units, unit) {
-            return cells_in(net, &group.units);
-        }
-    }
-    0
+    cells_in(net, group_ending(net, u64::from(unit)))
 }
 
 /// A group of units that fits in no stripe.
@@ -93,8 +57,7 @@ fn group_of(
     ensures limit { (cap : Cap) → result ≡ Err (CutFault.Limit cap) →
         limit_passed columns (flat_net flat.now widths.now) ≡ Some cap }
 {
-    let plan = plan_of(alloc, flat, widths, columns)?;
-    let net = cut(alloc, flat, widths, columns)?;
+    let (plan, net) = plan_and_net(alloc, flat, widths, columns)?;
     let kept = kept_before(alloc, &net, unit)?;
     let found = Unfit {
         item: 0,
@@ -124,7 +87,7 @@ pub fn find_unfit(
         columns: 0,
         kept: 0,
     };
-    let Some((flat, widths)) = ready(alloc, source.text, narrowed)? else {
+    let Some((flat, widths)) = ready_in(alloc, source.text, narrowed)? else {
         return Ok(nothing);
     };
     match group_of(alloc, &flat, &widths, columns, unit) {

@@ -15,7 +15,7 @@ use pr_flat::{Equation, Flat, Operand};
 use pr_width::{Widths, operand_width};
 
 /// The width of an equation; 0 where there is none.
-fn width_at(widths: &Widths, number: usize) -> u8
+pub fn width_at(widths: &Widths, number: usize) -> u8
     ensures { result ≡ slice_index widths.now number }
 {
     widths.of.get(number).copied().unwrap_or(0)

@@ -1,6 +1,7 @@
 //! The equations of which a net is made.
 
 ghost use Rattle.std.specs.Prelude.{◌≡◌, ◌≤◌, ℕ, List, length, IfOk, IfNone, IfSome, OnOk, IsTrue, IsFalse};
+ghost use Rattle.pr_compile_front.specs.Passed.{IsPassed};
 ghost use Rattle.pr_compile_front.specs.Refusals.{IsAnswer, IsRefusal};
 ghost use Rattle.pr_lens_fits.specs.Unfits.{HasRefusal, IsReadyOf};
 ghost use Rattle.pr_flat.specs.Flats.{equations_of};
@@ -57,8 +58,24 @@ fn refused(fault: FrontFault) -> Result<(), AllocError>
     }
 }
 
-/// The same of the program of a text; none where it is refused before it has widths.
-pub fn ready(
+/// The program of a text with its equations and their widths; none where it is refused before it has widths.
+pub fn read_front(alloc: Global, text: &[u8]) -> Result<Option<Front>, AllocError>
+    requires { length text.now ≤ 1048576 }
+    ensures passed { IfOk result (λ o. IfSome o (IsPassed text.now)) }
+    ensures none { IfOk result (λ o. IfNone o (HasRefusal text.now)) }
+{
+    match read_program(alloc, text) {
+        Ok(front) => Ok(Some(front)),
+        Err(fault) => {
+            refused(fault)?;
+            Ok(None)
+        }
+    }
+}
+
+/// The equations of which the net of a text's program is made: narrowed, or as they are; none where it is refused before
+/// it has widths.
+pub fn ready_in(
     alloc: Global,
     text: &[u8],
     narrowed: bool,
@@ -68,19 +85,14 @@ pub fn ready(
     ensures told { IfOk result (λ o. IfSome o (λ r. IsReadyOf narrowed text.now r.0 r.1)) }
     ensures none { IfOk result (λ o. IfNone o (HasRefusal text.now)) }
 {
-    match read_program(alloc, text) {
-        Ok(front) => {
-            let Front {
-                scoped: _scoped,
-                flat,
-                widths,
-            } = front;
-            let made = ready_of(alloc, flat, widths, narrowed)?;
-            Ok(Some(made))
-        }
-        Err(fault) => {
-            refused(fault)?;
-            Ok(None)
-        }
-    }
+    let Some(front) = read_front(alloc, text)? else {
+        return Ok(None);
+    };
+    let Front {
+        scoped: _scoped,
+        flat,
+        widths,
+    } = front;
+    let made = ready_of(alloc, flat, widths, narrowed)?;
+    Ok(Some(made))
 }

@@ -5,7 +5,7 @@ ghost use Rattle.pr_base.specs.declared.caps.Cap.{Cap};
 ghost use Rattle.pr_lens_fits.specs.Targets.{HasFewUnits, HasFewUnitsBefore, HasManyUnits, IsManyUnitsWith};
 ghost use Rattle.pr_lens_fits.specs.Unfits.{PassesLimit};
 
-use crate::ready::ready;
+use crate::ready::ready_in;
 use crate::targets::with_output;
 use pr_base::Cap;
 use pr_cut_plan::{CutFault, plan_of};
@@ -31,7 +31,7 @@ fn has_many_units(alloc: Global, text: &[u8], narrowed: bool) -> Result<bool, Al
     if text.len() > Cap::MOST_PROGRAM_BYTES {
         return Ok(false);
     }
-    let Some((flat, widths)) = ready(alloc, text, narrowed)? else {
+    let Some((flat, widths)) = ready_in(alloc, text, narrowed)? else {
         return Ok(false);
     };
     match plan_of(alloc, &flat, &widths, 64) {

@@ -1,11 +1,9 @@
 -- Operators one after the other, and what is told of a text.
-use Rattle.std.proofs.Common.{◌≡◌, ◌∙◌, ◌+◌, ◌-◌, ◌^◌, ◌<◌, ℕ, Bool, true, false, Option, None, Some, List, [], fold, get_or, length, map, min, sum_by, take, refl, ap, sym, subst, arith}
+use Rattle.std.proofs.Common.{◌≡◌, ◌∙◌, ◌+◌, ℕ, Bool, true, false, Option, None, Some, List, [], fold, map, refl, ap, sym, subst, arith}
 use Rattle.std.specs.Prelude.{IfNone, IsTrue, IsFalse}
 use Rattle.std.specs.List.{range_with_len}
-use Rattle.std.specs.declared.alloc.AllocError.{AllocError}
 use Rattle.std.proofs.lemmas.List.FromFn.{map-range_with_len_more}
-use Rattle.std.proofs.lemmas.List.{take_more}
-use Rattle.std.proofs.lemmas.List.Sums.{fold_push, sum_by_push}
+use Rattle.std.proofs.lemmas.List.Sums.{fold_push}
 use Rattle.pr_base.specs.declared.caps.Cap.{Cap}
 use Rattle.pr_lang.specs.declared.trees.Program.{Program}
 use Rattle.pr_flat.specs.declared.flat.Flat.{Flat}
@@ -18,37 +16,17 @@ use Rattle.pr_cut_units.specs.Flats.{flat_net, flat_plan}
 use Rattle.pr_cut_units.specs.Nets.{limit_passed, net_of}
 use Rattle.pr_expand_spec.specs.Programs.{equations_of}
 use Rattle.pr_compile_front.specs.Passed.{HasEquations}
-use Rattle.pr_compile_front.specs.Refusals.{HasWidths, IsAnswer}
-use Rattle.pr_compile_front.specs.declared.faults.FrontFault.{FrontFault}
-use Rattle.pr_compile_front.specs.declared.faults.FrontFault.TheVariants.{Syntax, Scope, NoWidth, Limit, Memory}
+use Rattle.pr_compile_front.specs.Refusals.{HasWidths}
 use Rattle.pr_compile.specs.Configured.{OfReadyBy}
-use Rattle.pr_lens_fits.specs.Unfits.{AreTold, HasRefusal, PassesLimit}
+use Rattle.pr_lens_fits.specs.Unfits.{AreTold, IsReadyOf, PassesLimit}
 use Rattle.pr_lens_fits.proofs.UnfitLemmas.{of_told, passes, ready_told}
 use Rattle.pr_lens_needs.specs.declared.takes.Take.{Take}
-use Rattle.pr_lens_needs.specs.Columns.{DeclaresOther, HasColumns, declares, held_columns}
+use Rattle.pr_lens_needs.specs.Columns.{HasDeclared, DeclaresOther, HasColumns, declares, held_columns}
 use Rattle.pr_lens_needs.specs.Needs.{OfText}
 use Rattle.pr_lens_needs.specs.Takes.{take_of, takes_before, with_take}
 
--- an answer that is no want of memory is a refusal
-pub refusal_of : (text : List ℕ) (fault : FrontFault) → ((x : AllocError) → fault ≡ Memory x → ⊥) → IsAnswer text fault → HasRefusal text
-refusal_of text (Syntax token) not is = record { fault = Syntax token; refused = is }
-refusal_of text (Scope number item) not is = record { fault = Scope number item; refused = is }
-refusal_of text (NoWidth equation) not is = record { fault = NoWidth equation; refused = is }
-refusal_of text (Limit which) not is = record { fault = Limit which; refused = is }
-refusal_of text (Memory x) not is = absurd (not x refl)
-
--- ---- columns
--- one unit more
-pub sum_more : (f : ℕ → ℕ) (units : List ℕ) (i u d : ℕ) → i < length units → u ≡ get_or units i d
-    → min (min (sum_by f (take i units)) (2 ^ 64 - 1) + f u) (2 ^ 64 - 1) ≡ min (sum_by f (take (i + 1) units)) (2 ^ 64 - 1)
-sum_more f units i u d within is =
-    let more : sum_by f (take (i + 1) units) ≡ sum_by f (take i units) + f u = ap (λ (us : List ℕ). sum_by f us) (take_more units i d within) ∙ (sum_by_push f (take i units) (get_or units i d) ∙ ap (λ (k : ℕ). sum_by f (take i units) + f k) (sym is)) in
-    capped (sum_by f (take i units)) (f u) (sum_by f (take (i + 1) units)) (2 ^ 64 - 1) more
-  where
-    capped : (a b c most : ℕ) → c ≡ a + b → min (min a most + b) most ≡ min c most
-    capped a b c most e = omega (arith, e)
-
--- one operator more
+-- ---- operators
+-- one more
 pub takes_more : (plan : Plan) (net : NetShape) (units : List ℕ) (number : ℕ) (takes : List Take) (one : Take) → takes ≡ takes_before plan net units number → one ≡ take_of plan net units number
     → with_take takes one ≡ takes_before plan net units (number + 1)
 takes_more plan net units number takes one before is =
@@ -62,20 +40,26 @@ pub none_then : {X : Type 0} (o : Option X) {P Q : Type 0} → IfNone o P → (P
 none_then None is then = then is
 none_then (Some x) is then = is
 
+-- there is none
+pub none_left : {X : Type 0} (o : Option X) {P : Type 0} → ((x : X) → o ≡ Some x → ⊥) → IfNone o P → P
+none_left None not is = is
+none_left (Some x) not is = absurd (not x refl)
+
+-- ---- a text whose net is made of these equations
+pub of_text : (Holds : Plan → NetShape → Type 0) (narrowed : Bool) (text : List ℕ) (ready : Flat) (news : List ℕ) → IsReadyOf narrowed text ready news → Holds (flat_plan ready news) (flat_net ready news) → OfText narrowed text Holds
+of_text Holds narrowed text ready news r is = record {
+  program = r.program;
+  given = r.given;
+  has = r.has;
+  are = of_told (λ es ws qs. Holds (plan_of es ws qs) (net_of es ws qs)) narrowed r.program r.given ready news r.are is;
+}
+
 -- ---- a text whose program has these equations, which are made ready
 module _ (narrowed : Bool) (text : List ℕ) (program : Program) (flat : Flat) (widths : List ℕ) (ready : Flat) (news : List ℕ) (has : HasEquations program flat) (given : HasWidths text program widths)
     (narrow : IsTrue narrowed → AreNarrowed (flats.equations_of flat) flat.outputs.items widths (flats.equations_of ready) news)
     (whole : IsFalse narrowed → (ready ≡ flat) × (news ≡ widths)) (outputs : ready.outputs.items ≡ flat.outputs.items) where
   are : OfReadyBy narrowed program widths (λ es ws. AreTold ready news es ws (equations_of program).outputs)
   are = ready_told narrowed program flat widths ready news has given.are narrow whole outputs
-
-  pub of_text : (Holds : Plan → NetShape → Type 0) → Holds (flat_plan ready news) (flat_net ready news) → OfText narrowed text Holds
-  of_text Holds is = record {
-    program = program;
-    given = widths;
-    has = given;
-    are = of_told (λ es ws qs. Holds (plan_of es ws qs) (net_of es ws qs)) narrowed program widths ready news are is;
-  }
 
   pub limit_told : (columns : ℕ) (which : Cap) → limit_passed columns (flat_net ready news) ≡ Some which → PassesLimit columns narrowed text which
   limit_told columns which is = passes columns narrowed text ready news which (record { program = program; given = widths; has = given; are = are }) is
@@ -95,4 +79,12 @@ declares_other text program flat widths rec width has given other = record {
   given = widths;
   has = given;
   other = subst (λ (es : List EquationShape). declares es rec width ≡ false) has.equations other;
+}
+
+pub declares_this : (text : List ℕ) (program : Program) (flat : Flat) (widths : List ℕ) (rec width : ℕ) → HasEquations program flat → HasWidths text program widths → declares (flats.equations_of flat) rec (Some width) ≡ true → HasDeclared text rec width
+declares_this text program flat widths rec width has given this = record {
+  program = program;
+  given = widths;
+  has = given;
+  this = subst (λ (es : List EquationShape). declares es rec (Some width) ≡ true) has.equations this;
 }

@@ -42,6 +42,19 @@ pub record DeclaresOther (text : List ℕ) (rec : ℕ) (width : Option ℕ) : Ty
   pub has : HasWidths text program given
   pub other : declares (equations_of program).equations rec width ≡ false
 
+-- the equation of its program declares this width
+pub record HasDeclared (text : List ℕ) (rec width : ℕ) : Type 0 where
+  pub program : Program
+  pub given : List ℕ
+  pub has : HasWidths text program given
+  pub this : declares (equations_of program).equations rec (Some width) ≡ true
+
+-- it does not, or the text is longer than a program may be, or refused
+pub data HasNotDeclared (text : List ℕ) (rec width : ℕ) : Type 0 where
+  IsTooLong : 1048576 < length text → HasNotDeclared text rec width
+  IsRefused : HasRefusal text → HasNotDeclared text rec width
+  IsOther : DeclaresOther text rec (Some width) → HasNotDeclared text rec width
+
 -- how many columns a recurrence needs, narrowed or as it is, where it declares the width that is asked for; none where
 -- the text is longer than a program may be, or has no net on so many columns
 pub data NeedsColumns (columns : ℕ) (narrowed : Bool) (text : List ℕ) (rec : ℕ) (width : Option ℕ) (found : Option ℕ) : Type 0 where

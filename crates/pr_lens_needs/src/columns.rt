@@ -1,6 +1,6 @@
 //! How many columns a recurrence needs in the net of a text.
 
-ghost use Rattle.std.specs.Prelude.{◌≡◌, ◌≤◌, ℕ, List, Err, Some, IfOk, OnOk};
+ghost use Rattle.std.specs.Prelude.{◌≡◌, ◌≤◌, Err, Some, IfOk, IsFalse, IsTrue};
 ghost use Rattle.pr_base.specs.declared.caps.Cap.{Cap};
 ghost use Rattle.pr_flat.specs.Flats.{equations_of};
 ghost use Rattle.pr_flat.specs.Widths.{AreWidths};
@@ -9,18 +9,14 @@ ghost use Rattle.pr_cut_units.specs.Flats.{flat_net, flat_plan};
 ghost use Rattle.pr_cut_units.specs.Nets.{limit_passed};
 ghost use Rattle.pr_cut_plan.specs.declared.faults.CutFault.{CutFault};
 ghost use Rattle.pr_cut_plan.specs.Plans.{IsPlanOf};
-ghost use Rattle.pr_compile_front.specs.Refusals.{IsAnswer};
-ghost use Rattle.pr_lens_fits.specs.Unfits.{HasRefusal};
-ghost use Rattle.pr_lens_needs.specs.Columns.{NeedsColumns, declares, held_columns, is_declared};
+ghost use Rattle.pr_lens_needs.specs.Columns.{HasDeclared, HasNotDeclared, NeedsColumns, declares, held_columns, is_declared};
 
-use crate::groups::{columns_in, group_ending};
 use crate::recurrences::{is_held, last_unit};
 use pr_base::Cap;
-use pr_compile_front::{Front, FrontFault, read_program};
-use pr_cut::cut;
-use pr_cut_plan::{CutFault, Plan, plan_of};
+use pr_compile_front::Front;
+use pr_cut_plan::{CutFault, Plan};
 use pr_flat::Flat;
-use pr_lens_fits::ready_of;
+use pr_lens_fits::{cells_in, group_ending, plan_and_net, read_front, ready_of};
 use pr_net::Net;
 use pr_width::Widths;
 use std::alloc::{AllocError, Global};
@@ -34,7 +30,7 @@ fn held_columns(flat: &Flat, widths: &Widths, plan: &Plan, net: &Net, rec: usize
         return None;
     }
     let last = last_unit(flat, widths, plan, rec);
-    Some(columns_in(net, group_ending(net, last)))
+    Some(cells_in(net, group_ending(net, last)))
 }
 
 /// The same, in the net of equations on so many columns.
@@ -52,8 +48,7 @@ fn columns_on(
     ensures limit { (cap : Cap) → result ≡ Err (CutFault.Limit cap) →
         limit_passed columns (flat_net flat.now widths.now) ≡ Some cap }
 {
-    let plan = plan_of(alloc, flat, widths, columns)?;
-    let net = cut(alloc, flat, widths, columns)?;
+    let (plan, net) = plan_and_net(alloc, flat, widths, columns)?;
     Ok(held_columns(flat, widths, &plan, &net, rec))
 }
 
@@ -80,14 +75,18 @@ fn declares(flat: &Flat, rec: usize, width: Option<u8>) -> bool
     }
 }
 
-/// Passes want of memory on; else the text is refused.
-pub fn refused(fault: FrontFault) -> Result<(), AllocError>
-    ensures { (text : List ℕ) → IsAnswer text fault → OnOk result (HasRefusal text) }
+/// Whether the equation of this number declares this width, in the program of a text.
+pub fn declares_in(alloc: Global, text: &[u8], rec: usize, width: u8) -> Result<bool, AllocError>
+    ensures yes { IfOk result (λ answer. IsTrue answer → HasDeclared text.now rec width) }
+    ensures no { IfOk result (λ answer. IsFalse answer → HasNotDeclared text.now rec width) }
 {
-    match fault {
-        FrontFault::Memory(error) => Err(error),
-        _ => Ok(()),
+    if text.len() > Cap::MOST_PROGRAM_BYTES {
+        return Ok(false);
     }
+    let Some(front) = read_front(alloc, text)? else {
+        return Ok(false);
+    };
+    Ok(declares(&front.flat, rec, Some(width)))
 }
 
 /// How many columns a recurrence needs in the net of the program of a text, narrowed or as it is, where it declares the
@@ -106,12 +105,8 @@ pub fn columns_of(
     if text.len() > Cap::MOST_PROGRAM_BYTES {
         return Ok(None);
     }
-    let front = match read_program(alloc, text) {
-        Ok(front) => front,
-        Err(fault) => {
-            refused(fault)?;
-            return Ok(None);
-        }
+    let Some(front) = read_front(alloc, text)? else {
+        return Ok(None);
     };
     let Front {
         scoped: _scoped,

@@ -1,33 +1,11 @@
 //! The columns of units.
 
-ghost use Rattle.std.specs.Prelude.{◌≡◌, length};
-ghost use Rattle.pr_net.specs.Shape.{cells_of};
+ghost use Rattle.std.specs.Prelude.{◌≡◌};
 ghost use Rattle.pr_net.specs.Whole.{shape_of};
-ghost use Rattle.pr_lens_fits.specs.Unfits.{cell_count, ends_with, group_ending};
 ghost use Rattle.pr_lens_needs.specs.Takes.{cells_between, columns_between};
 
+use pr_lens_fits::cells_of;
 use pr_net::Net;
-
-/// How many cells a unit has.
-fn cells_of(net: &Net, unit: u32) -> usize
-    ensures { result ≡ length (cells_of (shape_of net.now) unit) }
-{
-    match net.units.get(unit as usize) {
-        None => 0,
-        Some(found) => found.cells.len(),
-    }
-}
-
-/// How many columns these units take.
-pub fn columns_in(net: &Net, units: &[u32]) -> usize
-    ensures { result ≡ cell_count (shape_of net.now) units.now }
-{
-    let mut cells: usize = 0;
-    for unit in units {
-        cells = cells.saturating_add(cells_of(net, *unit));
-    }
-    cells
-}
 
 /// How many cells a unit has that has a number from one up to another; none where it has another one.
 fn cells_between(net: &Net, unit: u32, from: u64, to: u64) -> usize
@@ -49,26 +27,4 @@ pub fn columns_between(net: &Net, units: &[u32], from: u64, to: u64) -> usize
         cells = cells.saturating_add(cells_between(net, *unit, from, to));
     }
     cells
-}
-
-/// Whether this is the last of some units.
-fn ends_with(units: &[u32], unit: u64) -> bool
-    ensures { result ≡ ends_with unit units.now }
-{
-    match units.get(units.len().saturating_sub(1)) {
-        None => false,
-        Some(last) => u64::from(*last) == unit,
-    }
-}
-
-/// The units of the first group whose last unit this is; none where there is no such group.
-pub fn group_ending(net: &Net, unit: u64) -> &[u32]
-    ensures { result.now ≡ group_ending (shape_of net.now) unit }
-{
-    for group in &net.groups {
-        if ends_with(&group.units, unit) {
-            return &group.units;
-        }
-    }
-    &[]
 }

@@ -11,16 +11,14 @@ ghost use Rattle.pr_cut_plan.specs.declared.faults.CutFault.{CutFault};
 ghost use Rattle.pr_cut_plan.specs.Plans.{IsPlanOf};
 ghost use Rattle.pr_lens_needs.specs.Needs.{AreParts, HasNeeds, HasNoParts, IsLastOfNone, IsNarrow, OfText};
 
-use crate::columns::{columns_of, refused};
-use crate::groups::{columns_between, group_ending};
-use crate::recurrences::{recurrence_of, width_at};
+use crate::columns::columns_of;
+use crate::groups::columns_between;
+use crate::recurrences::recurrence_of;
 use crate::smaller::{Asked, Narrower, smaller_widths};
 use crate::takes::{Group, Take, most_takes};
-use pr_compile_front::{Front, read_program};
-use pr_cut::cut;
-use pr_cut_plan::{CutFault, Plan, plan_of};
+use pr_cut_plan::{CutFault, Plan};
 use pr_flat::Flat;
-use pr_lens_fits::{first_unit, ready_of};
+use pr_lens_fits::{first_unit, group_ending, plan_and_net, ready_in, width_at};
 use pr_lens_source::Source;
 use pr_net::Net;
 use pr_width::Widths;
@@ -99,8 +97,7 @@ fn parts_on(
     ensures limit { (cap : Cap) → result ≡ Err (CutFault.Limit cap) →
         limit_passed columns (flat_net flat.now widths.now) ≡ Some cap }
 {
-    let plan = plan_of(alloc, flat, widths, columns)?;
-    let net = cut(alloc, flat, widths, columns)?;
+    let (plan, net) = plan_and_net(alloc, flat, widths, columns)?;
     let parts = parts_with(alloc, flat, widths, &plan, &net, unit)?;
     Ok(parts)
 }
@@ -119,19 +116,9 @@ fn parts_of(
         OfText narrowed text.now (λ plan net. AreParts plan net unit parts))) }
     ensures none { IfOk result (λ found. IfNone found (HasNoParts columns narrowed text.now unit)) }
 {
-    let front = match read_program(alloc, text) {
-        Ok(front) => front,
-        Err(fault) => {
-            refused(fault)?;
-            return Ok(None);
-        }
+    let Some((ready, news)) = ready_in(alloc, text, narrowed)? else {
+        return Ok(None);
     };
-    let Front {
-        scoped: _scoped,
-        flat,
-        widths,
-    } = front;
-    let (ready, news) = ready_of(alloc, flat, widths, narrowed)?;
     match parts_on(alloc, &ready, &news, columns, unit) {
         Ok(found) => Ok(found),
         Err(CutFault::Limit(_which)) => Ok(None),

@@ -1,6 +1,6 @@
 //! The recurrences of a net, and their last units.
 
-ghost use Rattle.std.specs.Prelude.{◌≡◌, ◌<◌, ◌↔◌, ℕ, true, IfNone, IfSome, IsTrue, slice_index, vec_len};
+ghost use Rattle.std.specs.Prelude.{◌≡◌, ◌<◌, ◌↔◌, ℕ, true, IfNone, IfSome, IsTrue, vec_len};
 ghost use Rattle.pr_flat.specs.Flats.{equations_of};
 ghost use Rattle.pr_cut_units.specs.Flats.{flat_plan};
 ghost use Rattle.pr_cut_plan.specs.Plans.{IsPlanOf};
@@ -9,13 +9,6 @@ ghost use Rattle.pr_lens_needs.specs.Recurrences.{IsLastOf, is_held, is_recurren
 use pr_cut_plan::Plan;
 use pr_flat::{Flat, Op};
 use pr_width::Widths;
-
-/// The width of an equation; 0 where there is none.
-pub fn width_at(widths: &Widths, number: usize) -> u8
-    ensures { result ≡ slice_index widths.now number }
-{
-    widths.of.get(number).copied().unwrap_or(0)
-}
 
 /// Whether the equation of this number is a recurrence.
 fn is_recurrence(flat: &Flat, rec: usize) -> bool

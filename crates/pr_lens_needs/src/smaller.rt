@@ -1,9 +1,11 @@
 //! How many columns a recurrence needs with smaller widths.
 
-ghost use Rattle.std.specs.Prelude.{◌≡◌, ◌≤◌, IfNone, IfOk, IfSome};
-ghost use Rattle.pr_lens_needs.specs.Smaller.{AreNarrower, AreNarrowerIn, HasNone, HasNoWidthToken, IsFirstOf, IsNarrower, IsWidthToken, next_width, with_number};
+ghost use Rattle.std.specs.Prelude.{◌≡◌, ◌≤◌, IfNone, IfOk, IfSome, IsFalse, IsTrue};
+ghost use Rattle.pr_lang.specs.declared.tokens.Kind.TheVariants.{Mark};
+ghost use Rattle.pr_lang.specs.declared.tokens.Symbol.TheVariants.{Colon};
+ghost use Rattle.pr_lens_needs.specs.Smaller.{AreNarrower, AreNarrowerIn, HasNone, HasNoOwnWidth, HasNoWidthToken, IsBehind, IsFirstOf, IsNarrower, IsOwnWidth, IsWidthToken, TakesNoWidth, TakesWidth, next_width, with_number};
 
-use crate::columns::columns_of;
+use crate::columns::{columns_of, declares_in};
 use pr_lang::{Keyword, Kind, Symbol};
 use pr_lens_source::Source;
 use pr_lens_text::put_number;
@@ -38,22 +40,6 @@ fn first_of(source: &Source, kind: Kind, from: usize, to: usize) -> Option<usize
         }
     }
     None
-}
-
-/// The token of the width that the first recurrence of an item declares.
-fn width_token(source: &Source, item: usize) -> Option<usize>
-    ensures some { IfSome result (IsWidthToken source.now.tokens.now source.now.spans.now item) }
-    ensures none { IfNone result (HasNoWidthToken source.now.tokens.now source.now.spans.now item) }
-{
-    let first = source.first(item);
-    let last = source.last(item);
-    let Some(rec) = first_of(source, Kind::Word(Keyword::Rec), first, last) else {
-        return None;
-    };
-    match first_of(source, Kind::Mark(Symbol::Colon), rec, last) {
-        None => None,
-        Some(colon) => Some(colon + 1),
-    }
 }
 
 /// The text with a number in the place of a token.
@@ -122,7 +108,75 @@ fn three_smaller(alloc: Global, asked: &Asked, token: usize) -> Result<Vec<Narro
     Ok(vec![in alloc; one, two, three]?)
 }
 
-/// How many columns a recurrence needs with the next three smaller widths, where this item declares one.
+/// The token behind the first colon from a `rec` on, before another token: where the recurrence declares a width, it is
+/// the token of this.
+fn token_behind(source: &Source, rec: usize, to: usize) -> Option<usize>
+    ensures some { IfSome result (IsBehind source.now.tokens.now rec to) }
+    ensures none { IfNone result (HasNone (Mark Colon) source.now.tokens.now rec to) }
+{
+    match first_of(source, Kind::Mark(Symbol::Colon), rec, to) {
+        None => None,
+        Some(colon) => Some(colon + 1),
+    }
+}
+
+/// Whether the recurrence declares the next smaller width, where this stands in the place of a token.
+fn takes_width(alloc: Global, asked: &Asked, token: usize) -> Result<bool, AllocError>
+    ensures yes { let a = asked.now in IfOk result (λ answer. IsTrue answer →
+        TakesWidth a.source.text.now a.source.tokens.now a.rec a.width token) }
+    ensures no { let a = asked.now in IfOk result (λ answer. IsFalse answer →
+        TakesNoWidth a.source.text.now a.source.tokens.now a.rec a.width token) }
+{
+    let next = next_width(asked.width);
+    let text = with_number(alloc, &asked.source, token, next)?;
+    declares_in(alloc, &text, asked.rec, next)
+}
+
+/// The token of the width behind this one, where this is the `rec` of the recurrence.
+fn own_width(
+    alloc: Global,
+    asked: &Asked,
+    rec: usize,
+    to: usize,
+) -> Result<Option<usize>, AllocError>
+    ensures some { let a = asked.now in IfOk result (λ found. IfSome found
+        (IsOwnWidth a.source.text.now a.source.tokens.now a.rec a.width to rec)) }
+    ensures none { let a = asked.now in IfOk result (λ found. IfNone found
+        (HasNoOwnWidth a.source.text.now a.source.tokens.now a.rec a.width to rec)) }
+{
+    if asked.source.kind(rec) != Kind::Word(Keyword::Rec) {
+        return Ok(None);
+    }
+    let Some(token) = token_behind(&asked.source, rec, to) else {
+        return Ok(None);
+    };
+    if takes_width(alloc, asked, token)? {
+        return Ok(Some(token));
+    }
+    Ok(None)
+}
+
+/// The token of the width of the recurrence among those from one token up to another.
+fn width_token(
+    alloc: Global,
+    asked: &Asked,
+    from: usize,
+    to: usize,
+) -> Result<Option<usize>, AllocError>
+    ensures some { let a = asked.now in IfOk result (λ found. IfSome found
+        (IsWidthToken a.source.text.now a.source.tokens.now a.rec a.width from to)) }
+    ensures none { let a = asked.now in IfOk result (λ found. IfNone found
+        (HasNoWidthToken a.source.text.now a.source.tokens.now a.rec a.width from to)) }
+{
+    for rec in from..to {
+        if let Some(token) = own_width(alloc, asked, rec, to)? {
+            return Ok(Some(token));
+        }
+    }
+    Ok(None)
+}
+
+/// How many columns a recurrence needs with the next three smaller widths, where a `rec` of this item declares its width.
 pub fn smaller_widths(
     alloc: Global,
     asked: &Asked,
@@ -132,7 +186,9 @@ pub fn smaller_widths(
     ensures { let a = asked.now in IfOk result (λ found. AreNarrowerIn a.columns a.narrowed a.source.text.now
         a.source.tokens.now a.source.spans.now item a.rec a.width found.items) }
 {
-    match width_token(&asked.source, item) {
+    let first = asked.source.first(item);
+    let last = asked.source.last(item);
+    match width_token(alloc, asked, first, last)? {
         None => Ok(Vec::new(alloc)),
         Some(token) => three_smaller(alloc, asked, token),
     }

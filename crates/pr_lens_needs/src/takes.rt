@@ -8,10 +8,9 @@ ghost use Rattle.pr_cut_plan.specs.Plans.{IsPlanOf};
 ghost use Rattle.pr_lens_needs.specs.Takes.{most_takes, place_for, take_of, takes_fewer, with_take};
 
 use crate::groups::columns_between;
-use crate::recurrences::width_at;
 use pr_cut_plan::Plan;
 use pr_flat::{Flat, Op};
-use pr_lens_fits::first_unit;
+use pr_lens_fits::{first_unit, width_at};
 use pr_net::Net;
 use pr_width::Widths;
 use std::alloc::{AllocError, Global};

@@ -1,5 +1,5 @@
 -- What is told of names that are introduced again, used before they are assigned, or stand for something else.
-use Rattle.std.specs.Prelude.{ℕ, ◌+◌, ◌-◌, ◌==◌, ◌&&◌, ◌||◌, Bool, true, false, not, List, ◌++◌, Option, None, Some, codes, length, nat_eq, option_map, if◌then◌else◌}
+use Rattle.std.specs.Prelude.{ℕ, ◌+◌, ◌-◌, ◌==◌, ◌&&◌, ◌||◌, Bool, true, false, not, List, ◌++◌, Option, None, Some, codes, length, nat_eq, nat_lt, option_map, unwrap_or, if◌then◌else◌}
 use Rattle.std.specs.Cmp.Lexicographic.{pointwise}
 use Rattle.pr_lang.specs.declared.tokens.Keyword.TheVariants as keyword
 use Rattle.pr_lang.specs.declared.tokens.Kind.{Kind}
@@ -7,7 +7,7 @@ use Rattle.pr_lang.specs.declared.tokens.Kind.TheVariants.{Word, Mark}
 use Rattle.pr_lang.specs.declared.tokens.Symbol.TheVariants.{OpenRound, At}
 use Rattle.pr_lang.specs.declared.tokens.Token.{Token}
 use Rattle.pr_lens_source.specs.declared.sources.Span.{Span}
-use Rattle.pr_lens_source.specs.Introduced.{is_fn}
+use Rattle.pr_lens_source.specs.Introduced.{is_fn, is_for}
 use Rattle.pr_lens_source.specs.Ranges.{first_between}
 use Rattle.pr_lens_source.specs.Spans.{item_of}
 use Rattle.pr_lens_source.specs.Tokens.{kind_of, bytes_of, first_of}
@@ -18,6 +18,8 @@ use Rattle.pr_lens_names.specs.Brackets.{square_around}
 use Rattle.pr_lens_names.specs.Instances.{first_turn_text, instance_text, is_assigned_at, is_same_instance, is_target, target_around}
 use Rattle.pr_lens_names.specs.Names.{introduction_of, introduction_text}
 use Rattle.pr_lens_names.specs.Pieces.{place_text, token_text}
+use Rattle.pr_lens_rules.specs.declared.crossed.Sought.{Sought}
+use Rattle.pr_lens_rules.specs.declared.crossed.Sought.TheVariants as sought
 
 -- ---- introduced again
 abbrev pub apart_text : Bool → List ℕ
@@ -86,13 +88,36 @@ is_recurrence_of text tokens spans token first =
 unfoldable pub recurrence_behind : List ℕ → List Token → List Span → ℕ → Option ℕ
 recurrence_behind text tokens spans token = first_between (is_recurrence_of text tokens spans token) token (length tokens)
 
-abbrev pub stands_in_rec : List Token → Option ℕ → Bool
-stands_in_rec tokens None = false
-stands_in_rec tokens (Some own) = is_rec (kind_of tokens (own - 1))
+abbrev pub is_by : Kind → Bool
+is_by (Word keyword.By) = true
+is_by _ = false
 
--- a token before `@` in a recurrence
-abbrev pub is_crossed : List Token → ℕ → Option ℕ → Bool
-is_crossed tokens token target = stands_in_rec tokens target && is_at (kind_of tokens (token + 1))
+-- a token is one of those that are looked for: a loop begins with it, a body stands behind it, or it is a name that is
+-- written as another one, with its index, in the statement with a target
+abbrev pub is_sought : List ℕ → List Token → Sought → ℕ → Bool
+is_sought text tokens sought.Loop at = is_for (kind_of tokens at)
+is_sought text tokens sought.Body at = is_by (kind_of tokens at)
+is_sought text tokens (sought.Read name target) at = is_same_instance text tokens name at && is_target (target_around tokens at) target
+
+-- the first such token from one up to another, and that other one where there is none
+unfoldable pub first_sought : List ℕ → List Token → Sought → ℕ → ℕ → ℕ
+first_sought text tokens what from to = unwrap_or (first_between (is_sought text tokens what) from to) to
+
+-- the body of the recurrence that begins with a token reads the instance at another one
+unfoldable pub body_reads : List ℕ → List Token → ℕ → ℕ → Bool
+body_reads text tokens first name =
+    nat_lt (first_sought text tokens (sought.Read name (first + 1)) (first_sought text tokens sought.Body first (length tokens)) (length tokens)) (length tokens)
+
+-- the recurrence with this target reads another one before `@`, and that one, which begins behind it with a token and in no
+-- other loop, assigns the instance that is read, and its body reads the target
+unfoldable pub is_mutual : List ℕ → List Token → ℕ → ℕ → ℕ → Bool
+is_mutual text tokens token own first =
+    is_rec (kind_of tokens (own - 1)) && (is_at (kind_of tokens (token + 1)) && (is_same_instance text tokens token (first + 1)
+    && (first_sought text tokens sought.Loop own first == first && body_reads text tokens first own)))
+
+abbrev pub is_crossed : List ℕ → List Token → ℕ → Option ℕ → ℕ → Bool
+is_crossed text tokens token None first = false
+is_crossed text tokens token (Some own) first = is_mutual text tokens token own first
 
 unfoldable pub halves_text : List ℕ
 halves_text = codes "A `rec` reads its own past and what stands before it. Two that read each other are one of two halves, as in `rec s:16 = 0 by cat(s@1{7..0} ^ a, s@1{15..8} ^ b);` with `s{15..8}` and `s{7..0}`.\n"
@@ -105,7 +130,7 @@ behind_text text tokens first =
 -- by whether a recurrence behind assigns the name
 abbrev pub unknown_by : List ℕ → List Token → ℕ → Option ℕ → Option ℕ → List ℕ
 unknown_by text tokens token target None = assign_text
-unknown_by text tokens token target (Some first) = if is_crossed tokens token target then halves_text else behind_text text tokens first
+unknown_by text tokens token target (Some first) = if is_crossed text tokens token target first then halves_text else behind_text text tokens first
 
 -- the statement itself assigns an instance of it, though it may be another one
 unfoldable pub instance_of_own_text : List ℕ

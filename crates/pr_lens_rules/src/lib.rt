@@ -1,6 +1,7 @@
 //! What is told of a broken rule of scope.
 #![tactic(auto)]
 
+mod crossed;
 mod rules;
 mod uses;
 

@@ -1,9 +1,10 @@
 //! Names that are introduced again, used before they are assigned, or stand for something else.
 
-ghost use Rattle.std.specs.Prelude.{◌≡◌, ◌<◌, ◌++◌, OnOk, length};
+ghost use Rattle.std.specs.Prelude.{◌≡◌, ◌<◌, ◌++◌, IfSome, OnOk, length};
 ghost use Rattle.pr_lens_source.specs.Introduced.{is_fn};
-ghost use Rattle.pr_lens_rules.specs.Uses.{again_behind, again_text, alone_text, another_kind_text, apart_text, assign_text, behind_text, called_text, early_behind, early_text, halves_text, instance_of_own_text, is_apart, is_at, is_crossed, is_outside, is_rec, is_recurrence_of, is_signed, is_table_index, is_table_sort, known_text, other_text, outside_text, own_text, recurrence_behind, sort_in, stands_in_rec, stream_text, unassigned_by, unassigned_text, unknown_by, unknown_text, usage_before, usage_text};
+ghost use Rattle.pr_lens_rules.specs.Uses.{again_behind, again_text, alone_text, another_kind_text, apart_text, assign_text, behind_text, called_text, early_behind, early_text, halves_text, instance_of_own_text, is_apart, is_outside, is_recurrence_of, is_signed, is_table_index, is_table_sort, known_text, other_text, outside_text, own_text, recurrence_behind, sort_in, stream_text, unassigned_by, unassigned_text, unknown_by, unknown_text, usage_before, usage_text};
 
+use crate::crossed::{is_crossed, is_rec};
 use pr_lang::{Keyword, Kind, Symbol};
 use pr_lens_names::{
     Introduction, Sort, introduction_of, is_assigned_at, is_same_instance, is_target, kind_behind,
@@ -143,19 +144,6 @@ fn assign_text() -> &'static str
     "Assign it in an item before this one, or see whether another name is meant.\n"
 }
 
-/// Whether a recurrence begins with this token.
-fn is_rec(kind: Kind) -> bool
-    ensures { result ≡ is_rec kind }
-{
-    matches!(kind, Kind::Word(Keyword::Rec))
-}
-
-fn is_at(kind: Kind) -> bool
-    ensures { result ≡ is_at kind }
-{
-    matches!(kind, Kind::Mark(Symbol::At))
-}
-
 /// Whether one of two tokens stands in a function, and the other outside.
 #[tactic(auto, unfolding(crate::specs::Uses::is_apart))]
 fn is_apart(source: &Source, one: usize, other: usize) -> bool
@@ -177,7 +165,8 @@ fn is_recurrence_of(source: &Source, token: usize, first: usize) -> bool
 
 /// The first recurrence of the name of a token behind it, where no function parts them.
 fn recurrence_behind(source: &Source, token: usize) -> Option<usize>
-    ensures { result ≡ recurrence_behind source.now.text.now source.now.tokens.now source.now.spans.now token }
+    ensures within { IfSome result (λ first. first < length source.now.tokens.now) }
+    ensures first { result ≡ recurrence_behind source.now.text.now source.now.tokens.now source.now.spans.now token }
 {
     for first in token..source.tokens.len() {
         if is_recurrence_of(source, token, first) {
@@ -185,23 +174,6 @@ fn recurrence_behind(source: &Source, token: usize) -> Option<usize>
         }
     }
     None
-}
-
-/// Whether a statement with this target is a recurrence.
-fn stands_in_rec(source: &Source, target: Option<usize>) -> bool
-    ensures { result ≡ stands_in_rec source.now.tokens.now target }
-{
-    match target {
-        None => false,
-        Some(own) => is_rec(source.kind(own.saturating_sub(1))),
-    }
-}
-
-/// Whether a token stands before `@` in a recurrence, which has this target.
-fn is_crossed(source: &Source, token: usize, target: Option<usize>) -> bool
-    ensures { result ≡ is_crossed source.now.tokens.now token target }
-{
-    stands_in_rec(source, target) && is_at(kind_behind(source, token, 1))
 }
 
 /// What to do where two recurrences read each other.
@@ -234,6 +206,7 @@ fn tell_unknown_by(
     target: Option<usize>,
     behind: Option<usize>,
 ) -> Result<(), AllocError>
+    requires { IfSome behind (λ first. first < length source.now.tokens.now) }
     ensures { OnOk result (message.new.items ≡ message.old.items
         ++ unknown_by source.now.text.now source.now.tokens.now token target behind) }
 {
@@ -242,7 +215,7 @@ fn tell_unknown_by(
             return put(message, assign_text());
         }
         Some(first) => {
-            if is_crossed(source, token, target) {
+            if is_crossed(source, token, target, first) {
                 return put(message, halves_text());
             }
             return tell_behind(message, source, first);

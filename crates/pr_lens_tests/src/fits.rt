@@ -162,8 +162,9 @@ fn what_a_recurrence_needs(rt: HostRuntime) -> Result<(), AllocError> {
     check_calls(&rt, rt.alloc(), "", SUMS)
 }
 
-/// Recurrences in a loop, and in a function, where no width is looked for. An equality takes a column for each byte, one
-/// for the carry from four bytes to the next, and one for what it gives. Of eleven operators ten are told.
+/// Recurrences in a loop, where the width of the second `rec` is looked for too, and in a function, where none is. An
+/// equality takes a column for each byte, one for the carry from four bytes to the next, and one for what it gives. Of
+/// eleven operators ten are told.
 const PARTS: &str = "\
 $ pipelens why p
 input x:64;
@@ -171,6 +172,17 @@ for i in 0..2 { rec s[i]:64 = 1 by (s[i]@1 ^ x) & s[i]@1; }
 output y = s[0] ^ s[1];
 = 5
 p:2:1: no fit: unit 3
+...- what is kept, 64 bits: 8 columns
+With 56 bits it takes 22 columns.
+With 48 bits it takes 20 columns.
+With 40 bits it takes 18 columns.
+...
+$ pipelens why p
+input x:64;
+for i in 0..2 { rec c[i]:8 = 1 by c[i]@1 ^ c[i]@1; rec s[i]:64 = 1 by (s[i]@1 ^ x) & s[i]@1; }
+output y = s[0] ^ s[1] ^ c[0] ^ c[1];
+= 5
+p:2:1: no fit: unit 5
 ...- what is kept, 64 bits: 8 columns
 With 56 bits it takes 22 columns.
 With 48 bits it takes 20 columns.

@@ -86,6 +86,23 @@ p:2:16: scope: rule 2 item 1
 ...Two that read each other are one of two halves...
 $ pipelens why p
 input x:8;
+rec a:8 = 0 by b@1 ^ x;
+rec b:8 = 0 by b@1 + x;
+output y = a;
+= 3
+p:2:16: scope: rule 2 item 1
+...The `rec` at line 3 column 1 assigns this name. Move this behind it...
+$ pipelens why p
+input x:8;
+rec a[0]:8 = 0 by b@1 ^ x;
+let a[1] = x;
+rec b:8 = 0 by a[1];
+output y = a[0];
+= 3
+p:2:19: scope: rule 2 item 1
+...The `rec` at line 4 column 1 assigns this name. Move this behind it...
+$ pipelens why p
+input x:8;
 let t[0] = x;
 output y = t[1];
 = 3

@@ -1,7 +1,7 @@
 use Rattle.std.proofs.Common.{get_or, refl}
 use Rattle.pr_net.specs.Whole.{shape_of}
+use Rattle.pr_lens_fits.proofs.UnfitLemmas.{sum_more}
 use Rattle.pr_lens_needs.specs.Takes.{cells_between}
-use Rattle.pr_lens_needs.proofs.NeedLemmas.{sum_more}
 use Rattle.pr_lens_needs.proofs.groups.columns_between.Goals as goal
 
 pub loop-unit-preserved : goal.loop-unit-preserved

@@ -1,7 +1,7 @@
 use Rattle.std.proofs.Common.{get_or, refl}
 use Rattle.pr_net.specs.Whole.{shape_of}
 use Rattle.pr_lens_fits.proofs.UnfitLemmas.{count_more}
-use Rattle.pr_lens_fits.proofs.groups.cells_in.Goals as goal
+use Rattle.pr_lens_fits.proofs.cells.cells_in.Goals as goal
 
 pub loop-unit-preserved : goal.loop-unit-preserved
 loop-unit-preserved c =
