@@ -1,5 +1,5 @@
 -- How many columns a recurrence needs with smaller widths.
-use Rattle.std.specs.Prelude.{ℕ, ◌≡◌, ◌≢◌, ◌<◌, ◌≤◌, ◌+◌, ◌-◌, ◌*◌, ◌/◌, Bool, if◌then◌else◌, nat_lt, Option, Some, List, [], ◌∷◌, ◌++◌, decimal, drop}
+use Rattle.std.specs.Prelude.{ℕ, ◌≡◌, ◌≢◌, ◌<◌, ◌≤◌, ◌+◌, ◌-◌, ◌*◌, ◌/◌, Bool, if◌then◌else◌, nat_lt, Option, Some, List, [], ◌∷◌, ◌++◌, decimal, drop, min}
 use Rattle.pr_lang.specs.declared.tokens.Keyword.TheVariants.{Rec}
 use Rattle.pr_lang.specs.declared.tokens.Kind.{Kind}
 use Rattle.pr_lang.specs.declared.tokens.Kind.TheVariants.{Mark, Word}
@@ -89,7 +89,11 @@ pub record AreNarrower (columns : ℕ) (narrowed : Bool) (text : List ℕ) (toke
   pub third : IsNarrower columns narrowed text tokens token rec (next_width (next_width (next_width width))) three
   pub are : found ≡ one ∷ two ∷ three ∷ []
 
--- in the place of the width of the recurrence in its item; where no `rec` of the item declares it, nothing is told
+-- up to which token an item is searched: its first 512
+abbrev pub searched_to : List Token → List Span → ℕ → ℕ
+searched_to tokens spans item = first_of tokens spans item + min (last_of tokens spans item - first_of tokens spans item) 512
+
+-- in the place of the width of the recurrence in its item; where no `rec` that is searched declares it, nothing is told
 pub data AreNarrowerIn (columns : ℕ) (narrowed : Bool) (text : List ℕ) (tokens : List Token) (spans : List Span) (item rec width : ℕ) (found : List Narrower) : Type 0 where
-  Told : (token : ℕ) → IsWidthToken text tokens rec width (first_of tokens spans item) (last_of tokens spans item) token → AreNarrower columns narrowed text tokens token rec width found → AreNarrowerIn columns narrowed text tokens spans item rec width found
-  NoToken : HasNoWidthToken text tokens rec width (first_of tokens spans item) (last_of tokens spans item) → found ≡ [] → AreNarrowerIn columns narrowed text tokens spans item rec width found
+  Told : (token : ℕ) → IsWidthToken text tokens rec width (first_of tokens spans item) (searched_to tokens spans item) token → AreNarrower columns narrowed text tokens token rec width found → AreNarrowerIn columns narrowed text tokens spans item rec width found
+  NoToken : HasNoWidthToken text tokens rec width (first_of tokens spans item) (searched_to tokens spans item) → found ≡ [] → AreNarrowerIn columns narrowed text tokens spans item rec width found

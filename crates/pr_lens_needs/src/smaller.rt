@@ -3,13 +3,16 @@
 ghost use Rattle.std.specs.Prelude.{◌≡◌, ◌≤◌, IfNone, IfOk, IfSome, IsFalse, IsTrue};
 ghost use Rattle.pr_lang.specs.declared.tokens.Kind.TheVariants.{Mark};
 ghost use Rattle.pr_lang.specs.declared.tokens.Symbol.TheVariants.{Colon};
-ghost use Rattle.pr_lens_needs.specs.Smaller.{AreNarrower, AreNarrowerIn, HasNone, HasNoOwnWidth, HasNoWidthToken, IsBehind, IsFirstOf, IsNarrower, IsOwnWidth, IsWidthToken, TakesNoWidth, TakesWidth, next_width, with_number};
+ghost use Rattle.pr_lens_needs.specs.Smaller.{AreNarrower, AreNarrowerIn, HasNone, HasNoOwnWidth, HasNoWidthToken, IsBehind, IsFirstOf, IsNarrower, IsOwnWidth, IsWidthToken, TakesNoWidth, TakesWidth, next_width, searched_to, with_number};
 
 use crate::columns::{columns_of, declares_in};
 use pr_lang::{Keyword, Kind, Symbol};
 use pr_lens_source::Source;
 use pr_lens_text::put_number;
 use std::alloc::{AllocError, Global};
+
+/// How many tokens of an item are searched. Each `rec` among them costs a pass over the text.
+const MOST_SEARCHED: usize = 512;
 
 /// A width of a recurrence, and how many columns it needs with it, where it can have it.
 #[derive(Clone, Copy)]
@@ -176,7 +179,17 @@ fn width_token(
     Ok(None)
 }
 
-/// How many columns a recurrence needs with the next three smaller widths, where a `rec` of this item declares its width.
+/// Up to which token an item is searched for the `rec` of its recurrence.
+fn searched_to(source: &Source, item: usize) -> usize
+    ensures { result ≡ searched_to source.now.tokens.now source.now.spans.now item }
+{
+    let first = source.first(item);
+    let last = source.last(item);
+    first + last.saturating_sub(first).min(MOST_SEARCHED)
+}
+
+/// How many columns a recurrence needs with the next three smaller widths, where a `rec` among the first tokens of this item
+/// declares its width.
 pub fn smaller_widths(
     alloc: Global,
     asked: &Asked,
@@ -187,8 +200,8 @@ pub fn smaller_widths(
         a.source.tokens.now a.source.spans.now item a.rec a.width found.items) }
 {
     let first = asked.source.first(item);
-    let last = asked.source.last(item);
-    match width_token(alloc, asked, first, last)? {
+    let to = searched_to(&asked.source, item);
+    match width_token(alloc, asked, first, to)? {
         None => Ok(Vec::new(alloc)),
         Some(token) => three_smaller(alloc, asked, token),
     }
