@@ -13,10 +13,11 @@ use Rattle.pr_lens_rtl_text.specs.Notes.{AreBare}
 use Rattle.pr_lens_notes.specs.Labels.{label_of}
 use Rattle.pr_lens_notes.specs.Tables.{owner_of}
 
--- a label for each stream, and at the place of each column the owner of the unit that stands there
+-- a label for each stream, and at the place of each column of each stage the owner of the unit that stands there
 pub record AreNotesFor (N : ℕ) (placement : PlacementShape) (origins : Origins) (notes : Notes) : Type 0 where
   pub labels : map (λ (label : Vec ℕ). label.items) notes.labels.items ≡ map label_of origins.streams.items
   pub columns : notes.columns ≡ N
+  pub long : length notes.owners.items ≡ placement.stages * N
   pub owned : (stage col : ℕ) → stage < placement.stages → col < N
       → slice_index_or notes.owners.items (stage * N + col) None ≡ owner_of placement origins.owners.items (length placement.homes) stage col
 
