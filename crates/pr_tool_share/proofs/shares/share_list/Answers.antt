@@ -116,21 +116,18 @@ returns-in-Err-clause-once g c = λ q once. order_one (g.S.Shelf.reach c.args.sh
 
 pub returns-in-Err-make_items-clause-once : goal.returns-in-Err-make_items-clause-once
 returns-in-Err-make_items-clause-once g c = λ q once.
-    let programs = λ e. subst (λ (xs : List Named). IsNoProgram (map entry_in xs) q) (sym c.deref.ensures.value) (once.no_program e _ c.in-Ok.ensures.list) in
     let one = subst (λ (xs : List Named). IsOneProgram (map entry_in xs) q) (sym c.deref.ensures.value) (once.one_program _ c.in-Ok.ensures.list) in
-    order_after (g.S.Shelf.reach c.args.shelf.now) (g.S.Shelf.reach c.load_list.new.shelf) (g.S.Shelf.reach c.make_items.new.shelf) _ c.args.sharing.now.list.now q c.load_list.ensures.once c.load_list.ensures.others (λ e. c.make_items.ensures.others q (programs e)) (c.make_items.ensures.once q one)
+    order_after (g.S.Shelf.reach c.args.shelf.now) (g.S.Shelf.reach c.load_list.new.shelf) (g.S.Shelf.reach c.make_items.new.shelf) _ c.args.sharing.now.list.now q c.load_list.ensures.once c.load_list.ensures.others (λ e. c.make_items.ensures.others q (subst (λ (xs : List Named). IsNoProgram (map entry_in xs) q) (sym c.deref.ensures.value) (once.no_program e _ c.in-Ok.ensures.list))) (c.make_items.ensures.once q one)
 
 pub returns-clause-once : goal.returns-clause-once
 returns-clause-once g c = λ q once.
-    let programs = λ e. subst (λ (xs : List Named). IsNoProgram (map entry_in xs) q) (sym c.deref.ensures.value) (once.no_program e _ c.in-Ok.ensures.list) in
     let one = subst (λ (xs : List Named). IsOneProgram (map entry_in xs) q) (sym c.deref.ensures.value) (once.one_program _ c.in-Ok.ensures.list) in
-    order_after (g.S.Shelf.reach c.args.shelf.now) (g.S.Shelf.reach c.load_list.new.shelf) (g.S.Shelf.reach c.make_items.new.shelf) _ c.args.sharing.now.list.now q c.load_list.ensures.once c.load_list.ensures.others (λ e. c.make_items.ensures.others q (programs e)) (c.make_items.ensures.once q one)
+    order_after (g.S.Shelf.reach c.args.shelf.now) (g.S.Shelf.reach c.load_list.new.shelf) (g.S.Shelf.reach c.make_items.new.shelf) _ c.args.sharing.now.list.now q c.load_list.ensures.once c.load_list.ensures.others (λ e. c.make_items.ensures.others q (subst (λ (xs : List Named). IsNoProgram (map entry_in xs) q) (sym c.deref.ensures.value) (once.no_program e _ c.in-Ok.ensures.list))) (c.make_items.ensures.once q one)
 
 pub returns-in-Ok-make_place-clause-once : goal.returns-in-Ok-make_place-clause-once
 returns-in-Ok-make_place-clause-once g c = λ q once.
-    let programs = λ e. subst (λ (xs : List Named). IsNoProgram (map entry_in xs) q) (sym c.deref.ensures.value) (once.no_program e _ c.in-Ok.ensures.list) in
     let one = subst (λ (xs : List Named). IsOneProgram (map entry_in xs) q) (sym c.deref.ensures.value) (once.one_program _ c.in-Ok.ensures.list) in
     let ready = subst (λ (xs : List Named). AreItemsOf (g.S.Shelf.told c.load_list.new.shelf) (map entry_in xs) c.in-Ok-make_items.items.items) c.deref.ensures.value c.in-Ok-make_items.ensures.ready in
     let names = items_unnamed _ (map entry_in c.in-Ok.entries.items) c.in-Ok-make_items.items.items q ready (once.no_samples _ c.in-Ok.ensures.list) in
     let last = c.take_turns.ensures.others q (subst (λ (xs : List Item). IsNoneOf (names_of xs) q) (sym c.deref_mut.ensures.value) names) in
-    subst (λ (r : Option ℕ). IsInOrder (g.S.Shelf.reach c.args.shelf.now q) r) (sym last) (order_after (g.S.Shelf.reach c.args.shelf.now) (g.S.Shelf.reach c.load_list.new.shelf) (g.S.Shelf.reach c.make_items.new.shelf) _ c.args.sharing.now.list.now q c.load_list.ensures.once c.load_list.ensures.others (λ e. c.make_items.ensures.others q (programs e)) (c.make_items.ensures.once q one))
+    subst (λ (r : Option ℕ). IsInOrder (g.S.Shelf.reach c.args.shelf.now q) r) (sym last) (order_after (g.S.Shelf.reach c.args.shelf.now) (g.S.Shelf.reach c.load_list.new.shelf) (g.S.Shelf.reach c.make_items.new.shelf) _ c.args.sharing.now.list.now q c.load_list.ensures.once c.load_list.ensures.others (λ e. c.make_items.ensures.others q (subst (λ (xs : List Named). IsNoProgram (map entry_in xs) q) (sym c.deref.ensures.value) (once.no_program e _ c.in-Ok.ensures.list))) (c.make_items.ensures.once q one))
