@@ -1,5 +1,5 @@
 -- What the words of a command line ask for, which files are read for it, and its limits.
-use Rattle.std.specs.Prelude.{◌≢◌, ℕ, List, Option, Some, None, map, string_bytes, String, ⊤}
+use Rattle.std.specs.Prelude.{◌≡◌, ◌≢◌, ℕ, List, Option, Some, None, map, string_bytes, String, ⊤}
 use Rattle.std.specs.declared.alloc.Global.{Global}
 use Rattle.pr_base.specs.declared.caps.Cap.{Cap}
 use Rattle.pr_base.specs.declared.fabrics.Fabric.{Fabric}
@@ -7,10 +7,10 @@ use Rattle.pr_base.specs.Limits.{cap_number}
 use Rattle.pr_base.specs.Limits.{most_evaluated_bytes}
 use Rattle.pr_edge.specs.Files.{Told}
 use Rattle.pr_tool_words.specs.Lawful.{Order, Task, Eval, Share, lawful_words}
-use Rattle.pr_tool_modes.specs.Jobs.{IsNeither}
+use Rattle.pr_tool_modes.specs.Jobs.{IsNeither, IsNamedOnce, IsResumedOnce}
 use Rattle.pr_tool_modes.specs.Resumptions.{IsNoFile}
 use Rattle.pr_tool_modes.specs.Sources.{name_in}
-use Rattle.pr_tool_share.specs.Lists.{IsUnlisted}
+use Rattle.pr_tool_share.specs.Lists.{IsListedOnce, IsUnlisted}
 use Rattle.pr_tool.specs.declared.notes.Bounds.{Bounds}
 use Rattle.pr_tool.specs.Plans.{Plan, Texts, Runs, Folds, Moves, Extends, Evaluates, Generates, Shares, plan_of}
 
@@ -36,6 +36,21 @@ IsOtherFile told (Shares list stripes) q = IsUnlisted told list q
 abbrev pub IsOther : Told → Asked → List ℕ → Type 0
 IsOther told None q = ⊤
 IsOther told (Some order) q = IsOtherFile told (plan_of order) q
+
+-- at most one file that is read for a plan is of this name, and that one is not the samples of a listed program
+abbrev pub IsOnceFile : Told → Plan → List ℕ → Type 0
+IsOnceFile told (Texts form source) q = ⊤
+IsOnceFile told (Runs j) q = IsNamedOnce j q
+IsOnceFile told (Folds j) q = IsNamedOnce j q
+IsOnceFile told (Moves r) q = IsResumedOnce r q
+IsOnceFile told (Extends r) q = IsResumedOnce r q
+IsOnceFile told (Evaluates first second) q = q ≡ first → q ≢ second
+IsOnceFile told (Generates g) q = ⊤
+IsOnceFile told (Shares list stripes) q = IsListedOnce told list q
+
+abbrev pub IsOnce : Told → Asked → List ℕ → Type 0
+IsOnce told None q = ⊤
+IsOnce told (Some order) q = IsOnceFile told (plan_of order) q
 
 -- ---- limits
 -- the bytes of a file of samples

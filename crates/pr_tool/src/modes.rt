@@ -2,8 +2,9 @@
 ghost use Rattle.std.specs.Prelude.{◌≡◌, ◌≤◌, ℕ, List};
 ghost use Rattle.pr_run.specs.Setting.{view};
 ghost use Rattle.pr_tool_modes.specs.Calls.{call};
+ghost use Rattle.pr_tool_modes.specs.Files.{IsInOrder};
 ghost use Rattle.pr_tool.specs.Plans.{plan_in};
-ghost use Rattle.pr_tool.specs.Words.{IsOtherFile};
+ghost use Rattle.pr_tool.specs.Words.{IsOnceFile, IsOtherFile};
 ghost use Rattle.pr_tool.specs.Calls.{IsDone};
 
 use crate::plans::Plan;
@@ -25,6 +26,8 @@ pub fn carry_out<S: Shelf, K: Sink>(
         (view (S.told shelf.old) (S.reach shelf.old) (S.faults shelf.old))
         (view (S.told shelf.new) (S.reach shelf.new) (S.faults shelf.new))
         (K.told out.old) (K.told out.new) (K.faults out.old) (K.faults out.new)) bench.old bench.new result }
+    ensures once { (q : List ℕ) → IsOnceFile (S.told shelf.old) (plan_in plan.now) q
+        → IsInOrder (S.reach shelf.old q) (S.reach shelf.new q) }
     ensures other_files { (q : List ℕ) → IsOtherFile (S.told shelf.old) (plan_in plan.now) q
         → S.reach shelf.new q ≡ S.reach shelf.old q }
     ensures told { S.told shelf.new ≡ S.told shelf.old }

@@ -6,6 +6,7 @@ ghost use Rattle.pr_tool_words.specs.Lawful.{Order};
 ghost use Rattle.pr_tool_words.specs.Orders.{order_of};
 ghost use Rattle.pr_tool_answers.specs.Owed.{IsOwed};
 ghost use Rattle.pr_tool_modes.specs.Calls.{call};
+ghost use Rattle.pr_tool_modes.specs.Files.{IsInOrder};
 ghost use Rattle.pr_tool_modes.specs.Jobs.{Job};
 ghost use Rattle.pr_tool_modes.specs.Sources.{Text};
 ghost use Rattle.pr_tool_modes.specs.Lines.{AreProgramLines};
@@ -13,7 +14,7 @@ ghost use Rattle.pr_tool_modes.specs.declared.targets.Target.{Target};
 ghost use Rattle.pr_tool.specs.Notes.{note_of};
 ghost use Rattle.pr_tool.specs.Noted.{GainsNote};
 ghost use Rattle.pr_tool.specs.Plans.{Runs, plan_of};
-ghost use Rattle.pr_tool.specs.Words.{asked_by, bounds_for, bounds_in, fabric_for, IsOther};
+ghost use Rattle.pr_tool.specs.Words.{asked_by, bounds_for, bounds_in, fabric_for, IsOnce, IsOther};
 ghost use Rattle.pr_tool.specs.Calls.{IsUnchanged, IsCalled, IsVerdict, IsToldVerdict, HasGained};
 
 use crate::modes::carry_out;
@@ -97,6 +98,10 @@ pub fn piperench<S: Shelf, K: Sink, E: Sink>(
     ensures write_fault { result ≡ Answer.WriteFault → Rose (K.faults out.old) (K.faults out.new) }
     ensures memory { result ≡ Answer.Memory → (K.told out.new ≡ K.told out.old) × (bench.new ≡ bench.old) }
 
+    // A file that is named once is read in order, and no byte of it twice, so that a pipe serves as well.
+    ensures once { (q : List ℕ) → IsOnce (S.told shelf.old) (asked_by words.now) q
+        → IsInOrder (S.reach shelf.old q) (S.reach shelf.new q) }
+
     // Only the files of the plan are read, and those that a list of programs names.
     ensures other_files { (q : List ℕ) → IsOther (S.told shelf.old) (asked_by words.now) q
         → S.reach shelf.new q ≡ S.reach shelf.old q }
@@ -151,6 +156,8 @@ fn reply_to<S: Shelf, K: Sink>(
         (view (S.told shelf.new) (S.reach shelf.new) (S.faults shelf.new))
         (K.told out.old) (K.told out.new) (K.faults out.old) (K.faults out.new)) bench.old bench.new result.answer }
     ensures bounds { note_of result.bounds result.answer ≡ note_of (bounds_in (asked_by words.now)) result.answer }
+    ensures once { (q : List ℕ) → IsOnce (S.told shelf.old) (asked_by words.now) q
+        → IsInOrder (S.reach shelf.old q) (S.reach shelf.new q) }
     ensures other_files { (q : List ℕ) → IsOther (S.told shelf.old) (asked_by words.now) q
         → S.reach shelf.new q ≡ S.reach shelf.old q }
     ensures told { S.told shelf.new ≡ S.told shelf.old }

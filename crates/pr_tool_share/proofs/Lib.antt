@@ -1,5 +1,6 @@
 pub mod ListVerdicts
 pub mod ItemLemmas
+pub mod OrderedItems
 pub mod EndLemmas
 pub mod LineLemmas
 pub mod ShareVerdicts

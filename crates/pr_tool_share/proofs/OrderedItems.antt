@@ -17,7 +17,7 @@ pub order_item : (most : ℕ) (before mid now : List ℕ → Option ℕ) (entrie
     → IsReadOnce most (mid entry.program) (now entry.program) → ((p : List ℕ) → p ≢ entry.program → now p ≡ mid p) → IsOneProgram entries q → IsInOrder (before q) (now q)
 order_item most before mid now entries number entry q here unread order once others one = elim (same_name q entry.program) [
   | inl e ↦ (let untouched : mid q ≡ before q = unread (λ i x lt is other. let same : i ≡ number = one i number x entry is here other e in absurd (omega (arith, lt, same))) in
-  let read = subst (λ (p : List ℕ). IsInOrder (mid p) (now p)) (sym e) (order_once most (mid entry.program) (now entry.program) once) in
-  λ none. read (untouched ∙ none))
+      let read = subst (λ (p : List ℕ). IsInOrder (mid p) (now p)) (sym e) (order_once most (mid entry.program) (now entry.program) once) in
+      λ none. read (untouched ∙ none))
   | inr ne ↦ λ none. subst (λ (r : Option ℕ). IsSome r) (sym (others q ne)) (order none)
 ]

@@ -91,6 +91,17 @@ IsNoProgram entries q = (i : ℕ) (entry : Entry) → slice_get entries i ≡ So
 abbrev pub IsNoSamples : List Entry → List ℕ → Type 0
 IsNoSamples entries q = (i : ℕ) (entry : Entry) → slice_get entries i ≡ Some entry → q ≢ entry.samples
 
+-- at most one of these programs is in the file of this name
+abbrev pub IsOneProgram : List Entry → List ℕ → Type 0
+IsOneProgram entries q = (i k : ℕ) (a b : Entry) → slice_get entries i ≡ Some a → slice_get entries k ≡ Some b
+    → q ≡ a.program → q ≡ b.program → i ≡ k
+
+-- this is the file of a list or of one program of the list at most, and of no samples
+pub record IsListedOnce (told : Told) (list q : List ℕ) : Type 0 where
+  pub no_program : q ≡ list → (entries : List Entry) → HasList told list entries → IsNoProgram entries q
+  pub one_program : (entries : List Entry) → HasList told list entries → IsOneProgram entries q
+  pub no_samples : (entries : List Entry) → HasList told list entries → IsNoSamples entries q
+
 -- this is neither the file of a list, nor one that the list names
 pub record IsUnlisted (told : Told) (list q : List ℕ) : Type 0 where
   pub other : q ≢ list

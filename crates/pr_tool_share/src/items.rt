@@ -1,10 +1,12 @@
 //! The programs of a list, made ready for their turns.
-ghost use Rattle.std.specs.Prelude.{◌≡◌, ◌≢◌, ◌≤◌, ◌⊎◌, ℕ, List, IfOk, OnOk, IfErr, length, map};
+ghost use Rattle.std.specs.Prelude.{◌≡◌, ◌≢◌, ◌≤◌, ◌+◌, ◌⊎◌, ℕ, List, IfOk, OnOk, IfErr, length, map};
+ghost use Rattle.pr_base.specs.Limits.{most_program_bytes};
+ghost use Rattle.pr_edge.specs.Files.{IsReadOnce};
 ghost use Rattle.pr_conf.specs.Configuration.{shape_of};
 ghost use Rattle.pr_share_list.specs.List.{entry_in};
-ghost use Rattle.pr_tool_modes.specs.Files.{ShowsFault};
+ghost use Rattle.pr_tool_modes.specs.Files.{IsInOrder, ShowsFault};
 ghost use Rattle.pr_tool_modes.specs.Sources.{Gives, IsSourceRefusal};
-ghost use Rattle.pr_tool_share.specs.Lists.{source_in, IsProgramRefusal, IsNoProgram};
+ghost use Rattle.pr_tool_share.specs.Lists.{source_in, IsProgramRefusal, IsNoProgram, IsOneProgram};
 ghost use Rattle.pr_tool_share.specs.Items.{IsParkedFor, IsItemOf, AreItemsOf};
 
 use crate::parts::part_answer;
@@ -32,6 +34,8 @@ fn compile<S: Shelf>(
     ensures steady { OnOk result (S.faults shelf.new ≡ S.faults shelf.old) }
     ensures shown { IfErr result (ShowsFault (S.faults shelf.old) (S.faults shelf.new)) }
     ensures same { S.told shelf.new ≡ S.told shelf.old }
+    ensures once { IsReadOnce (most_program_bytes + 4096)
+        (S.reach shelf.old (entry_in entry.now).program) (S.reach shelf.new (entry_in entry.now).program) }
     ensures others { (q : List ℕ) → q ≢ (entry_in entry.now).program → S.reach shelf.new q ≡ S.reach shelf.old q }
 {
     let compiled = compile_on::<16, 8, S>(alloc, shelf, &entry.program, false)?;
@@ -69,6 +73,8 @@ fn make_item<S: Shelf>(
     ensures steady { OnOk result (S.faults shelf.new ≡ S.faults shelf.old) }
     ensures shown { IfErr result (ShowsFault (S.faults shelf.old) (S.faults shelf.new)) }
     ensures same { S.told shelf.new ≡ S.told shelf.old }
+    ensures once { IsReadOnce (most_program_bytes + 4096)
+        (S.reach shelf.old (entry_in entry.now).program) (S.reach shelf.new (entry_in entry.now).program) }
     ensures others { (q : List ℕ) → q ≢ (entry_in entry.now).program → S.reach shelf.new q ≡ S.reach shelf.old q }
 {
     let conf = compile(alloc, shelf, entry)?;
@@ -91,6 +97,8 @@ pub(crate) fn make_items<S: Shelf>(
     ensures steady { OnOk result (S.faults shelf.new ≡ S.faults shelf.old) }
     ensures shown { IfErr result (ShowsFault (S.faults shelf.old) (S.faults shelf.new)) }
     ensures same { S.told shelf.new ≡ S.told shelf.old }
+    ensures once { (q : List ℕ) → IsOneProgram (map entry_in entries.now) q
+        → IsInOrder (S.reach shelf.old q) (S.reach shelf.new q) }
     ensures others { (q : List ℕ) → IsNoProgram (map entry_in entries.now) q
         → S.reach shelf.new q ≡ S.reach shelf.old q }
 {

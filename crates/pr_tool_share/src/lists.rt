@@ -1,5 +1,7 @@
 //! Lists of programs that are read from files.
-ghost use Rattle.std.specs.Prelude.{◌≡◌, ◌≢◌, ◌≤◌, ℕ, List, IfOk, OnOk, IfErr, map};
+ghost use Rattle.std.specs.Prelude.{◌≡◌, ◌≢◌, ◌≤◌, ◌+◌, ℕ, List, IfOk, OnOk, IfErr, map};
+ghost use Rattle.pr_base.specs.Limits.{most_list_bytes};
+ghost use Rattle.pr_edge.specs.Files.{IsReadOnce};
 ghost use Rattle.pr_share_list.specs.List.{entry_in};
 ghost use Rattle.pr_tool_modes.specs.Files.{ShowsFault};
 ghost use Rattle.pr_tool_share.specs.Lists.{HasList, IsListRefusal};
@@ -24,6 +26,7 @@ pub(crate) fn load_list<S: Shelf>(
     ensures steady { OnOk result (S.faults shelf.new ≡ S.faults shelf.old) }
     ensures shown { IfErr result (ShowsFault (S.faults shelf.old) (S.faults shelf.new)) }
     ensures same { S.told shelf.new ≡ S.told shelf.old }
+    ensures once { IsReadOnce (most_list_bytes + 4096) (S.reach shelf.old list.now) (S.reach shelf.new list.now) }
     ensures others { (q : List ℕ) → q ≢ list.now → S.reach shelf.new q ≡ S.reach shelf.old q }
 {
     let text = read_file(alloc, shelf, list, Cap::MOST_LIST_BYTES, Cap::ListBytes)?;

@@ -5,8 +5,9 @@ ghost use Rattle.pr_run.specs.Setting.{view};
 ghost use Rattle.pr_machine.specs.Stands.{bare_stripes};
 ghost use Rattle.pr_share.specs.Items.{World, world, AreReady, names_of, IsNoneOf};
 ghost use Rattle.pr_tool_modes.specs.Calls.{call};
+ghost use Rattle.pr_tool_modes.specs.Files.{IsInOrder};
 ghost use Rattle.pr_tool_share.specs.Items.{Item};
-ghost use Rattle.pr_tool_share.specs.Lists.{IsUnlisted};
+ghost use Rattle.pr_tool_share.specs.Lists.{IsListedOnce, IsUnlisted};
 ghost use Rattle.pr_tool_share.specs.Shares.{HaveTurned, IsSharedBy};
 
 use crate::ends::answer_of_all;
@@ -93,6 +94,12 @@ pub fn share_list<S: Shelf, K: Sink>(
         (K.told out.old) (K.told out.new) (K.faults out.old) (K.faults out.new)) result }
 
     ensures told { S.told shelf.new ≡ S.told shelf.old }
+
+    // The list, and each program of it, is read in order, and no byte of it twice. Its name is named once, and no samples
+    // have it.
+    ensures once { (q : List ℕ) → IsListedOnce (S.told shelf.old) sharing.now.list.now q
+        → IsInOrder (S.reach shelf.old q) (S.reach shelf.new q) }
+
     // Only the list is read, and the files that it names.
     ensures others { (q : List ℕ) → IsUnlisted (S.told shelf.old) sharing.now.list.now q
         → S.reach shelf.new q ≡ S.reach shelf.old q }

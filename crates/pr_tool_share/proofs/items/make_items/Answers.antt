@@ -10,6 +10,7 @@ use Rattle.pr_tool_modes.proofs.FileLemmas.{shown_earlier}
 use Rattle.pr_tool_share.specs.Lists.{part_answer, source_in, IsProgramRefusal}
 use Rattle.pr_tool_share.specs.Items.{Item, IsItemOf, AreItemsOf}
 use Rattle.pr_tool_share.proofs.ItemLemmas.{items_more, refused_at, part_shown}
+use Rattle.pr_tool_share.proofs.OrderedItems.{order_item}
 use Rattle.pr_tool_share.proofs.items.make_items.Goals as goal
 
 pub returns-in-Err-clause-refused : goal.returns-in-Err-clause-refused
@@ -57,6 +58,8 @@ loop-number-preserved g c =
       later = omega (arith, inv.later, c.make_item.ensures.later);
       steady = c.in-Ok.ensures.steady ∙ inv.steady;
       same = c.make_item.ensures.same ∙ inv.same;
+      unread = λ q none. c.make_item.ensures.others q (none number (entry_in entry) (omega (arith, one)) here) ∙ inv.unread q (λ i x lt. none i x (omega (arith, one, lt)));
+      once = λ q one. order_item _ (g.S.Shelf.reach c.args.shelf.now) (g.S.Shelf.reach c.loop-number.shelf) (g.S.Shelf.reach c.make_item.new.shelf) entries number (entry_in entry) q here (inv.unread q) (inv.once q one) c.make_item.ensures.once c.make_item.ensures.others one;
       others = λ q none. c.make_item.ensures.others q (none number (entry_in entry) here) ∙ inv.others q none;
     }
 
@@ -77,3 +80,23 @@ returns-then-is_err-clause-others g c = λ q none.
     let here : slice_get (map entry_in c.args.entries.now) number ≡ Some (entry_in entry) =
     slice_get-map entry_in c.args.entries.now number ∙ ap (option_map entry_in) (got_from c.args.entries.now number entry c.loop-number-test.true c.index-entries-number.is) in
     c.make_item.ensures.others q (none number (entry_in entry) here) ∙ inv.others q none
+
+pub returns-in-Err-clause-once : goal.returns-in-Err-clause-once
+returns-in-Err-clause-once g c = λ q one.
+    let inv = c.loop-number.invariant in
+    let number = c.loop-number.number in
+    let entry = c.index-entries-number.result in
+    let entries = map entry_in c.args.entries.now in
+    let here : slice_get entries number ≡ Some (entry_in entry) =
+    slice_get-map entry_in c.args.entries.now number ∙ ap (option_map entry_in) (got_from c.args.entries.now number entry c.loop-number-test.true c.index-entries-number.is) in
+    order_item _ (g.S.Shelf.reach c.args.shelf.now) (g.S.Shelf.reach c.loop-number.shelf) (g.S.Shelf.reach c.make_item.new.shelf) entries number (entry_in entry) q here (inv.unread q) (inv.once q one) c.make_item.ensures.once c.make_item.ensures.others one
+
+pub returns-then-is_err-clause-once : goal.returns-then-is_err-clause-once
+returns-then-is_err-clause-once g c = λ q one.
+    let inv = c.loop-number.invariant in
+    let number = c.loop-number.number in
+    let entry = c.index-entries-number.result in
+    let entries = map entry_in c.args.entries.now in
+    let here : slice_get entries number ≡ Some (entry_in entry) =
+    slice_get-map entry_in c.args.entries.now number ∙ ap (option_map entry_in) (got_from c.args.entries.now number entry c.loop-number-test.true c.index-entries-number.is) in
+    order_item _ (g.S.Shelf.reach c.args.shelf.now) (g.S.Shelf.reach c.loop-number.shelf) (g.S.Shelf.reach c.make_item.new.shelf) entries number (entry_in entry) q here (inv.unread q) (inv.once q one) c.make_item.ensures.once c.make_item.ensures.others one

@@ -1,11 +1,13 @@
-use Rattle.std.proofs.Common.{◌≡◌, ◌≢◌, ◌⊎◌, ◌∙◌, ℕ, List, length, map, refl, sym, ap, subst, arith, inl, inr}
+use Rattle.std.proofs.Common.{◌≡◌, ◌≢◌, ◌⊎◌, ◌∙◌, ℕ, List, Option, length, map, refl, sym, ap, subst, arith, inl, inr}
 use Rattle.pr_edge.specs.Files.{Told}
 use Rattle.pr_share.specs.Items.{world, AreReady, names_of, IsNoneOf}
 use Rattle.pr_share_list.specs.List.{Entry, entry_in}
 use Rattle.pr_share_list.specs.declared.lines.Entry.{Entry as Named}
 use Rattle.pr_tool_answers.specs.declared.answers.Answer.{Answer}
+use Rattle.pr_tool_modes.specs.Files.{IsInOrder}
 use Rattle.pr_tool_modes.proofs.FileLemmas.{shown_earlier}
-use Rattle.pr_tool_share.specs.Lists.{HasList, IsProgramRefusal, IsNoProgram}
+use Rattle.pr_tool_modes.proofs.OrderLemmas.{order_once, order_one, order_after}
+use Rattle.pr_tool_share.specs.Lists.{HasList, IsProgramRefusal, IsNoProgram, IsOneProgram}
 use Rattle.pr_tool_share.specs.Items.{Item, AreItemsOf}
 use Rattle.pr_tool_share.specs.Shares.{HaveTurned}
 use Rattle.pr_tool_share.proofs.ItemLemmas.{program_earlier, length-items, are_ready, listed_quotas, items_unnamed}
@@ -108,3 +110,24 @@ returns-in-Ok-make_place-clause-shared g c =
       items = items;
       turned = subst (λ (xs : List Item). HaveTurned stripes xs items (world told first old) (world told now new) before after c.take_turns.result) c.deref_mut.ensures.value turned;
     })
+
+pub returns-in-Err-clause-once : goal.returns-in-Err-clause-once
+returns-in-Err-clause-once g c = λ q once. order_one (g.S.Shelf.reach c.args.shelf.now) (g.S.Shelf.reach c.load_list.new.shelf) c.args.sharing.now.list.now q (order_once _ _ _ c.load_list.ensures.once) c.load_list.ensures.others
+
+pub returns-in-Err-make_items-clause-once : goal.returns-in-Err-make_items-clause-once
+returns-in-Err-make_items-clause-once g c = λ q once.
+    let one = subst (λ (xs : List Named). IsOneProgram (map entry_in xs) q) (sym c.deref.ensures.value) (once.one_program _ c.in-Ok.ensures.list) in
+    order_after (g.S.Shelf.reach c.args.shelf.now) (g.S.Shelf.reach c.load_list.new.shelf) (g.S.Shelf.reach c.make_items.new.shelf) _ c.args.sharing.now.list.now q c.load_list.ensures.once c.load_list.ensures.others (λ e. c.make_items.ensures.others q (subst (λ (xs : List Named). IsNoProgram (map entry_in xs) q) (sym c.deref.ensures.value) (once.no_program e _ c.in-Ok.ensures.list))) (c.make_items.ensures.once q one)
+
+pub returns-clause-once : goal.returns-clause-once
+returns-clause-once g c = λ q once.
+    let one = subst (λ (xs : List Named). IsOneProgram (map entry_in xs) q) (sym c.deref.ensures.value) (once.one_program _ c.in-Ok.ensures.list) in
+    order_after (g.S.Shelf.reach c.args.shelf.now) (g.S.Shelf.reach c.load_list.new.shelf) (g.S.Shelf.reach c.make_items.new.shelf) _ c.args.sharing.now.list.now q c.load_list.ensures.once c.load_list.ensures.others (λ e. c.make_items.ensures.others q (subst (λ (xs : List Named). IsNoProgram (map entry_in xs) q) (sym c.deref.ensures.value) (once.no_program e _ c.in-Ok.ensures.list))) (c.make_items.ensures.once q one)
+
+pub returns-in-Ok-make_place-clause-once : goal.returns-in-Ok-make_place-clause-once
+returns-in-Ok-make_place-clause-once g c = λ q once.
+    let one = subst (λ (xs : List Named). IsOneProgram (map entry_in xs) q) (sym c.deref.ensures.value) (once.one_program _ c.in-Ok.ensures.list) in
+    let ready = subst (λ (xs : List Named). AreItemsOf (g.S.Shelf.told c.load_list.new.shelf) (map entry_in xs) c.in-Ok-make_items.items.items) c.deref.ensures.value c.in-Ok-make_items.ensures.ready in
+    let names = items_unnamed _ (map entry_in c.in-Ok.entries.items) c.in-Ok-make_items.items.items q ready (once.no_samples _ c.in-Ok.ensures.list) in
+    let last = c.take_turns.ensures.others q (subst (λ (xs : List Item). IsNoneOf (names_of xs) q) (sym c.deref_mut.ensures.value) names) in
+    subst (λ (r : Option ℕ). IsInOrder (g.S.Shelf.reach c.args.shelf.now q) r) (sym last) (order_after (g.S.Shelf.reach c.args.shelf.now) (g.S.Shelf.reach c.load_list.new.shelf) (g.S.Shelf.reach c.make_items.new.shelf) _ c.args.sharing.now.list.now q c.load_list.ensures.once c.load_list.ensures.others (λ e. c.make_items.ensures.others q (subst (λ (xs : List Named). IsNoProgram (map entry_in xs) q) (sym c.deref.ensures.value) (once.no_program e _ c.in-Ok.ensures.list))) (c.make_items.ensures.once q one))
