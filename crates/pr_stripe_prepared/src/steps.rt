@@ -92,18 +92,6 @@ impl StageStep<'_> {
         }
     }
 
-    /// In as many rounds as there are. It stands apart, so that the step of most stages keeps nothing for it.
-    #[inline(never)]
-    fn in_rounds(self, row: &[u8], registers: &mut [u8], state: &mut [u8])
-        requires row { self.stage.now.reach ≤ length row.now }
-        requires registers { length registers.old ≡ self.count * 16 }
-        requires state { length state.old ≡ 16 }
-        ensures { IsStep self.entry.stage.now self.entry.count row.now self.entry.before.now
-            state.old registers.new state.new }
-    {
-        self.by::<false>(row, registers, state);
-    }
-
     /// Of the row that is read.
     #[inline(always)]
     fn take(self, row: &[u8], registers: &mut [u8], state: &mut [u8])
@@ -116,7 +104,7 @@ impl StageStep<'_> {
         if self.stage.rounds == 1 {
             self.by::<true>(row, registers, state);
         } else {
-            self.in_rounds(row, registers, state);
+            step_in_rounds(self.stage, self.before, self.count, row, registers, state);
         }
     }
 
@@ -134,7 +122,7 @@ impl StageStep<'_> {
     }
 
     /// Of a sample that is longer than most, or of another fabric.
-    #[inline(never)]
+    #[inline(always)]
     fn take_far(self, bus: &[u8], registers: &mut [u8], state: &mut [u8])
         requires few { self.count ≤ 15 }
         requires zeros { self.before.now ≡ replicate (self.count * 16) 0 }
@@ -152,6 +140,60 @@ impl StageStep<'_> {
         }
         self.take_wide(bus, registers, state);
     }
+}
+
+/// The step of a stage in as many rounds as there are. It stands apart and takes the parts of a `StageStep`, so that the step
+/// of most stages keeps nothing for it.
+#[inline(never)]
+fn step_in_rounds(
+    stage: &Prepared,
+    before: &[u8],
+    count: usize,
+    row: &[u8],
+    registers: &mut [u8],
+    state: &mut [u8],
+)
+    requires few { count ≤ 16 }
+    requires long { length before.now ≡ count * 16 }
+    requires marks { vec_len stage.now.marks ≡ count * 16 }
+    requires row { stage.now.reach ≤ length row.now }
+    requires registers { length registers.old ≡ count * 16 }
+    requires state { length state.old ≡ 16 }
+    ensures { IsStep stage.now count row.now before.now state.old registers.new state.new }
+{
+    let step = StageStep {
+        stage,
+        before,
+        count,
+    };
+    step.by::<false>(row, registers, state);
+}
+
+/// The step of a first stage of another fabric, or that reads a longer sample. It stands apart in the same way.
+#[inline(never)]
+fn far_step(
+    stage: &Prepared,
+    zeros: &[u8],
+    count: usize,
+    bus: &[u8],
+    registers: &mut [u8],
+    state: &mut [u8],
+)
+    requires few { count ≤ 15 }
+    requires zeros { zeros.now ≡ replicate (count * 16) 0 }
+    requires long { length zeros.now ≡ count * 16 }
+    requires marks { vec_len stage.now.marks ≡ count * 16 }
+    requires reach { stage.now.reach ≡ count * 16 }
+    requires registers { length registers.old ≡ count * 16 }
+    requires state { length state.old ≡ 16 }
+    ensures { IsFirstStep stage.now count bus.now state.old registers.new state.new }
+{
+    let step = StageStep {
+        stage,
+        before: zeros,
+        count,
+    };
+    step.take_far(bus, registers, state);
 }
 
 /// Puts a sample at the front of zeros.
@@ -210,17 +252,17 @@ pub fn first_step(
     requires state { length state.old ≡ 16 }
     ensures { IsFirstStep q.now count bus.now state.old registers.new state.new }
 {
-    let step = StageStep {
-        stage: q,
-        before: zeros,
-        count,
-    };
     // The base fabric has seven registers beside the state, in 112 bytes; the number is known where it is tested.
     if count == 7 && bus.len() <= 112 {
+        let step = StageStep {
+            stage: q,
+            before: zeros,
+            count,
+        };
         let mut wide = [0; 112];
         pad(&mut wide, bus);
         step.take_wide(&wide, registers, state);
         return;
     }
-    step.take_far(bus, registers, state);
+    far_step(q, zeros, count, bus, registers, state);
 }
