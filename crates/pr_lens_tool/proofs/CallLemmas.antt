@@ -1,5 +1,5 @@
 -- Calls, by what the words ask for.
-use Rattle.std.proofs.Common.{◌≡◌, ℕ, List, Option, Some, None, Result, Ok, String, Vec, Global, inl, inr, refl, sym, subst}
+use Rattle.std.proofs.Common.{◌≡◌, ◌∙◌, ℕ, List, Option, Some, None, Result, Ok, String, Vec, Global, inl, inr, refl, sym, ap, subst}
 use Rattle.std.specs.Prelude.{IfOk, option_and_then, option_map}
 use Rattle.std.specs.declared.alloc.AllocError.{AllocError}
 use Rattle.pr_tool_answers.specs.declared.answers.Answer.{Answer}
@@ -8,7 +8,11 @@ use Rattle.pr_lens_tool.specs.declared.outcomes.Outcome.{Outcome}
 use Rattle.pr_lens_tool.specs.declared.outcomes.Outcome.TheVariants.{Plain, Usage}
 use Rattle.pr_lens_tool.specs.Asked.{Asked}
 use Rattle.pr_lens_tool.specs.declared.outcomes.Reply.{Reply}
-use Rattle.pr_lens_tool.specs.Replies.{HasLine, line_for}
+use Rattle.pr_base.specs.declared.fabrics.Fabric.{Fabric}
+use Rattle.pr_tool.specs.declared.notes.Bounds.{Bounds}
+use Rattle.pr_lens_tool.specs.Outcomes.{line_by}
+use Rattle.pr_lens_tool.specs.Programs.{bounds_for}
+use Rattle.pr_lens_tool.specs.Replies.{HasLine, HasOwnLine, bounds_asked, line_for}
 use Rattle.pr_lens_tool.specs.Orders.{AskForHelp, MayAskForHelp, asked_by}
 use Rattle.pr_lens_tool.specs.Calls.{IsCalled, IsCalledBy, IsFollowed, EndsWith, Helps}
 
@@ -50,3 +54,16 @@ pub has_none_unasked : (asked : Option Asked) (reply : Reply) → asked ≡ None
 has_none_unasked asked reply is none =
     subst (λ (o : Option Asked). HasLine o reply) (sym is)
     (subst (λ (r : Result (Option (Vec ℕ Global)) AllocError). IfOk r (λ line. option_map (λ v. v.items) line ≡ None)) (sym none) refl)
+
+-- ---- the outcome's own line
+-- of a reply to an order
+pub has_own : (asked : Option Asked) (order : Asked) (reply : Reply) → asked ≡ Some order → reply.bounds ≡ bounds_for order.target.fabric → HasOwnLine asked reply
+has_own asked order reply is bounds = ap (λ (b : Bounds). line_by b reply.outcome) (bounds ∙ sym (ap bounds_asked is))
+
+-- where nothing was asked
+pub has_own_unasked : (asked : Option Asked) (reply : Reply) → asked ≡ None → reply.bounds ≡ bounds_for Fabric.Base → HasOwnLine asked reply
+has_own_unasked asked reply is bounds = ap (λ (b : Bounds). line_by b reply.outcome) (bounds ∙ sym (ap bounds_asked is))
+
+-- that of want of memory tells no limit
+pub has_own_memory : (asked : Option Asked) (reply : Reply) → reply.outcome ≡ Plain Answer.Memory → HasOwnLine asked reply
+has_own_memory asked reply is = ap (line_by reply.bounds) is ∙ sym (ap (line_by (bounds_asked asked)) is)

@@ -1,10 +1,9 @@
 -- What is said of the bytes that were read of a file.
 use Rattle.std.proofs.Common.{◌≡◌, ◌+◌, ◌-◌, ◌<◌, ◌≤◌, ◌++◌, ◌∙◌, [], ℕ, List, Option, Some, None, IfSome, length, take, drop, refl, sym, ap, subst, arith, length-append, length-drop}
-use Rattle.std.proofs.lemmas.List.{append-nil, length-take-le, take-append-drop, take_all}
+use Rattle.std.proofs.lemmas.List.{length-take-le, take-append-drop, take_all}
 use Rattle.std.proofs.Math.Seq.{take-add}
 use Rattle.pr_edge.specs.Files.{IsMissing, IsPart, IsPrefix, OfFile, Told}
-use Rattle.pr_tool_answers.specs.declared.answers.Answer.{Answer}
-use Rattle.pr_tool_modes.specs.Files.{IsLong, IsText}
+use Rattle.pr_tool_modes.specs.Files.{IsLong}
 use Rattle.pr_tool_modes.proofs.FileLemmas.{long_file}
 use Rattle.pr_lens_log.specs.declared.excerpts.Choice.{Choice}
 use Rattle.pr_lens_log.specs.declared.logs.Log.{Log}

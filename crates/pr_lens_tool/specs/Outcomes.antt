@@ -6,6 +6,7 @@ use Rattle.pr_edge.specs.Count.{Rose}
 use Rattle.pr_edge.specs.Tape.{Tape, Appends, AppendsFront}
 use Rattle.pr_tool_answers.specs.declared.answers.Answer.{Answer}
 use Rattle.pr_tool_answers.specs.Statuses as answers
+use Rattle.pr_tool.specs.declared.notes.Bounds.{Bounds}
 use Rattle.pr_tool.specs.Notes.{note_of}
 use Rattle.pr_lens_tool.specs.declared.outcomes.Outcome.{Outcome}
 use Rattle.pr_lens_tool.specs.declared.outcomes.Outcome.TheVariants.{Plain, Explained, Streamed, Usage, BadLog, NoCycle, Unshown, LongLog, LongModule, LongBench, NoStream}
@@ -36,21 +37,22 @@ bad_log_line line = codes "bad log: line " ++ decimal line ++ codes "\n"
 abbrev pub unshown_line : ℕ → ℕ → List ℕ
 unshown_line first last = codes "no such cycle: the log has cycles " ++ decimal first ++ codes " to " ++ decimal last ++ codes "\n"
 
-abbrev pub line_by : Reply → Outcome → List ℕ
-line_by reply (Plain answer) = note_of reply.bounds answer
-line_by reply (Explained answer) = []
-line_by reply (Streamed answer) = note_of reply.bounds answer
-line_by reply Usage = codes "usage: pipelens TASK FILE [SAMPLES] [--fabric F] [--narrow] [--samples N] [--json] [--csv] [--signed NAME,..] [--no-warnings] [--name MODULE] [--seed N] [--from T] [--to T]; pipelens --help says more\n"
-line_by reply (BadLog line) = bad_log_line line
-line_by reply NoCycle = codes "bad log: no cycle\n"
-line_by reply (Unshown first last) = unshown_line first last
-line_by reply LongLog = codes "limit: log-bytes 17592186044416\n"
-line_by reply LongModule = codes "limit: module-bytes 16777216\n"
-line_by reply LongBench = codes "limit: bench-bytes 16777216\n"
-line_by reply (NoStream place) = codes "no stream\n"
+-- of an outcome, with the limits that it tells
+abbrev pub line_by : Bounds → Outcome → List ℕ
+line_by bounds (Plain answer) = note_of bounds answer
+line_by bounds (Explained answer) = []
+line_by bounds (Streamed answer) = note_of bounds answer
+line_by bounds Usage = codes "usage: pipelens TASK FILE [SAMPLES] [--fabric F] [--narrow] [--samples N] [--json] [--csv] [--signed NAME,..] [--no-warnings] [--name MODULE] [--seed N] [--from T] [--to T]; pipelens --help says more\n"
+line_by bounds (BadLog line) = bad_log_line line
+line_by bounds NoCycle = codes "bad log: no cycle\n"
+line_by bounds (Unshown first last) = unshown_line first last
+line_by bounds LongLog = codes "limit: log-bytes 17592186044416\n"
+line_by bounds LongModule = codes "limit: module-bytes 16777216\n"
+line_by bounds LongBench = codes "limit: bench-bytes 16777216\n"
+line_by bounds (NoStream place) = codes "no stream\n"
 
 abbrev pub own_line : Reply → List ℕ
-own_line reply = line_by reply reply.outcome
+own_line reply = line_by reply.bounds reply.outcome
 
 -- the line in its place, where there is one and memory was not wanting for it
 abbrev pub line_or : List ℕ → Result (Option (Vec ℕ Global)) AllocError → List ℕ

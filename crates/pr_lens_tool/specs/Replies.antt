@@ -3,10 +3,12 @@ use Rattle.std.specs.Prelude.{◌≡◌, ℕ, Bool, List, [], ◌++◌, codes, i
 use Rattle.pr_base.specs.declared.caps.Cap.{Cap}
 use Rattle.pr_base.specs.declared.fabrics.Fabric.{Fabric}
 use Rattle.pr_tool_answers.specs.declared.answers.Answer.{Answer}
+use Rattle.pr_tool.specs.declared.notes.Bounds.{Bounds}
 use Rattle.pr_tool.specs.Notes.{note_of}
 use Rattle.pr_lens_tool.specs.declared.outcomes.Outcome.{Outcome}
 use Rattle.pr_lens_tool.specs.declared.outcomes.Outcome.TheVariants.{NoStream, Plain, Streamed}
 use Rattle.pr_lens_tool.specs.declared.outcomes.Reply.{Reply}
+use Rattle.pr_lens_tool.specs.Outcomes.{line_by, own_line}
 use Rattle.pr_lens_tool.specs.Asked.{Asked, AskedTarget, AskedTask, Bench, Signals, Whole}
 use Rattle.pr_lens_show.specs.Names.{name_text, word_of}
 use Rattle.pr_lens_tracks.specs.Names.{names_in}
@@ -74,3 +76,13 @@ line_for asked outcome = None
 -- want of memory alone
 abbrev pub HasLine : Option Asked → Reply → Type 0
 HasLine asked reply = IfOk reply.line (λ line. option_map (λ v. v.items) line ≡ option_and_then (λ a. line_for a reply.outcome) asked)
+
+-- ---- the outcome's own line
+-- the limits that it tells are those for the fabric that is asked for
+abbrev pub bounds_asked : Option Asked → Bounds
+bounds_asked None = bounds_for Fabric.Base
+bounds_asked (Some order) = bounds_for order.target.fabric
+
+-- the line that a reply has where none stands in its place is that of the outcome, with these limits
+abbrev pub HasOwnLine : Option Asked → Reply → Type 0
+HasOwnLine asked reply = own_line reply ≡ line_by (bounds_asked asked) reply.outcome

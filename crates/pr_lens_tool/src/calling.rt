@@ -9,7 +9,7 @@ ghost use Rattle.pr_lens_tool.specs.Asked.{asked_in, product_in, question_in, ta
 ghost use Rattle.pr_lens_tool.specs.Orders.{asked_by};
 ghost use Rattle.pr_lens_tool.specs.Outcomes.{IsWritten, Shows};
 ghost use Rattle.pr_lens_tool.specs.Programs.{IsToldOf, IsUntold};
-ghost use Rattle.pr_lens_tool.specs.Replies.{HasLine};
+ghost use Rattle.pr_lens_tool.specs.Replies.{HasLine, HasOwnLine};
 ghost use Rattle.pr_lens_tool.specs.Calls.{IsMade, IsUnmade, IsFollowed, IsCalled};
 
 use crate::asking::{OrderFault, read_order};
@@ -160,6 +160,8 @@ pub fn pipelens<S: Shelf, K: Sink>(
         (K.told out.old) (K.told out.new) (K.faults out.old) (K.faults out.new)) result.outcome }
     // A line that is told in place of an answer's own names the file. It is left out for want of memory alone.
     ensures line { HasLine (asked_by words.now) result }
+    // The outcome's own line tells the limits of what was asked for.
+    ensures own { HasOwnLine (asked_by words.now) result }
     // A failed read is not kept quiet: the outcome is a read fault, or the count is as it was.
     ensures shown { Shows (S.faults shelf.old) (S.faults shelf.new) result.outcome }
     ensures told { S.told shelf.new ≡ S.told shelf.old }

@@ -1,7 +1,9 @@
 //! What is replied, with the name of the file where that tells more.
 
 ghost use Rattle.std.specs.Prelude.{◌≡◌, ◌++◌, Ok, None, option_map, IfOk, OnOk};
+ghost use Rattle.pr_base.specs.declared.fabrics.Fabric.{Fabric};
 ghost use Rattle.pr_lens_tool.specs.Asked.{asked_in, target_in, task_in};
+ghost use Rattle.pr_lens_tool.specs.Programs.{bounds_for};
 ghost use Rattle.pr_lens_tool.specs.Replies.{answer_line, fabric_words, fault_line, foreign_line, line_for, narrow_words, refused_line, samples_of, signed_at, signed_of, stream_line, why_line};
 
 use crate::orders::{Order, Product, Target, Task};
@@ -173,6 +175,7 @@ fn line_for(alloc: Global, order: &Order, outcome: Outcome) -> Result<Option<Vec
 /// The reply to an order.
 pub fn reply_of(alloc: Global, order: &Order, outcome: Outcome) -> Reply
     ensures outcome { result.outcome ≡ outcome }
+    ensures bounds { result.bounds ≡ bounds_for order.now.target.fabric }
     ensures line { IfOk result.line
         (λ line. option_map (λ v. v.items) line ≡ line_for (asked_in order.now) outcome) }
 {
@@ -186,6 +189,7 @@ pub fn reply_of(alloc: Global, order: &Order, outcome: Outcome) -> Reply
 /// The reply where there is no order.
 pub fn bare(outcome: Outcome) -> Reply
     ensures outcome { result.outcome ≡ outcome }
+    ensures bounds { result.bounds ≡ bounds_for Fabric.Base }
     ensures line { result.line ≡ Ok None }
 {
     Reply {

@@ -1,6 +1,6 @@
 use Rattle.std.proofs.Common.{refl}
 use Rattle.pr_lens_tool.specs.Outcomes.{help_text}
-use Rattle.pr_lens_tool.proofs.CallLemmas.{called_followed, called_help, has_line}
+use Rattle.pr_lens_tool.proofs.CallLemmas.{called_followed, called_help, has_line, has_own, has_own_memory, has_own_unasked}
 use Rattle.pr_lens_tool.proofs.calling.pipelens.Goals as goal
 
 pub returns-in-Ok-clause-called : goal.returns-in-Ok-clause-called
@@ -17,3 +17,9 @@ returns-in-Err-Help-clause-called g c =
 
 pub returns-in-Ok-clause-shown : goal.returns-in-Ok-clause-shown
 returns-in-Ok-clause-shown g c = rw c.reply_of.ensures.outcome c.follow-outcome.ensures.shown
+
+pub returns-in-Ok-clause-own : goal.returns-in-Ok-clause-own
+returns-in-Ok-clause-own g c = has_own _ _ c.reply_of.result c.in-Ok.ensures.order c.reply_of.ensures.bounds
+
+pub returns-in-Err-Help-clause-own : goal.returns-in-Err-Help-clause-own
+returns-in-Err-Help-clause-own g c = has_own_unasked _ c.bare.result (c.in-Err-Help.ensures.help (rw c.in-Err-Help.field-0-is refl)) c.bare.ensures.bounds
