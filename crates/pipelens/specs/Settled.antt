@@ -1,7 +1,8 @@
 -- What a call comes to, by what the companion replied and what became of its last results.
-use Rattle.std.specs.Prelude.{Bool, true, false, Option, Some, None, Ok, is_some, if◌then◌else◌}
+use Rattle.std.specs.Prelude.{Bool, true, false, Option, None, Ok, if◌then◌else◌}
 use Rattle.pr_base.specs.declared.fabrics.Fabric.{Fabric}
 use Rattle.pr_system.specs.declared.gathering.Finished.{Finished}
+use Rattle.pr_system.specs.Gathering.{are_through}
 use Rattle.pr_tool_answers.specs.declared.answers.Answer.{Answer}
 use Rattle.pr_lens_tool.specs.declared.outcomes.Outcome.{Outcome}
 use Rattle.pr_lens_tool.specs.declared.outcomes.Outcome.TheVariants.{Plain, Streamed}
@@ -18,11 +19,6 @@ is_write_fault outcome = false
 abbrev pub plain_reply : Outcome → Reply
 plain_reply outcome = record { outcome = outcome; bounds = bounds_for Fabric.Base; line = Ok None }
 
--- the last results were handed on, and went through
-abbrev pub are_through : {W : Type 0} → Option (Finished W) → Bool
-are_through None = false
-are_through (Some finished) = is_some finished.stream
-
--- what was replied, if they did, and else a write fault
+-- what was replied, if the last results went through, and else a write fault
 abbrev pub settled : {W : Type 0} → Reply → Option (Finished W) → Reply
 settled reply last = if are_through last then reply else plain_reply (Plain Answer.WriteFault)

@@ -2,21 +2,25 @@
 #![tactic(auto)]
 
 ghost use Rattle.std.specs.Prelude.{◌≡◌, ◌⊎◌, true, IsSome, IfOk, IfErr};
+ghost use Rattle.std.specs.Process.{exit_status};
+ghost use Rattle.pr_system.specs.Gathering.{are_through};
 ghost use Rattle.pr_tool.specs.Noted.{GainsNote};
 ghost use Rattle.pr_tool_answers.specs.declared.answers.Answer.{Answer};
 ghost use Rattle.pr_lens_tool.specs.declared.outcomes.Outcome.TheVariants.{Plain};
 ghost use Rattle.pr_lens_tool.specs.Orders.{asked_by};
 ghost use Rattle.pr_lens_tool.specs.Outcomes.{status_of, line_of};
-ghost use Rattle.pr_lens_tool.specs.Replies.{HasLine};
-ghost use Rattle.pipelens.specs.Settled.{are_through, is_write_fault, plain_reply, settled};
+ghost use Rattle.pr_lens_tool.specs.Replies.{HasLine, HasOwnLine};
+ghost use Rattle.pipelens.specs.Settled.{is_write_fault, plain_reply, settled};
+ghost use Rattle.pipelens.specs.Ends.{IsEnded, asked_in, refusal_of};
 
 use pr_edge::Sink;
 use pr_lens_tool::{Outcome, Reply, pipelens};
-use pr_system::{FileShelf, Finished, Gathered, Gathering, OutSink};
+use pr_system::{
+    FileShelf, Finished, Gathered, Gathering, OutSink, WordsFault, are_through, words_of,
+};
 use pr_tool::{Answer, Bounds};
 use std::cell::RefCell;
-use std::env;
-use std::io::{self, ErrorKind, Printer, Write};
+use std::io::{self, Printer, Write};
 use std::process::ExitCode;
 use std::rt::{Env, Files};
 
@@ -25,15 +29,6 @@ const MEMORY: Outcome = Outcome::Plain(Answer::Memory);
 
 /// The outcome where the last results did not go through.
 const WRITE_FAULT: Outcome = Outcome::Plain(Answer::WriteFault);
-
-/// The words of the command line; else the outcome of it.
-fn words_of<R: Env + AllocGlobal>(rt: &R) -> Result<Vec<String>, Outcome> {
-    match env::args(rt) {
-        Ok(words) => words.collect(rt.alloc()).map_err(|_| MEMORY),
-        Err(e) if e.kind() == ErrorKind::InvalidData => Err(Outcome::Usage),
-        Err(_) => Err(MEMORY),
-    }
-}
 
 /// What a call of the companion came to.
 #[derive(Drop)]
@@ -76,6 +71,7 @@ fn call<'a, R: Files + Print + AllocGlobal>(
 ) -> Result<Called<Printer<'a, R>>, Outcome>
     ensures refused { IfErr result (λ o. o ≡ Plain Answer.Memory) }
     ensures line { IfOk result (λ c. HasLine (asked_by words.now) c.reply) }
+    ensures own { IfOk result (λ c. HasOwnLine (asked_by words.now) c.reply) }
 
     // The last results were handed on, but after a write fault.
     ensures finished { IfOk result (λ c. (is_write_fault c.reply.outcome ≡ true) ⊎ IsSome c.last) }
@@ -105,16 +101,6 @@ fn plain(outcome: Outcome) -> Reply
     }
 }
 
-/// Whether the last results were handed on, and went through.
-fn are_through<W>(last: &Option<Finished<W>>) -> bool
-    ensures { result ≡ are_through last.now }
-{
-    match last {
-        Some(finished) => finished.went_through(),
-        None => false,
-    }
-}
-
 /// What a call comes to: what was replied, if its last results went through, and else a write fault.
 fn settle<W: Drop>(called: Called<W>) -> Reply
     ensures { result ≡ settled called.reply called.last }
@@ -129,8 +115,9 @@ fn settle<W: Drop>(called: Called<W>) -> Reply
 
 /// Calls the companion with these words; what it comes to.
 fn reply_to<R: Files + Print + AllocGlobal>(rt: &R, words: &[String]) -> Reply
-    // A line that it tells in place of an answer's own is that of what was asked for.
-    ensures { HasLine (asked_by words.now) result }
+    // A line that it tells in place of an answer's own is that of what was asked for, and so are the limits of its own.
+    ensures line { HasLine (asked_by words.now) result }
+    ensures own { HasOwnLine (asked_by words.now) result }
 {
     match call(rt, words) {
         Ok(called) => settle(called),
@@ -148,11 +135,37 @@ fn report<E: Sink>(reply: &Reply, stderr: &mut E) -> u8
     reply.outcome.status()
 }
 
+/// What a call comes to where the words cannot be had.
+fn refusal_of(fault: WordsFault) -> Outcome
+    ensures { result ≡ refusal_of fault }
+{
+    match fault {
+        WordsFault::NoText => Outcome::Usage,
+        WordsFault::Memory => MEMORY,
+    }
+}
+
+/// Calls the companion with the words of a command line, where they can be had; what it comes to.
+fn replied<R: Files + Print + AllocGlobal>(rt: &R, given: Result<Vec<String>, WordsFault>) -> Reply
+    ensures refused { IfErr given (λ fault. result ≡ plain_reply (refusal_of fault)) }
+    ensures line { HasLine (asked_in given) result }
+    ensures own { HasOwnLine (asked_in given) result }
+{
+    match given {
+        Ok(words) => reply_to(rt, &words),
+        Err(fault) => plain(refusal_of(fault)),
+    }
+}
+
+/// Calls the companion with the words that the system gives, writes its line, and ends with the status of its outcome.
+fn ended<R: Env + Files + Print + AllocGlobal, E: Sink>(rt: &R, stderr: &mut E) -> ExitCode
+    ensures { IsEnded (E.told stderr.old) (E.told stderr.new) (E.faults stderr.old) (E.faults stderr.new)
+        (exit_status result) }
+{
+    let reply = replied(rt, words_of(rt));
+    ExitCode::from(report(&reply, stderr))
+}
+
 fn main(rt: HostRuntime) -> ExitCode {
-    let mut stderr = OutSink::new(rt.stderr());
-    let reply = match words_of(&rt) {
-        Ok(words) => reply_to(&rt, &words),
-        Err(outcome) => plain(outcome),
-    };
-    ExitCode::from(report(&reply, &mut stderr))
+    ended(&rt, &mut OutSink::new(rt.stderr()))
 }
