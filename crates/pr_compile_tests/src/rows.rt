@@ -27,9 +27,6 @@ enum Row {
 
 /// Appends rows, and gives what they show.
 fn append(alloc: Global, net: &mut Net, row: Row) -> Result<Vec<Slice>, RowFault> {
-    if net.units.len() > 32_768 {
-        return Err(RowFault::Limit(Cap::Units));
-    }
     match row {
         Row::Product(bits) => mul_rows(alloc, net, &A, 9, &B, 5, bits),
         Row::Shift(left, bits) => shift_rows(alloc, net, left, &A, 9, &B, bits),

@@ -67,7 +67,6 @@ pub fn mul_rows(
 ) -> Result<Vec<Slice>, RowFault>
     requires wa { wa ≤ 128 }
     requires wb { wb ≤ 128 }
-    requires few { length net.old.units.items ≤ 32768 }
     ensures units { OnOk result (net.new.units.items ≡
         units_after net.old.units.items (product bits a.now wa b.now wb)) }
     ensures slices { IfOk result (λ s. s.items ≡ slices_after net.old.units.items (product bits a.now wa b.now wb)) }
@@ -108,7 +107,6 @@ pub fn shift_rows(
     by: &[Slice],
     wby: u8,
 ) -> Result<Vec<Slice>, RowFault>
-    requires few { length net.old.units.items ≤ 32768 }
     ensures units { OnOk result (net.new.units.items ≡
         units_after net.old.units.items (shifted_by left wa by.now wby a.now)) }
     ensures slices { IfOk result (λ s. s.items ≡

@@ -19,8 +19,9 @@ use Rattle.pr_tool_share.specs.Shares.{IsSharedBy}
 use Rattle.pr_tool.specs.Plans.{Plan, Texts, Runs, Folds, Moves, Extends, Evaluates, Generates, Shares, plan_of}
 use Rattle.pr_tool.specs.Words.{Asked}
 
--- nothing is written, and the bench is as it was
+-- nothing is read or written, and the bench is as it was
 pub record IsUnchanged (k : Call) (was bench : Bench) : Type 0 where
+  pub unread : k.now ≡ k.before
   pub unwritten : k.new ≡ k.old
   pub kept : bench ≡ was
 
