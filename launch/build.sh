@@ -1,6 +1,6 @@
 # Proves and builds the program $name, for the launcher piperench, which reads this file. `rt ci` does it, on a copy that holds
-# the crates that the program uses, without their must-fail/ folders. What rt proves it keeps for every later run on this
-# machine, so a build that was stopped goes on where it was, and the gate .ci/run proves none of these crates again.
+# the crates that the program uses, without their must-fail/ folders. Most kits keep what they prove for every later run on this
+# machine. There a build that was stopped goes on where it was, and the gate .ci/run proves none of these crates again.
 
 log=$crate/out/build.log
 # When each crate was begun and proved; the file is as old as the begin of its build.
@@ -35,8 +35,14 @@ unchanged_since() {
     done
 }
 
+# The kit keeps what it proves for later runs. The help of one that does not says so.
+kit_keeps_proofs() {
+    ! rt help 2>&1 | grep -q 'sets aside what earlier runs left'
+}
+
 # The crates that an earlier build proved as they stand, on one line. Only the estimate goes by it: what rt kept decides.
 known_crates() {
+    kit_keeps_proofs || return
     for one in piperench pipelens; do
         out=$root/crates/$one/out
         if [ -x "$out/$one" ]; then
@@ -159,7 +165,11 @@ stop_all() {
 interrupted() {
     trap '' INT TERM HUP
     end_progress
-    say "stopped; the next call goes on from the crates that are proved"
+    if kit_keeps_proofs; then
+        say "stopped; the next call goes on from the crates that are proved"
+    else
+        say "stopped; the next call begins anew, because this kit keeps no proofs"
+    fi
     exit "$1"
 }
 
