@@ -1,10 +1,12 @@
 -- What is told of programs, and what is written of them.
-use Rattle.std.specs.Prelude.{◌≡◌, ◌≤◌, ℕ, Bool, not, List, [], length, Option, Some, None}
+use Rattle.std.specs.Prelude.{◌≡◌, ◌≤◌, ℕ, Bool, not, List, [], length, Option, Some, None, Result, Ok, Err}
+use Rattle.std.specs.declared.alloc.AllocError.{AllocError}
 use Rattle.pr_base.specs.declared.caps.Cap.{Cap}
 use Rattle.pr_base.specs.declared.fabrics.Fabric.{Fabric}
 use Rattle.pr_base.specs.Fabrics.{columns, registers}
 use Rattle.pr_base.specs.Limits.{cap_number, most_program_bytes}
 use Rattle.pr_compile.specs.declared.faults.CompileFault.{CompileFault}
+use Rattle.pr_compile.specs.declared.faults.CompileFault.TheVariants.{Memory}
 use Rattle.pr_compile.specs.Refusals.{IsRefused}
 use Rattle.pr_edge.specs.Files.{Told}
 use Rattle.pr_tool_answers.specs.declared.answers.Answer.{Answer}
@@ -86,6 +88,12 @@ pub record HasRefusal (N P : ℕ) (narrowed : Bool) (text : List ℕ) : Type 0 w
 abbrev pub AreSavings : ℕ → ℕ → Bool → List ℕ → Option Savings → Type 0
 AreSavings N P narrowed text (Some savings) = IsSaving N P narrowed text savings
 AreSavings N P narrowed text None = HasRefusal N P narrowed text
+
+-- what is told of the other way, by what its cost came to: nothing where the text is refused so
+abbrev pub savings_in : Bool → Result ProgramCost CompileFault → Result (Option Savings) AllocError
+savings_in narrowed (Ok cost) = Ok (Some (record { narrowed = narrowed; units = cost.units; stages = length cost.stages.items }))
+savings_in narrowed (Err (Memory e)) = Err e
+savings_in narrowed (Err fault) = Ok None
 
 -- what a text costs is written, and what the other way saves, as JSON or as people read it
 pub record IsCosted (N P : ℕ) (target : AskedTarget) (json : Bool) (samples : ℕ) (text written : List ℕ) : Type 0 where

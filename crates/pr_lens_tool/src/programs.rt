@@ -5,7 +5,7 @@ ghost use Rattle.pr_tool_answers.specs.declared.answers.Answer.{Answer};
 ghost use Rattle.pr_tool_modes.specs.Programs.{compile_answer, IsUncompiled};
 ghost use Rattle.pr_lens_why.specs.Verdicts.{IsPointing};
 ghost use Rattle.pr_lens_tool.specs.Asked.{Cost as AskCost, Graph, Why, question_in, target_in};
-ghost use Rattle.pr_lens_tool.specs.Programs.{AreSavings, IsExplanation, IsTold, bounds_for};
+ghost use Rattle.pr_lens_tool.specs.Programs.{AreSavings, IsExplanation, IsTold, bounds_for, savings_in};
 
 use crate::accepted::accepted;
 use crate::orders::{Question, Target};
@@ -13,7 +13,7 @@ use crate::outcomes::{Outcome, Output};
 use crate::rtl::rtl_of;
 use pr_base::Fabric;
 use pr_compile::CompileFault;
-use pr_lens_cost::{Savings, Setting, cost_as, cost_of};
+use pr_lens_cost::{Cost, Savings, Setting, cost_as, cost_of};
 use pr_lens_graph::{graph, layout_of};
 use pr_lens_show::{Finding, Severity, put_as};
 use pr_lens_why::{Explanation, Verdict, explain, put_code};
@@ -106,31 +106,39 @@ fn why<const N: usize, const P: usize>(
     }
 }
 
+/// What is told of a program that is compiled the other way, by what its cost came to.
+fn savings_in(
+    narrowed: bool,
+    cost: &Result<Cost, CompileFault>,
+) -> Result<Option<Savings>, AllocError>
+    ensures { result ≡ savings_in narrowed cost.now }
+{
+    match cost {
+        Ok(cost) => Ok(Some(Savings {
+            narrowed,
+            units: cost.units,
+            stages: cost.stages.len(),
+        })),
+        Err(CompileFault::Memory(error)) => Err(*error),
+        Err(_) => Ok(None),
+    }
+}
+
 /// The cost of a program that is compiled the other way, where that is accepted.
 fn savings_of<const N: usize, const P: usize>(
     alloc: Global,
     text: &[u8],
     narrowed: bool,
-) -> Result<Option<Savings>, Answer>
+) -> Result<Option<Savings>, AllocError>
     requires short { length text.now ≤ 1048576 }
     requires columns { 1 ≤ N }
     requires most_columns { N ≤ 64 }
     requires registers { 2 ≤ P }
     requires most_registers { P ≤ 16 }
     ensures saved { IfOk result (AreSavings N P narrowed text.now) }
-    ensures refused { IfErr result (λ a. a ≡ Answer.Memory) }
 {
-    match cost_of::<N, P>(alloc, text, narrowed) {
-        Ok(cost) => Ok(Some(Savings {
-            narrowed,
-            units: cost.units,
-            stages: cost.stages.len(),
-        })),
-        Err(fault) => match fault {
-            CompileFault::Memory(_) => Err(Answer::Memory),
-            _ => Ok(None),
-        },
-    }
+    let cost = cost_of::<N, P>(alloc, text, narrowed);
+    savings_in(narrowed, &cost)
 }
 
 /// What a program costs.
