@@ -159,21 +159,16 @@ early_text text tokens spans token =
     ++ early_behind text tokens spans token (target_around tokens token)
 
 -- ---- of another kind
-abbrev pub is_table_sort : Sort → Bool
-is_table_sort Table = true
-is_table_sort _ = false
+abbrev pub sort_in : Option Introduction → Option Sort
+sort_in introduced = option_map (λ (i : Introduction). i.sort) introduced
 
-abbrev pub is_table : Option Introduction → Bool
-is_table None = false
-is_table (Some introduction) = is_table_sort introduction.sort
+abbrev pub sort_before : List ℕ → List Token → List Span → Option ℕ → Option Sort
+sort_before text tokens spans None = None
+sort_before text tokens spans (Some square) = sort_in (introduction_of text tokens spans (square - 1))
 
-abbrev pub is_index_of_table : List ℕ → List Token → List Span → Option ℕ → Bool
-is_index_of_table text tokens spans None = false
-is_index_of_table text tokens spans (Some square) = is_table (introduction_of text tokens spans (square - 1))
-
--- a token stands in the index behind the name of a table
-unfoldable pub is_table_index : List ℕ → List Token → List Span → ℕ → Bool
-is_table_index text tokens spans token = is_index_of_table text tokens spans (square_around tokens token)
+-- what the name stands for in whose index a token stands
+unfoldable pub indexed_sort : List ℕ → List Token → List Span → ℕ → Option Sort
+indexed_sort text tokens spans token = sort_before text tokens spans (square_around tokens token)
 
 -- how a name is called
 unfoldable pub called_text : Option Sort → List ℕ
@@ -181,28 +176,29 @@ called_text None = codes "It is called, but no function of that name is visible 
 called_text (Some Function) = codes "A function does not see itself: write a loop in its place.\n"
 called_text (Some sort) = codes "It is called, and only a function can be.\n"
 
-abbrev pub stream_text : Bool → List ℕ
-stream_text true = codes "The index of a table is a constant: where a stream is to choose, write a tree of choices on its bits, as in `k{0..0} ? 7 : 3`.\n"
-stream_text false = codes "Delays, places of bits, bounds of loops, tables and indices are built from numbers, constants, entries of tables and indices alone.\n"
+abbrev pub stream_text : Option Sort → List ℕ
+stream_text (Some Table) = codes "The index of a table is a constant: where a stream is to choose, write a tree of choices on its bits, as in `k{0..0} ? 7 : 3`.\n"
+stream_text (Some Stream) = codes "An index is a constant and tells instances apart: where a stream is to choose one, compare it with each index, as in `k == 0 ? t[0] : k == 1 ? t[1] : t[2]`. A bit that a stream chooses is `(x >> k){0..0}`.\n"
+stream_text indexed = codes "Delays, places of bits, bounds of loops, tables and indices are built from numbers, constants, entries of tables and indices alone.\n"
 
--- how it is used, in the index of a table or not
-unfoldable pub usage_text : Bool → Option Sort → List ℕ
-usage_text in_table None = codes "It is to be a constant, a table, an index or a function, and none of that name is visible here.\n"
-usage_text in_table (Some Table) = codes "A table has an index behind it, as in `c[0]`.\n"
-usage_text in_table (Some Function) = codes "A function is called, with its arguments in brackets.\n"
-usage_text in_table (Some Constant) = codes "A constant or an index has no index behind it.\n"
-usage_text in_table (Some Index) = codes "A constant or an index has no index behind it.\n"
-usage_text in_table (Some Stream) = stream_text in_table
-usage_text in_table (Some Parameter) = stream_text in_table
+-- how it is used, by what it stands in the index of
+unfoldable pub usage_text : Option Sort → Option Sort → List ℕ
+usage_text indexed None = codes "It is to be a constant, a table, an index or a function, and none of that name is visible here.\n"
+usage_text indexed (Some Table) = codes "A table has an index behind it, as in `c[0]`.\n"
+usage_text indexed (Some Function) = codes "A function is called, with its arguments in brackets.\n"
+usage_text indexed (Some Constant) = codes "A constant or an index has no index behind it.\n"
+usage_text indexed (Some Index) = codes "A constant or an index has no index behind it.\n"
+usage_text indexed (Some Stream) = stream_text indexed
+usage_text indexed (Some Parameter) = stream_text indexed
 
 unfoldable pub earlier_text : List ℕ
 earlier_text = codes "Only a stream has earlier samples, so only a stream stands before `@`.\n"
 
 -- by the token behind it
-unfoldable pub usage_before : Kind → Bool → Option Sort → List ℕ
-usage_before (Mark OpenRound) in_table sort = called_text sort
-usage_before (Mark At) in_table sort = earlier_text
-usage_before _ in_table sort = usage_text in_table sort
+unfoldable pub usage_before : Kind → Option Sort → Option Sort → List ℕ
+usage_before (Mark OpenRound) indexed sort = called_text sort
+usage_before (Mark At) indexed sort = earlier_text
+usage_before _ indexed sort = usage_text indexed sort
 
 unfoldable pub unknown_text : List ℕ → List Token → ℕ → List ℕ
 unknown_text text tokens token = token_text text tokens token ++ codes " is not introduced before.\n"
@@ -211,10 +207,7 @@ abbrev pub known_text : List ℕ → List Token → ℕ → Option Introduction 
 known_text text tokens token None = unknown_text text tokens token
 known_text text tokens token (Some introduction) = introduction_text text tokens token introduction
 
-abbrev pub sort_in : Option Introduction → Option Sort
-sort_in introduced = option_map (λ (i : Introduction). i.sort) introduced
-
 unfoldable pub another_kind_text : List ℕ → List Token → List Span → ℕ → List ℕ
 another_kind_text text tokens spans token =
     known_text text tokens token (introduction_of text tokens spans token)
-    ++ usage_before (kind_of tokens (token + 1)) (is_table_index text tokens spans token) (sort_in (introduction_of text tokens spans token))
+    ++ usage_before (kind_of tokens (token + 1)) (indexed_sort text tokens spans token) (sort_in (introduction_of text tokens spans token))

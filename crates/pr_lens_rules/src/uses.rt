@@ -2,7 +2,7 @@
 
 ghost use Rattle.std.specs.Prelude.{◌≡◌, ◌<◌, ◌++◌, IfSome, OnOk, length};
 ghost use Rattle.pr_lens_source.specs.Introduced.{is_fn};
-ghost use Rattle.pr_lens_rules.specs.Uses.{again_behind, again_text, alone_text, another_kind_text, apart_text, assign_text, behind_text, called_text, early_behind, early_text, halves_text, instance_of_own_text, is_apart, is_outside, is_recurrence_of, is_signed, is_table_index, is_table_sort, known_text, other_text, outside_text, own_text, recurrence_behind, sort_in, stream_text, unassigned_by, unassigned_text, unknown_by, unknown_text, usage_before, usage_text};
+ghost use Rattle.pr_lens_rules.specs.Uses.{again_behind, again_text, alone_text, another_kind_text, apart_text, assign_text, behind_text, called_text, early_behind, early_text, halves_text, indexed_sort, instance_of_own_text, is_apart, is_outside, is_recurrence_of, is_signed, known_text, other_text, outside_text, own_text, recurrence_behind, sort_in, stream_text, unassigned_by, unassigned_text, unknown_by, unknown_text, usage_before, usage_text};
 
 use crate::crossed::{is_crossed, is_rec};
 use pr_lang::{Keyword, Kind, Symbol};
@@ -316,25 +316,24 @@ pub fn used_too_early(
     tell_early(message, source, token, target)
 }
 
-/// Whether this is a table.
-fn is_table_sort(sort: Sort) -> bool
-    ensures { result ≡ is_table_sort sort }
+fn sort_in(introduced: Option<Introduction>) -> Option<Sort>
+    ensures { result ≡ sort_in introduced }
 {
-    matches!(sort, Sort::Table)
+    match introduced {
+        None => None,
+        Some(introduction) => Some(introduction.sort),
+    }
 }
 
-/// Whether a token stands in the index behind the name of a table.
-#[tactic(auto, unfolding(crate::specs::Uses::is_table_index))]
-fn is_table_index(source: &Source, token: usize) -> bool
-    ensures { result ≡ is_table_index source.now.text.now source.now.tokens.now source.now.spans.now token }
+/// What the name stands for in whose index a token stands.
+#[tactic(auto, unfolding(crate::specs::Uses::indexed_sort))]
+fn indexed_sort(source: &Source, token: usize) -> Option<Sort>
+    ensures { result ≡ indexed_sort source.now.text.now source.now.tokens.now source.now.spans.now token }
 {
     let Some(square) = square_around(source, token) else {
-        return false;
+        return None;
     };
-    match introduction_of(source, square.saturating_sub(1)) {
-        Some(introduction) => is_table_sort(introduction.sort),
-        None => false,
-    }
+    sort_in(introduction_of(source, square.saturating_sub(1)))
 }
 
 /// How a name of this sort is called.
@@ -349,20 +348,24 @@ fn called_text(sort: Option<Sort>) -> &'static str
     }
 }
 
-fn stream_text(in_table: bool) -> &'static str
-    ensures { result.now ≡ stream_text in_table }
+/// What stands in the place of a stream, by what it stands in the index of.
+fn stream_text(indexed: Option<Sort>) -> &'static str
+    ensures { result.now ≡ stream_text indexed }
 {
-    if in_table {
-        "The index of a table is a constant: where a stream is to choose, write a tree of choices on its bits, as in `k{0..0} ? 7 : 3`.\n"
-    } else {
-        "Delays, places of bits, bounds of loops, tables and indices are built from numbers, constants, entries of tables and indices alone.\n"
+    match indexed {
+        Some(Sort::Table) =>
+            "The index of a table is a constant: where a stream is to choose, write a tree of choices on its bits, as in `k{0..0} ? 7 : 3`.\n",
+        Some(Sort::Stream) =>
+            "An index is a constant and tells instances apart: where a stream is to choose one, compare it with each index, as in `k == 0 ? t[0] : k == 1 ? t[1] : t[2]`. A bit that a stream chooses is `(x >> k){0..0}`.\n",
+        _ =>
+            "Delays, places of bits, bounds of loops, tables and indices are built from numbers, constants, entries of tables and indices alone.\n",
     }
 }
 
-/// How a name of this sort is used, in the index of a table or not.
+/// How a name of this sort is used, by what it stands in the index of.
 #[tactic(auto, unfolding(crate::specs::Uses::usage_text))]
-fn usage_text(in_table: bool, sort: Option<Sort>) -> &'static str
-    ensures { result.now ≡ usage_text in_table sort }
+fn usage_text(indexed: Option<Sort>, sort: Option<Sort>) -> &'static str
+    ensures { result.now ≡ usage_text indexed sort }
 {
     match sort {
         None =>
@@ -371,20 +374,20 @@ fn usage_text(in_table: bool, sort: Option<Sort>) -> &'static str
         Some(Sort::Function) => "A function is called, with its arguments in brackets.\n",
         Some(Sort::Constant) | Some(Sort::Index) =>
             "A constant or an index has no index behind it.\n",
-        Some(Sort::Stream) | Some(Sort::Parameter) => stream_text(in_table),
+        Some(Sort::Stream) | Some(Sort::Parameter) => stream_text(indexed),
     }
 }
 
 /// How a name of this sort is used, by the token behind it.
 #[tactic(auto, unfolding(crate::specs::Uses::usage_before, crate::specs::Uses::earlier_text))]
-fn usage_before(behind: Kind, in_table: bool, sort: Option<Sort>) -> &'static str
-    ensures { result.now ≡ usage_before behind in_table sort }
+fn usage_before(behind: Kind, indexed: Option<Sort>, sort: Option<Sort>) -> &'static str
+    ensures { result.now ≡ usage_before behind indexed sort }
 {
     match behind {
         Kind::Mark(Symbol::OpenRound) => called_text(sort),
         Kind::Mark(Symbol::At) =>
             "Only a stream has earlier samples, so only a stream stands before `@`.\n",
-        _ => usage_text(in_table, sort),
+        _ => usage_text(indexed, sort),
     }
 }
 
@@ -414,15 +417,6 @@ fn tell_known(
     }
 }
 
-fn sort_in(introduced: Option<Introduction>) -> Option<Sort>
-    ensures { result ≡ sort_in introduced }
-{
-    match introduced {
-        None => None,
-        Some(introduction) => Some(introduction.sort),
-    }
-}
-
 /// Tells how a name is used that is not visible or stands for something else.
 #[tactic(auto, unfolding(crate::specs::Uses::another_kind_text))]
 pub fn of_another_kind(
@@ -436,6 +430,6 @@ pub fn of_another_kind(
     let introduced = introduction_of(source, token);
     tell_known(message, source, token, introduced)?;
     let behind = kind_behind(source, token, 1);
-    let in_table = is_table_index(source, token);
-    put(message, usage_before(behind, in_table, sort_in(introduced)))
+    let indexed = indexed_sort(source, token);
+    put(message, usage_before(behind, indexed, sort_in(introduced)))
 }

@@ -277,6 +277,22 @@ output y = c[x];
 = 3
 p:3:14: scope: rule 3 item 2
 ...where a stream is to choose, write a tree of choices on its bits...
+$ pipelens why p
+input x:8;
+for i in 0..3 { let t[i] = x@i; }
+output y = t[x];
+= 3
+p:3:14: scope: rule 3 item 2
+...`x` is a stream, introduced at line 1 column 7.
+An index is a constant and tells instances apart: where a stream is to choose one, compare it with each index...
+$ pipelens why p --no-warnings
+input x:8;
+input k:2;
+for i in 0..3 { let t[i] = x@i; }
+output y = k == 0 ? t[0] : k == 1 ? t[1] : t[2];
+output bit = (x >> k){0..0};
+= 0
+accepted
 ";
 
 #[test]
