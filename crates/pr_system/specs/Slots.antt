@@ -2,6 +2,7 @@
 use Rattle.std.specs.Prelude.{◌≡◌, ℕ, ◌+◌, ◌-◌, ◌%◌, ◌^◌, ◌<◌, ◌⊎◌, Bool, true, false, List, [], ◌∷◌, length, min, ⊤, Option, Some, None, IsSome, IfSome, nat_eq, if◌then◌else◌, string_bytes, slice_index_or, slice_set}
 use Rattle.std.specs.Option.{IsSomeAnd}
 use Rattle.std.specs.Cmp.Lexicographic.{pointwise}
+use Rattle.std.specs.Fs.{IsFile}
 use Rattle.std.specs.Io.KnownBytes.{Consumes}
 use Rattle.pr_system.specs.declared.opened.Opened.{Opened}
 use Rattle.pr_system.specs.declared.slots.Slot.{Slot}
@@ -48,9 +49,9 @@ pub record IsTurn {F : Type 0} (before now : List (Slot F)) (next after : ℕ) (
   pub slot : Slot F
   pub rest : now ≡ slice_set before place slot
 
--- its file is open, and a read of it may wait
+-- its file is open, and a read of it may wait: the system says that it is no regular file
 abbrev pub MayWait : {F : Type 0} → Slot F → Type 0
-MayWait s = IsSomeAnd s.opened (λ o. o.may_wait ≡ true)
+MayWait s = IsSomeAnd s.opened (λ o. IsFile o.kind → ⊥)
 
 -- its file is open, and was read up to this place
 abbrev pub IsOpenAt : {F : Type 0} → Slot F → ℕ → Type 0

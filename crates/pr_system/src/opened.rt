@@ -3,7 +3,7 @@ ghost use Rattle.std.specs.Prelude.{◌≡◌, ℕ, ◌+◌, ◌-◌, ◌^◌, �
 ghost use Rattle.std.specs.Io.KnownBytes.{ReadConsumes};
 
 use crate::TRIES;
-use std::fs::{self, OpenFile};
+use std::fs::{self, FileType, OpenFile};
 use std::io::{self, ErrorKind, Read, Seek, SeekFrom};
 use std::rt::Files;
 
@@ -12,8 +12,8 @@ use std::rt::Files;
 pub struct Opened<F> {
     pub file: F,
     pub place: u64,
-    /// Whether a read may wait: of a pipe or a terminal, say.
-    pub may_wait: bool,
+    /// What the system says it is: a regular file, a pipe or a terminal, say.
+    pub kind: FileType,
 }
 
 /// Opens the file at this place.
@@ -24,12 +24,8 @@ pub fn open_at<R: Files>(rt: &R, name: &str, place: u64) -> io::Result<Opened<R:
     if place > 0 {
         file.seek(SeekFrom::Start(place))?;
     }
-    let may_wait = !file.metadata()?.is_file();
-    Ok(Opened {
-        file,
-        place,
-        may_wait,
-    })
+    let kind = file.metadata()?.file_type();
+    Ok(Opened { file, place, kind })
 }
 
 /// Reads from where the file stands.
@@ -52,6 +48,7 @@ impl<F: Read> Opened<F> {
         ensures bound { IfOk result (λ k. k ≤ length buf.new) }
         ensures bytes { ReadConsumes (F.remaining self.old.file) (F.remaining self.new.file) result buf.new }
         ensures place { IfOk result (λ k. self.new.place ≡ min (self.old.place + k) (2 ^ 64 - 1)) }
+        ensures kind { self.new.kind ≡ self.old.kind }
     {
         let count = read_once(&mut self.file, buf)?;
         self.place = self.place.saturating_add(count as u64);

@@ -1,5 +1,5 @@
 //! The files that a shelf keeps open, each under its name.
-ghost use Rattle.std.specs.Prelude.{slice_set, vec_len, ◌<◌, ◌≡◌, ◌↔◌, ℕ, ◌+◌, ◌-◌, ◌^◌, ◌≤◌, [], length, take, None, IfOk, OnOk, IsSome, IfSome, IfNone, IsTrue, string_bytes, min};
+ghost use Rattle.std.specs.Prelude.{slice_set, vec_len, ◌<◌, ◌≡◌, ◌↔◌, ℕ, ◌+◌, ◌-◌, ◌^◌, ◌≤◌, [], length, take, None, IfOk, OnOk, IsSome, IfSome, IfNone, IsTrue, string_bytes, min, option_map};
 ghost use Rattle.pr_system.specs.Slots.{IsFirst, NoneBefore, IsOpenAt, MayWait, IsAt, GaveFrom, IsRead, IsTakenOut};
 
 use crate::gathering::{Gathering, HandedOn, hand_on};
@@ -49,12 +49,12 @@ impl<F: Read + Drop> Slot<F> {
         }
     }
 
-    /// Whether a read may wait.
+    /// Whether a read may wait: of all that is no regular file, since nothing tells whether it will.
     fn may_wait(&self) -> bool
         ensures { IsTrue result ↔ MayWait self.now }
     {
         match &self.opened {
-            Some(opened) => opened.may_wait,
+            Some(opened) => !opened.kind.is_file(),
             None => false,
         }
     }
@@ -88,6 +88,7 @@ impl<F: Read + Drop> Slot<F> {
         requires { MayWait self.old → IsSome _before }
         ensures bound { IfOk result (λ k. k ≤ length buf.new) }
         ensures name { self.new.name ≡ self.old.name }
+        ensures kind { option_map (λ o. o.kind) self.new.opened ≡ option_map (λ o. o.kind) self.old.opened }
         ensures bytes { IfOk result (λ k. (place : ℕ) →
             GaveFrom F.remaining self.old.opened self.new.opened place (take k buf.new)) }
         ensures place { IfOk result (λ k. (place : ℕ) → IsOpenAt self.old place →
