@@ -10,8 +10,8 @@ use pr_lens_source::{Source, introduced_before};
 use pr_lens_text::{put, put_counted};
 use std::alloc::AllocError;
 
-/// Adds the bytes of the tokens from one up to another, that one not included.
-fn put_tokens(
+/// Adds the bytes of the tokens from one up to another, that one not included, and nothing of what stands between them.
+pub fn put_tokens(
     message: &mut Vec<u8>,
     source: &Source,
     from: usize,

@@ -9,7 +9,7 @@ mod pieces;
 pub use brackets::{kind_behind, parts_behind, square_around};
 pub use instances::{
     is_assigned_at, is_same_instance, is_target, last_number, put_first_turn, put_instance,
-    target_around,
+    put_tokens, target_around,
 };
 pub use names::{Introduction, Sort, introduction_of, put_introduced, put_introduction};
 pub use pieces::{put_in_quotes, put_place, put_quoted};

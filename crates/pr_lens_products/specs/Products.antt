@@ -1,5 +1,5 @@
 -- Products in a text that can be made with fewer units.
-use Rattle.std.specs.Prelude.{ℕ, ◌+◌, ◌-◌, Bool, true, false, List, Option, None, Some, option_map}
+use Rattle.std.specs.Prelude.{ℕ, ◌+◌, Bool, true, false, List, Option, None, Some, option_map}
 use Rattle.std.specs.Option.{option_and_then, option_or}
 use Rattle.pr_lang.specs.declared.tokens.Token.{Token}
 use Rattle.pr_lens_source.specs.declared.sources.Span.{Span}
@@ -16,14 +16,14 @@ abbrev pub product_of : Bool → Option ℕ → Option ℕ → Option Product
 product_of reversed (Some width) (Some number) = Some (record { width = width; number = number; reversed = reversed })
 product_of reversed width number = None
 
--- the tokens from one to another
+-- the tokens from one up to another, that one not included
 abbrev pub part : ℕ → ℕ → Part
-part first last = record { first = first; last = last }
+part first end = record { first = first; end = end }
 
 -- the product of a sign, of which the factor before it is the number or is not
 abbrev pub cheap_at : List Token → ℕ → Bool → Cheaper → CheapProduct
 cheap_at tokens at reversed cheaper =
-    record { before = part (left_of tokens at) (at - 1); behind = part (at + 1) (right_of tokens at); reversed = reversed; cheaper = cheaper }
+    record { before = part (left_of tokens at) at; behind = part (at + 1) (right_of tokens at + 1); reversed = reversed; cheaper = cheaper }
 
 -- the stream stands before the sign of a product, and the constant behind it
 abbrev pub stream_before : List ℕ → List Token → List Span → ℕ → Option CheapProduct

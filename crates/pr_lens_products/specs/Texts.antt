@@ -1,7 +1,7 @@
 -- What is told of a product that can be made with fewer units.
-use Rattle.std.specs.Prelude.{ℕ, ◌==◌, List, ◌++◌, codes, decimal, slice_range, if◌then◌else◌}
+use Rattle.std.specs.Prelude.{ℕ, ◌==◌, List, ◌++◌, codes, decimal, if◌then◌else◌}
 use Rattle.pr_lang.specs.declared.tokens.Token.{Token}
-use Rattle.pr_lens_source.specs.Tokens.{start_of, end_of}
+use Rattle.pr_lens_names.specs.Instances.{tokens_text}
 use Rattle.pr_lens_names.specs.Pieces.{quoted}
 use Rattle.pr_lens_products.specs.declared.products.CheapProduct.{CheapProduct}
 use Rattle.pr_lens_products.specs.declared.products.Part.{Part}
@@ -10,9 +10,13 @@ use Rattle.pr_lens_products.specs.declared.shifts.Shifts.TheVariants.{One, Sum, 
 use Rattle.pr_lens_products.specs.declared.units.Way.{Way}
 use Rattle.pr_lens_products.specs.declared.units.Way.TheVariants.{Shifted, Swapped}
 
--- tokens as they stand in the text, with what is between them
+-- tokens as they stand in the text, without the blanks and comments between them
 abbrev pub part_text : List ℕ → List Token → Part → List ℕ
-part_text text tokens p = slice_range text (start_of text tokens p.first) (end_of text tokens p.last)
+part_text text tokens p = tokens_text text tokens p.first p.end
+
+-- a product of these factors
+unfoldable pub factors_text : List ℕ → List Token → Part → Part → List ℕ
+factors_text text tokens one other = part_text text tokens one ++ codes " * " ++ part_text text tokens other
 
 -- a stream that is shifted
 abbrev pub shifted_text : List ℕ → ℕ → List ℕ
@@ -33,21 +37,14 @@ unit_word n = if n == 1 then codes " unit, and `" else codes " units, and `"
 unfoldable pub units_text : ℕ → List ℕ
 units_text n = codes " takes " ++ decimal n ++ unit_word n
 
--- the tokens of a product
-abbrev pub whole_of : CheapProduct → Part
-whole_of p = record { first = p.before.first; last = p.behind.last }
-
 -- the factor that is a stream
 abbrev pub stream_of : CheapProduct → Part
 stream_of p = if p.reversed then p.behind else p.before
 
--- the factors in the other order
-unfoldable pub swapped_text : List ℕ → List Token → CheapProduct → List ℕ
-swapped_text text tokens p = part_text text tokens p.behind ++ codes " * " ++ part_text text tokens p.before
-
+-- shifts, or the factors in the other order
 abbrev pub way_text : List ℕ → List Token → CheapProduct → Way → List ℕ
 way_text text tokens p (Shifted shifts) = shifts_text (part_text text tokens (stream_of p)) shifts
-way_text text tokens p Swapped = swapped_text text tokens p
+way_text text tokens p Swapped = factors_text text tokens p.behind p.before
 
 unfoldable pub made_text : List ℕ → List Token → CheapProduct → List ℕ
 made_text text tokens p =
@@ -60,4 +57,4 @@ width_text way = codes "it gives the same numbers, and is as wide.\n"
 
 unfoldable pub cheap_text : List ℕ → List Token → CheapProduct → List ℕ
 cheap_text text tokens p =
-    quoted (part_text text tokens (whole_of p)) ++ units_text p.cheaper.product ++ made_text text tokens p ++ width_text p.cheaper.way
+    quoted (factors_text text tokens p.before p.behind) ++ units_text p.cheaper.product ++ made_text text tokens p ++ width_text p.cheaper.way

@@ -15,8 +15,8 @@ use pr_lens_tokens::constant_at;
 pub struct Part {
     /// The number of the first one.
     pub first: usize,
-    /// That of the last one.
-    pub last: usize,
+    /// That of the one behind the last.
+    pub end: usize,
 }
 
 /// A product in a text that can be made with fewer units.
@@ -40,11 +40,11 @@ fn cheap_at(source: &Source, at: usize, reversed: bool, cheaper: Cheaper) -> Che
     CheapProduct {
         before: Part {
             first: left_of(source, at),
-            last: at.saturating_sub(1),
+            end: at,
         },
         behind: Part {
             first: at + 1,
-            last: right_of(source, at),
+            end: right_of(source, at) + 1,
         },
         reversed,
         cheaper,

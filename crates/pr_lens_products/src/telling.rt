@@ -2,38 +2,70 @@
 
 ghost use Rattle.std.specs.Prelude.{◌≡◌, ◌++◌, OnOk};
 ghost use Rattle.pr_lens_names.specs.Pieces.{quoted};
-ghost use Rattle.pr_lens_products.specs.Texts.{cheap_text, made_text, part_text, shifted_text, shifts_text, stream_of, swapped_text, two_text, unit_word, units_text, way_text, whole_of, width_text};
+ghost use Rattle.pr_lens_products.specs.Texts.{cheap_text, factors_text, made_text, part_text, shifted_text, shifts_text, stream_of, two_text, unit_word, units_text, way_text, width_text};
 
 use crate::products::{CheapProduct, Part};
 use crate::shifts::Shifts;
 use crate::units::Way;
-use pr_lens_names::put_in_quotes;
+use pr_lens_names::put_tokens;
 use pr_lens_source::Source;
 use pr_lens_text::{put, put_number};
 use std::alloc::AllocError;
 
-/// Tokens as they stand in the text.
-fn part_text<'a>(source: &Source<'a>, part: Part) -> &'a [u8]
-    ensures { result.now ≡ part_text source.now.text.now source.now.tokens.now part }
+/// Tells tokens as they stand in the text, without the blanks and comments between them.
+fn put_part(message: &mut Vec<u8>, source: &Source, part: Part) -> Result<(), AllocError>
+    ensures { OnOk result (message.new.items
+        ≡ message.old.items ++ part_text source.now.text.now source.now.tokens.now part) }
 {
-    let start = source.start(part.first);
-    let end = source.end(part.last);
-    if start <= end {
-        &source.text[start..end]
-    } else {
-        &[]
-    }
+    put_tokens(message, source, part.first, part.end)
+}
+
+/// Tells a product of these factors.
+#[tactic(auto, unfolding(crate::specs::Texts::factors_text))]
+fn put_factors(
+    message: &mut Vec<u8>,
+    source: &Source,
+    one: Part,
+    other: Part,
+) -> Result<(), AllocError>
+    ensures { OnOk result (message.new.items
+        ≡ message.old.items ++ factors_text source.now.text.now source.now.tokens.now one other) }
+{
+    put_part(message, source, one)?;
+    put(message, " * ")?;
+    put_part(message, source, other)
+}
+
+/// Tells a product in quotes.
+#[tactic(auto, unfolding(pr_lens_names::specs::Pieces::quoted))]
+fn put_product(
+    message: &mut Vec<u8>,
+    source: &Source,
+    cheap: &CheapProduct,
+) -> Result<(), AllocError>
+    ensures { OnOk result (message.new.items ≡ message.old.items
+        ++ quoted (factors_text source.now.text.now source.now.tokens.now cheap.now.before cheap.now.behind)) }
+{
+    put(message, "`")?;
+    put_factors(message, source, cheap.before, cheap.behind)?;
+    put(message, "`")
 }
 
 /// Tells a stream that is shifted.
-fn put_shifted(message: &mut Vec<u8>, name: &[u8], by: u8) -> Result<(), AllocError>
-    ensures { OnOk result (message.new.items ≡ message.old.items ++ shifted_text name.now by) }
+fn put_shifted(
+    message: &mut Vec<u8>,
+    source: &Source,
+    stream: Part,
+    by: u8,
+) -> Result<(), AllocError>
+    ensures { OnOk result (message.new.items
+        ≡ message.old.items ++ shifted_text (part_text source.now.text.now source.now.tokens.now stream) by) }
 {
     if by == 0 {
-        return message.extend_from_slice(name);
+        return put_part(message, source, stream);
     }
     put(message, "(")?;
-    message.extend_from_slice(name)?;
+    put_part(message, source, stream)?;
     put(message, " << ")?;
     put_number(message, usize::from(by))?;
     put(message, ")")
@@ -43,28 +75,36 @@ fn put_shifted(message: &mut Vec<u8>, name: &[u8], by: u8) -> Result<(), AllocEr
 #[tactic(auto, unfolding(crate::specs::Texts::two_text))]
 fn put_two(
     message: &mut Vec<u8>,
-    name: &[u8],
+    source: &Source,
+    stream: Part,
     one: u8,
     sign: &str,
     other: u8,
 ) -> Result<(), AllocError>
-    ensures { OnOk result (message.new.items ≡ message.old.items ++ two_text name.now one sign.now other) }
+    ensures { OnOk result (message.new.items ≡ message.old.items
+        ++ two_text (part_text source.now.text.now source.now.tokens.now stream) one sign.now other) }
 {
     put(message, "(")?;
-    put_shifted(message, name, one)?;
+    put_shifted(message, source, stream, one)?;
     put(message, sign)?;
-    put_shifted(message, name, other)?;
+    put_shifted(message, source, stream, other)?;
     put(message, ")")
 }
 
 /// Tells shifts of a stream.
-fn put_shifts(message: &mut Vec<u8>, name: &[u8], shifts: Shifts) -> Result<(), AllocError>
-    ensures { OnOk result (message.new.items ≡ message.old.items ++ shifts_text name.now shifts) }
+fn put_shifts(
+    message: &mut Vec<u8>,
+    source: &Source,
+    stream: Part,
+    shifts: Shifts,
+) -> Result<(), AllocError>
+    ensures { OnOk result (message.new.items ≡ message.old.items
+        ++ shifts_text (part_text source.now.text.now source.now.tokens.now stream) shifts) }
 {
     match shifts {
-        Shifts::One { by } => put_shifted(message, name, by),
-        Shifts::Sum { by, and } => put_two(message, name, by, " + ", and),
-        Shifts::Difference { by, less } => put_two(message, name, by, " - ", less),
+        Shifts::One { by } => put_shifted(message, source, stream, by),
+        Shifts::Sum { by, and } => put_two(message, source, stream, by, " + ", and),
+        Shifts::Difference { by, less } => put_two(message, source, stream, by, " - ", less),
     }
 }
 
@@ -89,16 +129,6 @@ fn put_units(message: &mut Vec<u8>, units: u32) -> Result<(), AllocError>
     put(message, unit_word(units))
 }
 
-/// The tokens of a product.
-fn whole_of(cheap: &CheapProduct) -> Part
-    ensures { result ≡ whole_of cheap.now }
-{
-    Part {
-        first: cheap.before.first,
-        last: cheap.behind.last,
-    }
-}
-
 /// The factor that is a stream.
 fn stream_of(cheap: &CheapProduct) -> Part
     ensures { result ≡ stream_of cheap.now }
@@ -110,29 +140,14 @@ fn stream_of(cheap: &CheapProduct) -> Part
     }
 }
 
-/// Tells the factors in the other order.
-#[tactic(auto, unfolding(crate::specs::Texts::swapped_text))]
-fn put_swapped(
-    message: &mut Vec<u8>,
-    source: &Source,
-    cheap: &CheapProduct,
-) -> Result<(), AllocError>
-    ensures { OnOk result (message.new.items
-        ≡ message.old.items ++ swapped_text source.now.text.now source.now.tokens.now cheap.now) }
-{
-    message.extend_from_slice(part_text(source, cheap.behind))?;
-    put(message, " * ")?;
-    message.extend_from_slice(part_text(source, cheap.before))
-}
-
 /// Tells the other way to make a product.
 fn put_way(message: &mut Vec<u8>, source: &Source, cheap: &CheapProduct) -> Result<(), AllocError>
     ensures { OnOk result (message.new.items
         ≡ message.old.items ++ way_text source.now.text.now source.now.tokens.now cheap.now cheap.now.cheaper.way) }
 {
     match cheap.cheaper.way {
-        Way::Shifted { shifts } => put_shifts(message, part_text(source, stream_of(cheap)), shifts),
-        Way::Swapped => put_swapped(message, source, cheap),
+        Way::Shifted { shifts } => put_shifts(message, source, stream_of(cheap), shifts),
+        Way::Swapped => put_factors(message, source, cheap.behind, cheap.before),
     }
 }
 
@@ -163,14 +178,6 @@ fn put_width(message: &mut Vec<u8>, way: Way) -> Result<(), AllocError>
     }
 }
 
-/// Tells a part of the text in quotes.
-fn put_part(message: &mut Vec<u8>, source: &Source, part: Part) -> Result<(), AllocError>
-    ensures { OnOk result (message.new.items
-        ≡ message.old.items ++ quoted (part_text source.now.text.now source.now.tokens.now part)) }
-{
-    put_in_quotes(message, part_text(source, part))
-}
-
 /// Tells that a product can be made with fewer units.
 #[tactic(auto, unfolding(crate::specs::Texts::cheap_text))]
 pub fn put_cheap(
@@ -181,7 +188,7 @@ pub fn put_cheap(
     ensures { OnOk result (message.new.items
         ≡ message.old.items ++ cheap_text source.now.text.now source.now.tokens.now cheap.now) }
 {
-    put_part(message, source, whole_of(cheap))?;
+    put_product(message, source, cheap)?;
     put_units(message, cheap.cheaper.product)?;
     put_made(message, source, cheap)?;
     put_width(message, cheap.cheaper.way)

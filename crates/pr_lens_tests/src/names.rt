@@ -98,6 +98,18 @@ No output needs `d` with the indices 4 to 8 in the order of assignment: the dela
 Let it end before, with what reads its end, or see whether an output should read on.
 $ pipelens why p
 input x:8;
+let d[0] = x;
+for i in 1..9 { let d[i] = d[i-1]@1; }
+for i in 9..9 { let d[i] = d[i-1]@1; }
+output y = d[0] + d[3];
+= 0
+accepted
+p:4:21: warning: long-delay
+  4 | for i in 9..9 { let d[i] = d[i-1]@1; }
+    |                     ^
+No output needs `d` with the indices 4 to 8 in the order of assignment: ...
+$ pipelens why p
+input x:8;
 let d[0]:6 = x;
 for i in 1..4 { let d[i]:6 = d[i-1]@1; }
 output y = d[0] + d[2];

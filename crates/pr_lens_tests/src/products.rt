@@ -25,7 +25,7 @@ accepted
 p:3:14: warning: cheap-product
   3 | let s = 1 + k*x;
     |              ^
-`k*x` takes 8 units, and `((x << 8) - x)` takes 1.
+`k * x` takes 8 units, and `((x << 8) - x)` takes 1.
 Write this in the place of the product: it gives the same numbers, and is as wide.
 $ pipelens why p
 input x:8;
@@ -105,7 +105,7 @@ accepted
 p:4:21: warning: cheap-product
   4 | rec s:8 = 0 by x + k*s@1;
     |                     ^
-`k*s@1` takes 8 units, and `s@1 * k` takes 4.
+`k * s@1` takes 8 units, and `s@1 * k` takes 4.
 Write this in the place of the product: it gives the same numbers, and is as wide.
 p:5:13: warning: cheap-product
   5 | let low = 3 * x@2;
@@ -140,6 +140,45 @@ output y = x * 18446744073709551615;
 = 0
 ...`x * 18446744073709551615` takes 192 units, and `((x << 64) - x)` takes 4.
 ...
+";
+
+/// Products with comments and blanks in them, which are left out of what is told of their factors.
+const COMMENTED_PRODUCTS: &str = "\
+$ pipelens why p
+input x:32;
+output y:64 = x // \x1b[31m
+ @1 * 14 ^ x;
+= 0
+accepted
+p:3:5: warning: cheap-product
+  3 |  @1 * 14 ^ x;
+    |     ^
+`x@1 * 14` takes 8 units, and `((x@1 << 4) - (x@1 << 1))` takes 4.
+Write this in the place of the product: it gives the same numbers, and is as wide.
+$ pipelens why p
+input x:8;
+output y = 11 // \x1b[31m
+ *\tx // \x07
+ @ 2 + 3;
+= 0
+accepted
+p:3:2: warning: cheap-product
+  3 |  *\tx // \\x07
+    |  ^
+`11 * x@2` takes 8 units, and `x@2 * 11` takes 4.
+Write this in the place of the product: it gives the same numbers, and is as wide.
+$ pipelens why p
+input x:8;
+output y = x // \x1b[31m
+ * 1;
+= 0
+accepted
+p:3:2: warning: cheap-product
+  3 |  * 1;
+    |  ^
+`x * 1` takes 1 unit, and `x` takes 0.
+Write this in the place of the product: it gives the same numbers, and has one bit less.
+See whether a difference, `~`, `signed`, a slice or `cat` reads this bit.
 ";
 
 /// Products by a constant that are as cheap as shifts, that more shifts make, or of which not enough is known.
@@ -188,6 +227,11 @@ Write this in the place of the product: it gives the same numbers, and is as wid
 #[test]
 fn cheap_products(rt: HostRuntime) -> Result<(), AllocError> {
     check_calls(&rt, rt.alloc(), "", PRODUCTS)
+}
+
+#[test]
+fn products_with_comments(rt: HostRuntime) -> Result<(), AllocError> {
+    check_calls(&rt, rt.alloc(), "", COMMENTED_PRODUCTS)
 }
 
 #[test]
