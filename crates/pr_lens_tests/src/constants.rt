@@ -180,7 +180,7 @@ p:3:17: warning: constant-shift
   3 | output y = x << k;
     |                 ^
 A shift by a stream takes more units than one by a constant, and `k` is always 3.
-Write `const` in place of `let` where it is introduced.
+Introduce it by `const`, with this number and without a width, or shift by the number.
 $ pipelens why p
 input x:8;
 fn f(a) { let k = 1; return a >> k; }
@@ -191,12 +191,38 @@ p:2:34: warning: constant-shift
 ...and `k` is always 1...
 $ pipelens why p
 input x:8;
+let k:3 = 4;
+let low:2 = 7;
+output y = (x >> k) + (x << low);
+= 0
+accepted
+p:4:18: warning: constant-shift
+  4 | output y = (x >> k) + (x << low);
+    |                  ^
+A shift by a stream takes more units than one by a constant, and `k` is always 4.
+Introduce it by `const`, with this number and without a width, or shift by the number.
+p:4:29: warning: constant-shift
+  4 | output y = (x >> k) + (x << low);
+    |                             ^^^
+A shift by a stream takes more units than one by a constant, and `low` is always 3.
+Introduce it by `const`, with this number and without a width, or shift by the number.
+$ pipelens why p
+input x:8;
+let k:64 = 18446744073709551615;
+output y = x >> k;
+= 0
+...and `k` is always 18446744073709551615...
+$ pipelens why p
+input x:8;
 input n:3;
 const c = 3;
 let k = 3;
 let few = x{1..0};
+let same = c;
+let sum:4 = 1 + 2;
 let t[0] = 3;
-output y = (x << n) + (x << c) + (x >> few) + (x >> k + n) + (x << t[0]) + (k << 1);
+fn f(a, m:2) { return a >> m; }
+output y = (x << n) + (x << c) + (x >> few) + (x >> k + n) + (x << t[0]) + (k << 1) + (x << same) + (x >> sum) + f(x, 3);
 = 0
 accepted
 ";

@@ -162,7 +162,7 @@ fn put_amount(
     put_counted(message, " is always ", number as usize)?;
     put(
         message,
-        ".\nWrite `const` in place of `let` where it is introduced.\n",
+        ".\nIntroduce it by `const`, with this number and without a width, or shift by the number.\n",
     )
 }
 
