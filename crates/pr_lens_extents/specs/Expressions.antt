@@ -11,7 +11,7 @@ use Rattle.pr_lens_extents.specs.declared.verdicts.Verdict.TheVariants.{Unseen}
 use Rattle.pr_lens_reach.specs.Extents.{beside, binary_of, choice_of, constant, no_parts, not_of, past_of, signed_of, slice_of}
 use Rattle.pr_lens_extents.specs.Verdicts.{cut_of, first_said, negative_of, verdict_on}
 use Rattle.pr_lens_extents.specs.Scenes.{Seen, fixed_value, known_of_target}
-use Rattle.pr_lens_extents.specs.Parameters.{is_marked, is_signed}
+use Rattle.pr_lens_extents.specs.Parameters.{is_signed, signs_at}
 
 abbrev pub compares : BinOp → Bool
 compares Equal = true
@@ -41,7 +41,7 @@ all_verdicts (r ∷ rs) seen = r.verdicts seen ++ all_verdicts rs seen
 
 -- ---- calls
 abbrev pub argument_verdict : List ℕ → ℕ → Option Extent → Seen → Verdict
-argument_verdict function at e seen = if is_marked function at seen then negative_of at e else Unseen
+argument_verdict function at e seen = if signs_at function at seen then negative_of at e else Unseen
 
 -- the first of the arguments from this one on of which something is said
 abbrev pub arguments_verdict : List ℕ → ℕ → List Reading → Seen → Verdict

@@ -17,6 +17,7 @@ is_signed name = bytes_eq name (codes "signed")
 abbrev pub is_marked : List ℕ → ℕ → Seen → Bool
 is_marked function place seen = is_some (placed (seen.signs function) (Some place))
 
+-- the same, or it is `signed` itself
 abbrev pub signs_at : List ℕ → ℕ → Seen → Bool
 signs_at function place seen = is_signed function || is_marked function place seen
 

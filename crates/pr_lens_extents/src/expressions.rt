@@ -4,7 +4,7 @@ ghost use Rattle.std.specs.Prelude.{◌≡◌, ◌++◌, map, option_map, OnOk};
 ghost use Rattle.pr_lens_extents.specs.Expressions.{all_verdicts, argument_verdict, arguments_verdict, assigned_verdicts, blank_width, call_verdict, call_verdicts, called, compares, concatenated, extent_of, judged, outer_of, reading_of, repeated_verdicts, verdicts_of, width_verdict, width_verdicts};
 ghost use Rattle.pr_lens_extents.specs.Scenes.{seen_in};
 
-use crate::parameters::{is_marked, is_signed};
+use crate::parameters::{is_signed, signs_at};
 use crate::scenes::{Scene, fixed_value, known_of};
 use crate::verdicts::{Verdict, cut_of, negative_of, verdict_on};
 use pr_lang::{BinOp, Expr, Name};
@@ -93,7 +93,7 @@ fn judged(scene: Option<&Scene>, op: BinOp, left: &Expr, right: &Expr) -> Verdic
 fn argument_verdict(scene: &Scene, function: &Name, at: u64, extent: Option<Extent>) -> Verdict
     ensures { result ≡ argument_verdict function.now at extent (seen_in scene.now) }
 {
-    if is_marked(scene, function, at) {
+    if signs_at(scene, function, at) {
         return negative_of(at, extent);
     }
     Verdict::Unseen

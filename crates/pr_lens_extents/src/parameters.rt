@@ -15,7 +15,7 @@ pub fn is_signed(name: &Name) -> bool
 }
 
 /// Whether a function that was introduced reads the argument at this place by `signed`.
-pub fn is_marked(scene: &Scene, function: &Name, place: u64) -> bool
+fn is_marked(scene: &Scene, function: &Name, place: u64) -> bool
     ensures { result ≡ is_marked function.now place (seen_in scene.now) }
 {
     match scene.signs.get(function, Some(place)) {
@@ -24,7 +24,8 @@ pub fn is_marked(scene: &Scene, function: &Name, place: u64) -> bool
     }
 }
 
-fn signs_at(scene: &Scene, function: &Name, place: u64) -> bool
+/// Whether a function reads the argument at this place by `signed`; `signed` itself does.
+pub fn signs_at(scene: &Scene, function: &Name, place: u64) -> bool
     ensures { result ≡ signs_at function.now place (seen_in scene.now) }
 {
     is_signed(function) || is_marked(scene, function, place)

@@ -6,3 +6,4 @@ mod rules;
 mod uses;
 
 pub use rules::tell;
+pub use uses::is_signed;

@@ -38,7 +38,7 @@ fn alone_text(signed: bool) -> &'static str
 }
 
 /// Whether this is the name of the function that is there from the beginning.
-fn is_signed(source: &Source, token: usize) -> bool
+pub fn is_signed(source: &Source, token: usize) -> bool
     ensures { result ≡ is_signed source.now.text.now source.now.tokens.now token }
 {
     source.bytes(token) == b"signed".as_slice()

@@ -60,6 +60,66 @@ fn signed_constants(rt: HostRuntime) -> Result<(), AllocError> {
     check_calls(&rt, rt.alloc(), "", SIGNED)
 }
 
+/// `signed` of constants that are not written as one number.
+const SIGNED_ENTRIES: &str = "\
+$ pipelens why p
+input x:8;
+const c = [3, 10, 253];
+const k = 4 + 8;
+let a = signed(x) * signed(c[0 + 1]);
+let b = signed(k) + signed((12));
+for i in 0..3 { let s[i] = signed(c[i]) + signed(i) + x; }
+fn f(a) { return a + signed(7 * 7) + signed(4 + 8); }
+output y = f(a) + b + s[0] + s[1] + s[2];
+= 0
+accepted
+p:4:21: warning: signed-constant
+  4 | let a = signed(x) * signed(c[0 + 1]);
+    |                     ^^^^^^
+This is -6: `signed` takes the highest bit of a number as its sign, and 10 has the width 4.
+Write 10 without `signed` for the number itself, which operators take as it is. A negative one has a declared width: with `let k:8 = 252;` `signed(k)` is -4.
+p:5:9: warning: signed-constant
+  5 | let b = signed(k) + signed((12));
+    |         ^^^^^^
+This is -4: `signed` takes the highest bit of a number as its sign, and 12 has the width 4.
+Write 12 without `signed` for the number itself, which operators take as it is. A negative one has a declared width: with `let k:8 = 252;` `signed(k)` is -4.
+p:5:21: warning: signed-constant
+  5 | let b = signed(k) + signed((12));
+    |                     ^^^^^^
+This is -4: `signed` takes the highest bit of a number as its sign, and 12 has the width 4.
+Write 12 without `signed` for the number itself, which operators take as it is. A negative one has a declared width: with `let k:8 = 252;` `signed(k)` is -4.
+p:6:28: warning: signed-constant
+  6 | for i in 0..3 { let s[i] = signed(c[i]) + signed(i) + x; }
+    |                            ^^^^^^
+This is -1: `signed` takes the highest bit of a number as its sign, and 3 has the width 2.
+Write 3 without `signed` for the number itself, which operators take as it is. A negative one has a declared width: with `let k:8 = 252;` `signed(k)` is -4.
+p:6:43: warning: signed-constant
+  6 | for i in 0..3 { let s[i] = signed(c[i]) + signed(i) + x; }
+    |                                           ^^^^^^
+This is -1: `signed` takes the highest bit of a number as its sign, and 1 has the width 1.
+Write 1 without `signed` for the number itself, which operators take as it is. A negative one has a declared width: with `let k:8 = 252;` `signed(k)` is -4.
+p:7:22: warning: signed-constant
+  7 | fn f(a) { return a + signed(7 * 7) + signed(4 + 8); }
+    |                      ^^^^^^
+This is -15: `signed` takes the highest bit of a number as its sign, and 49 has the width 6.
+Write 49 without `signed` for the number itself, which operators take as it is. A negative one has a declared width: with `let k:8 = 252;` `signed(k)` is -4.
+$ pipelens why p
+input x:8;
+const c = [0, 253];
+let m = 12;
+fn f(k) { return signed(k) + signed(c[0]); }
+let s[0] = x;
+for i in 3..3 { let s[i] = signed(c[1]) + x; }
+output y = f(x) + s[0] + signed(m) + signed(4 + 3) + signed(m + 9) + signed(x{3..0});
+= 0
+accepted
+";
+
+#[test]
+fn signed_entries(rt: HostRuntime) -> Result<(), AllocError> {
+    check_calls(&rt, rt.alloc(), "", SIGNED_ENTRIES)
+}
+
 /// Constants that functions read by `signed`.
 const ARGUMENTS: &str = "\
 $ pipelens why p
@@ -180,7 +240,7 @@ p:3:17: warning: constant-shift
   3 | output y = x << k;
     |                 ^
 A shift by a stream takes more units than one by a constant, and `k` is always 3.
-Write `const` in place of `let` where it is introduced.
+Introduce it by `const`, with this number and without a width, or shift by the number.
 $ pipelens why p
 input x:8;
 fn f(a) { let k = 1; return a >> k; }
@@ -191,12 +251,38 @@ p:2:34: warning: constant-shift
 ...and `k` is always 1...
 $ pipelens why p
 input x:8;
+let k:3 = 4;
+let low:2 = 7;
+output y = (x >> k) + (x << low);
+= 0
+accepted
+p:4:18: warning: constant-shift
+  4 | output y = (x >> k) + (x << low);
+    |                  ^
+A shift by a stream takes more units than one by a constant, and `k` is always 4.
+Introduce it by `const`, with this number and without a width, or shift by the number.
+p:4:29: warning: constant-shift
+  4 | output y = (x >> k) + (x << low);
+    |                             ^^^
+A shift by a stream takes more units than one by a constant, and `low` is always 3.
+Introduce it by `const`, with this number and without a width, or shift by the number.
+$ pipelens why p
+input x:8;
+let k:64 = 18446744073709551615;
+output y = x >> k;
+= 0
+...and `k` is always 18446744073709551615...
+$ pipelens why p
+input x:8;
 input n:3;
 const c = 3;
 let k = 3;
 let few = x{1..0};
+let same = c;
+let sum:4 = 1 + 2;
 let t[0] = 3;
-output y = (x << n) + (x << c) + (x >> few) + (x >> k + n) + (x << t[0]) + (k << 1);
+fn f(a, m:2) { return a >> m; }
+output y = (x << n) + (x << c) + (x >> few) + (x >> k + n) + (x << t[0]) + (k << 1) + (x << same) + (x >> sum) + f(x, 3);
 = 0
 accepted
 ";

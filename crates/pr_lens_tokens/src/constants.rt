@@ -2,9 +2,9 @@
 
 ghost use Rattle.std.specs.Prelude.{◌≡◌, ◌+◌, ◌<◌, ◌≤◌, length};
 ghost use Rattle.pr_lens_source.specs.Introduced.{introduced_before};
-ghost use Rattle.pr_lens_tokens.specs.Constants.{constant_at, is_word_of, number_by, number_named, sole_number};
+ghost use Rattle.pr_lens_tokens.specs.Constants.{constant_at, is_word_of, kept_number, low_bits, number_behind, number_by, number_named, sole_number};
 
-use crate::kinds::{is_const, is_let, is_semi};
+use crate::kinds::{is_colon, is_const, is_let, is_semi};
 use pr_lang::Kind;
 use pr_lens_source::{Source, introduced_before};
 
@@ -16,6 +16,42 @@ fn sole_number(kind: Kind, behind: Kind) -> Option<u64>
         Kind::Number(number) => { if is_semi(behind) { Some(number) } else { None } }
         _ => None,
     }
+}
+
+/// What a declared width keeps of a number.
+fn low_bits(width: u64, number: u64) -> u64
+    ensures { result ≡ low_bits width number }
+{
+    if width < 64 {
+        number % (1 << width)
+    } else {
+        number
+    }
+}
+
+/// The same, where both are known.
+fn kept_number(width: Kind, number: Option<u64>) -> Option<u64>
+    ensures { result ≡ kept_number width number }
+{
+    match width {
+        Kind::Number(width) => match number {
+            None => None,
+            Some(number) => Some(low_bits(width, number)),
+        },
+        _ => None,
+    }
+}
+
+/// The number that is behind a name, with a declared width or without one.
+fn number_behind(source: &Source, name: usize) -> Option<u64>
+    requires { name < length source.now.tokens.now + 2 }
+    ensures { result ≡ number_behind source.now.tokens.now name }
+{
+    if is_colon(source.kind(name + 1)) {
+        let number = sole_number(source.kind(name + 4), source.kind(name + 5));
+        return kept_number(source.kind(name + 2), number);
+    }
+    sole_number(source.kind(name + 2), source.kind(name + 3))
 }
 
 /// What a name can be introduced as.
@@ -44,7 +80,7 @@ fn number_named(named: Named, source: &Source, name: usize) -> Option<u64>
     ensures { result ≡ number_named named source.now.tokens.now name }
 {
     if is_word_of(named, source.kind(name.saturating_sub(1))) {
-        sole_number(source.kind(name + 2), source.kind(name + 3))
+        number_behind(source, name)
     } else {
         None
     }

@@ -1,5 +1,5 @@
 -- Marks, one set after the other.
-use Rattle.std.proofs.Common.{◌≡◌, ◌∙◌, ◌+◌, ◌-◌, ◌<◌, ◌≤◌, ◌++◌, ℕ, zero, suc, Bool, true, false, List, [], ◌∷◌, length, map, take, drop, get_or, set, inl, inr, refl, sym, ap, subst, arith, get_or-set_same, get_or-set_other}
+use Rattle.std.proofs.Common.{◌≡◌, ◌∙◌, ◌+◌, ◌<◌, ◌≤◌, ◌++◌, ℕ, zero, suc, Bool, true, false, List, [], ◌∷◌, length, map, take, drop, get_or, set, inl, inr, refl, sym, ap, subst, arith, get_or-set_same, get_or-set_other}
 use Rattle.std.specs.Prelude.{not}
 use Rattle.std.proofs.lemmas.Bool.{cases_eq, cases_lt}
 use Rattle.std.proofs.lemmas.List.{length-map, take-append-le, take_all}
@@ -9,7 +9,7 @@ use Rattle.pr_lens_source.specs.declared.sources.Span.{Span}
 use Rattle.pr_lens_source.specs.Ranges.{one_where}
 use Rattle.pr_lens_source.specs.Tokens.{kind_of}
 use Rattle.pr_lens_tokens.specs.Kinds.{yields}
-use Rattle.pr_lens_warn.specs.Needs.{AreNeeded, AreSettled, AreSound, IsNeeded, IsSettled, IsUnusedBetween, IsUsed, Yields, Serves, Uses, is_assigned, is_marked, unmarked}
+use Rattle.pr_lens_warn.specs.Needs.{AreNeeded, AreSettled, AreSound, IsNeeded, IsSettled, IsUnusedBetween, IsUsed, Yields, Serves, is_assigned, is_marked, unmarked}
 
 -- a mark that is set is one less that is not
 pub marked_fewer : (marks : List Bool) (at : ℕ) → at < length marks → is_marked marks at ≡ false → unmarked (set marks at true) + 1 ≡ unmarked marks

@@ -11,6 +11,7 @@ use Rattle.pr_lens_source.specs.Tokens.{kind_of}
 use Rattle.pr_lens_extents.specs.declared.verdicts.Verdict.{Verdict}
 use Rattle.pr_lens_extents.specs.declared.verdicts.Verdict.TheVariants.{Unseen, Always, Varies, Cut, Negative}
 use Rattle.pr_lens_extents.specs.Programs.{program_verdicts}
+use Rattle.pr_lens_rules.specs.Uses.{is_signed}
 use Rattle.pr_lens_tokens.specs.Kinds.{is_assign, is_colon, is_comparison, is_number}
 use Rattle.pr_lens_warn.specs.declared.remarks.Remark.{Remark}
 use Rattle.pr_lens_warn.specs.declared.remarks.Remark.TheVariants.{Settled, Narrow, Argument}
@@ -46,14 +47,19 @@ by_tokens tokens verdicts = verdicts_from tokens verdicts (length tokens) 0 0
 abbrev pub introduction_of : List ℕ → List Token → List Span → ℕ → ℕ
 introduction_of text tokens spans at = unwrap_or (introduced_before text tokens spans at) at
 
+-- what is pointed out of a call with a constant that is read by `signed`: by the call itself, or by the function
+abbrev pub read_signed : List ℕ → List Token → List Span → ℕ → ℕ → ℕ → ℕ → ℕ → Remark
+read_signed text tokens spans at argument number width below =
+    if is_signed text tokens at then Remark.Negative number width below
+    else Argument argument number width below (introduction_of text tokens spans at)
+
 -- what is pointed out of a token with this verdict
 abbrev pub settled : List ℕ → List Token → List Span → ℕ → Verdict → Option Remark
 settled text tokens spans at Unseen = None
 settled text tokens spans at Varies = None
 settled text tokens spans at (Always answer left right) = Some (Settled answer left right)
 settled text tokens spans at (Cut form reach) = Some (Narrow form reach)
-settled text tokens spans at (Negative argument number width below) =
-    Some (Argument argument number width below (introduction_of text tokens spans at))
+settled text tokens spans at (Negative argument number width below) = Some (read_signed text tokens spans at argument number width below)
 
 abbrev pub verdicts_in : Option Program → List Verdict
 verdicts_in None = []

@@ -73,7 +73,7 @@ long_text text tokens token first last =
 unfoldable pub amount_text : List ℕ → List Token → ℕ → ℕ → List ℕ
 amount_text text tokens token number =
     codes "A shift by a stream takes more units than one by a constant, and " ++ token_text text tokens token ++ codes " is always " ++ decimal number
-    ++ codes ".\nWrite `const` in place of `let` where it is introduced.\n"
+    ++ codes ".\nIntroduce it by `const`, with this number and without a width, or shift by the number.\n"
 
 abbrev pub kind_text : Bool → List ℕ
 kind_text true = codes "a signed stream of width "

@@ -1,6 +1,7 @@
 -- What is pointed out in a program, token by token.
 use Rattle.std.specs.Prelude.{ℕ, ◌≡◌, ◌+◌, ◌-◌, ◌&&◌, Bool, not, List, Option, None, Some, length, option_map, filter_map, slice_index_or, if◌then◌else◌}
 use Rattle.std.specs.List.{range_with_len}
+use Rattle.std.specs.Option.{option_or}
 use Rattle.pr_lang.specs.declared.tokens.Token.{Token}
 use Rattle.pr_lens_source.specs.declared.sources.Span.{Span}
 use Rattle.pr_lens_products.specs.Factors.{is_product}
@@ -23,7 +24,7 @@ use Rattle.pr_lens_warn.specs.Needs.{AreNeeded, is_assigned, is_marked}
 abbrev pub warning : ℕ → ℕ → Remark → Warning
 warning first last remark = record { remark = remark; first = first; last = last }
 
--- on `signed` of a token
+-- on `signed` of a token that is one number, or the name of a constant that is
 abbrev pub signed_warning : List ℕ → List Token → List Span → ℕ → Option Warning
 signed_warning text tokens spans at = option_map (warning at (at + 3)) (negative_of (constant_at text tokens spans (at + 2)))
 
@@ -52,6 +53,10 @@ abbrev pub verdict_warning : List ℕ → List Token → List Span → List Verd
 verdict_warning text tokens spans verdicts at =
     option_map (warning at at) (settled text tokens spans at (slice_index_or verdicts at Unseen))
 
+-- on `signed` of a token: as one number, or else by the verdict on the call
+abbrev pub sign_warning : List ℕ → List Token → List Span → List Verdict → ℕ → Option Warning
+sign_warning text tokens spans verdicts at = option_or (signed_warning text tokens spans at) (verdict_warning text tokens spans verdicts at)
+
 -- on a name that a shift has for its amount
 abbrev pub amount_warning : List ℕ → List Token → List Span → ℕ → Option Warning
 amount_warning text tokens spans at = option_map (warning at at) (amount_remark text tokens spans at)
@@ -67,7 +72,7 @@ last_warning text tokens spans needed verdicts tails at =
 -- where these are the marks of needed statements, and the verdicts and the ends of delay lines by tokens
 unfoldable pub warning_at : List ℕ → List Token → List Span → List Bool → List Verdict → List (Option Tail) → ℕ → Option Warning
 warning_at text tokens spans needed verdicts tails at =
-    if is_signed_token text tokens at then signed_warning text tokens spans at
+    if is_signed_token text tokens at then sign_warning text tokens spans verdicts at
     else if is_difference tokens at then difference_warning text tokens spans at
     else if is_amount tokens at then amount_warning text tokens spans at
     else if is_product tokens spans at then product_warning text tokens spans at

@@ -4,11 +4,12 @@
 ghost use Rattle.std.specs.Prelude.{◌≡◌, ◌<◌, ◌≤◌, IfOk, length, slice_index_or};
 ghost use Rattle.pr_lang.specs.Tokens.{tokens_of};
 ghost use Rattle.pr_lens_extents.specs.declared.verdicts.Verdict.TheVariants.{Unseen};
-ghost use Rattle.pr_lens_warn.specs.Comparisons.{AreVerdicts, by_tokens, introduction_of, is_call, is_declared, is_judged, settled};
+ghost use Rattle.pr_lens_warn.specs.Comparisons.{AreVerdicts, by_tokens, introduction_of, is_call, is_declared, is_judged, read_signed, settled};
 
 use crate::remarks::Remark;
 use pr_lang::Token;
 use pr_lens_extents::{Verdict, verdicts_of};
+use pr_lens_rules::is_signed;
 use pr_lens_source::{Source, introduced_before};
 use pr_lens_tokens::{
     is_assign, is_colon, is_comparison, is_fn, is_name, is_number, is_open_round,
@@ -98,6 +99,34 @@ fn introduction_of(source: &Source, at: usize) -> usize
     introduced_before(source, at).unwrap_or(at)
 }
 
+/// What is pointed out of a call with a constant that is read by `signed`: by the call itself, or by the function.
+fn read_signed(
+    source: &Source,
+    at: usize,
+    argument: u64,
+    number: u64,
+    width: u16,
+    below: u128,
+) -> Remark
+    ensures { let source = source.now in result
+        ≡ read_signed source.text.now source.tokens.now source.spans.now at argument number width below }
+{
+    if is_signed(source, at) {
+        return Remark::Negative {
+            value: number,
+            width,
+            below,
+        };
+    }
+    Remark::Argument {
+        argument,
+        number,
+        width,
+        below,
+        function: introduction_of(source, at),
+    }
+}
+
 /// What is pointed out of a token with this verdict.
 pub fn settled(source: &Source, at: usize, verdict: Verdict) -> Option<Remark>
     ensures { result
@@ -120,12 +149,6 @@ pub fn settled(source: &Source, at: usize, verdict: Verdict) -> Option<Remark>
             number,
             width,
             below,
-        } => Some(Remark::Argument {
-            argument,
-            number,
-            width,
-            below,
-            function: introduction_of(source, at),
-        }),
+        } => Some(read_signed(source, at, argument, number, width, below)),
     }
 }

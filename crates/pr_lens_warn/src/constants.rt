@@ -2,11 +2,11 @@
 
 ghost use Rattle.std.specs.Prelude.{◌≡◌, ◌+◌, ◌-◌, ◌^◌, ◌<◌, ◌≤◌, length};
 ghost use Rattle.pr_flat.specs.Forms.{number_width};
-ghost use Rattle.pr_lens_rules.specs.Uses.{is_signed};
 ghost use Rattle.pr_lens_warn.specs.Constants.{is_difference, is_signed_token, negative, negative_of, wrapping, wrapping_of};
 
 use crate::remarks::Remark;
 use pr_base::bits_of;
+use pr_lens_rules::is_signed;
 use pr_lens_source::Source;
 use pr_lens_tokens::{begins_sum, binds_closer, is_close_round, is_minus, is_open_round};
 
@@ -36,7 +36,7 @@ pub fn is_signed_token(source: &Source, at: usize) -> bool
     requires { at < length source.now.tokens.now }
     ensures { result ≡ is_signed_token source.now.text.now source.now.tokens.now at }
 {
-    source.bytes(at) == b"signed".as_slice()
+    is_signed(source, at)
         && is_open_round(source.kind(at + 1))
         && is_close_round(source.kind(at + 3))
 }
@@ -52,8 +52,8 @@ fn negative(value: u64) -> Option<Remark>
     let width = width_of(value);
     Some(Remark::Negative {
         value,
-        width,
-        below: below_power(width, value),
+        width: u16::from(width),
+        below: u128::from(below_power(width, value)),
     })
 }
 

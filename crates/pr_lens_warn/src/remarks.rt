@@ -10,9 +10,9 @@ pub enum Remark {
     /// `signed` of a constant is negative.
     Negative {
         value: u64,
-        width: u8,
+        width: u16,
         /// How far it is below 0.
-        below: u64,
+        below: u128,
     },
     /// From a constant a greater one is taken.
     Wrapping {

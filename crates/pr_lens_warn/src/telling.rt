@@ -49,10 +49,11 @@ pub fn heading_of(remark: &Remark) -> &'static [u8]
 
 /// Tells what `signed` makes of a constant.
 #[tactic(auto, unfolding(crate::specs::Texts::sign_text))]
-fn put_sign(message: &mut Vec<u8>, value: u64, width: u8, below: u64) -> Result<(), AllocError>
+fn put_sign(message: &mut Vec<u8>, value: u64, width: u16, below: u128) -> Result<(), AllocError>
     ensures { OnOk result (message.new.items ≡ message.old.items ++ sign_text value width below) }
 {
-    put_counted(message, "This is -", below as usize)?;
+    put(message, "This is -")?;
+    put_wide(message, below)?;
     put_counted(
         message,
         ": `signed` takes the highest bit of a number as its sign, and ",
@@ -162,7 +163,7 @@ fn put_amount(
     put_counted(message, " is always ", number as usize)?;
     put(
         message,
-        ".\nWrite `const` in place of `let` where it is introduced.\n",
+        ".\nIntroduce it by `const`, with this number and without a width, or shift by the number.\n",
     )
 }
 

@@ -3,7 +3,7 @@
 ghost use Rattle.std.specs.Prelude.{◌≡◌, ◌<◌, IfOk, filter_map, length};
 ghost use Rattle.std.specs.List.{range_with_len};
 ghost use Rattle.pr_lens_waste.specs.Lines.{lines_in};
-ghost use Rattle.pr_lens_warn.specs.Warnings.{AreWarnings, amount_warning, assigned_warning, difference_warning, last_warning, line_warning, name_warning, product_warning, signed_warning, verdict_warning, warning_at};
+ghost use Rattle.pr_lens_warn.specs.Warnings.{AreWarnings, amount_warning, assigned_warning, difference_warning, last_warning, line_warning, name_warning, product_warning, sign_warning, signed_warning, verdict_warning, warning_at};
 
 use crate::comparisons::{by_tokens, settled};
 use crate::constants::{is_difference, is_signed_token, negative_of, wrapping_of};
@@ -18,7 +18,7 @@ use pr_lens_tokens::constant_at;
 use pr_lens_waste::{Lines, Tail};
 use std::alloc::{AllocError, Global};
 
-/// The warning at `signed` of a token.
+/// The warning at `signed` of a token that is one number, or of the name of a constant that is.
 fn signed_warning(source: &Source, at: usize) -> Option<Warning>
     requires { at < length source.now.tokens.now }
     ensures { result ≡ signed_warning source.now.text.now source.now.tokens.now source.now.spans.now at }
@@ -135,6 +135,19 @@ fn verdict_warning(source: &Source, verdicts: &[Verdict], at: usize) -> Option<W
     })
 }
 
+/// The warning at `signed` of a token: that on one number, or else that of the verdict on the call.
+fn sign_warning(source: &Source, verdicts: &[Verdict], at: usize) -> Option<Warning>
+    requires token { at < length source.now.tokens.now }
+    requires verdict { at < length verdicts.now }
+    ensures { result
+        ≡ sign_warning source.now.text.now source.now.tokens.now source.now.spans.now verdicts.now at }
+{
+    match signed_warning(source, at) {
+        Some(warning) => Some(warning),
+        None => verdict_warning(source, verdicts, at),
+    }
+}
+
 /// The warning at a name that is assigned, or at a token with a verdict.
 fn last_warning(
     source: &Source,
@@ -172,7 +185,7 @@ fn warning_at(
         ≡ warning_at source.text.now source.tokens.now source.spans.now needed.now verdicts.now tails.now at }
 {
     if is_signed_token(source, at) {
-        return signed_warning(source, at);
+        return sign_warning(source, verdicts, at);
     }
     if is_difference(source, at) {
         return difference_warning(source, at);
@@ -215,8 +228,9 @@ fn warnings_by(
 /// difference of constants that wraps around, a name that no result needs, the last instances of another one, where
 /// they are delays that no output needs, a shift by a stream that is one number, a product by a constant that shifts
 /// make with fewer units, and by their verdicts a comparison that gives always the same, a declared width that cuts
-/// bits off, and a call with such a constant for an argument that is read by `signed`. The verdicts are those on the
-/// comparisons, declared widths and calls of the text, one after the other; the lines are those of its names.
+/// bits off, and a call with such a constant for an argument that is read by `signed`, by the call itself or by the
+/// function. The verdicts are those on the comparisons, declared widths and calls of the text, one after the other; the
+/// lines are those of its names.
 pub fn warnings_of(
     alloc: Global,
     source: &Source,

@@ -1,4 +1,4 @@
-use Rattle.std.proofs.Common.{◌≡◌, ◌∙◌, ◌≤◌, ◌<◌, ◌^◌, ℕ, sym, subst, arith}
+use Rattle.std.proofs.Common.{◌∙◌, ◌≤◌, ◌<◌, ◌^◌, ℕ, sym, subst, arith}
 use Rattle.pr_base.specs.Numbers.{IsLeastWidth}
 use Rattle.pr_flat.proofs.FormLemmas.{number_width-least}
 use Rattle.pr_lens_warn.proofs.constants.width_of.Goals as goal

@@ -1,4 +1,4 @@
-use Rattle.std.proofs.Common.{◌≡◌, ◌-◌, ◌<◌, length, length-set, true, arith}
+use Rattle.std.proofs.Common.{◌-◌, ◌<◌, length, length-set, true, arith}
 use Rattle.std.proofs.lemmas.Bool.{true≢false}
 use Rattle.pr_lens_warn.proofs.NeedLemmas.{marked_fewer, marked_kept, settled_more, sound_more}
 use Rattle.pr_lens_warn.proofs.needs.mark_used.Goals as goal
