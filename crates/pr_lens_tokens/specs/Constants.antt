@@ -26,7 +26,8 @@ kept_number width number = None
 -- what is behind a name is one number: `= 3;`, or with a declared width `:2 = 3;`
 abbrev pub number_behind : List Token → ℕ → Option ℕ
 number_behind tokens name =
-    if is_colon (kind_of tokens (name + 1)) then kept_number (kind_of tokens (name + 2)) (sole_number (kind_of tokens (name + 4)) (kind_of tokens (name + 5)))
+    if is_colon (kind_of tokens (name + 1))
+    then kept_number (kind_of tokens (name + 2)) (sole_number (kind_of tokens (name + 4)) (kind_of tokens (name + 5)))
     else sole_number (kind_of tokens (name + 2)) (kind_of tokens (name + 3))
 
 -- a constant or a stream is introduced behind this token
@@ -36,7 +37,8 @@ is_word_of Named.Stream = is_let
 
 -- the number that a name is, where it is introduced as one number: `const k = 3;`, `let k = 3;` or `let k:2 = 3;`
 unfoldable pub number_named : Named → List Token → ℕ → Option ℕ
-number_named named tokens name = if is_word_of named (kind_of tokens (name - 1)) then number_behind tokens name else None
+number_named named tokens name =
+    if is_word_of named (kind_of tokens (name - 1)) then number_behind tokens name else None
 
 abbrev pub number_by : Named → List Token → Option ℕ → Option ℕ
 number_by named tokens None = None

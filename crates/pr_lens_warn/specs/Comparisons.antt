@@ -59,7 +59,8 @@ settled text tokens spans at Unseen = None
 settled text tokens spans at Varies = None
 settled text tokens spans at (Always answer left right) = Some (Settled answer left right)
 settled text tokens spans at (Cut form reach) = Some (Narrow form reach)
-settled text tokens spans at (Negative argument number width below) = Some (read_signed text tokens spans at argument number width below)
+settled text tokens spans at (Negative argument number width below) =
+    Some (read_signed text tokens spans at argument number width below)
 
 abbrev pub verdicts_in : Option Program → List Verdict
 verdicts_in None = []

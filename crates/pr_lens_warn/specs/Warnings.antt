@@ -55,7 +55,8 @@ verdict_warning text tokens spans verdicts at =
 
 -- on `signed` of a token: as one number, or else by the verdict on the call
 abbrev pub sign_warning : List ℕ → List Token → List Span → List Verdict → ℕ → Option Warning
-sign_warning text tokens spans verdicts at = option_or (signed_warning text tokens spans at) (verdict_warning text tokens spans verdicts at)
+sign_warning text tokens spans verdicts at =
+    option_or (signed_warning text tokens spans at) (verdict_warning text tokens spans verdicts at)
 
 -- on a name that a shift has for its amount
 abbrev pub amount_warning : List ℕ → List Token → List Span → ℕ → Option Warning
