@@ -29,7 +29,7 @@ cells_word count = if count == 1 then codes " cell\"];\n" else codes " cells\"];
 
 -- the line for the stream that a unit is made for, where it is told
 unfoldable pub stream_line : Stream → List ℕ
-stream_line stream = codes "\\n" ++ stream_text stream ++ codes ", line " ++ decimal stream.spot.line
+stream_line stream = codes "\\n" ++ stream_text stream ++ codes ", line " ++ decimal stream.spot.line ++ codes ", column " ++ decimal stream.spot.column
 
 abbrev pub line_for : Option Stream → List ℕ
 line_for None = []

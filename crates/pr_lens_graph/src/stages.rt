@@ -53,7 +53,8 @@ fn put_stream_line(text: &mut Vec<u8>, stream: &Stream) -> Result<(), AllocError
 {
     put(text, "\\n")?;
     put_stream(text, stream)?;
-    put_counted(text, ", line ", stream.spot.line)
+    put_counted(text, ", line ", stream.spot.line)?;
+    put_counted(text, ", column ", stream.spot.column)
 }
 
 /// The same, where the stream is told.

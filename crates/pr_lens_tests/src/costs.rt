@@ -39,11 +39,11 @@ $ pipelens graph p
 ...
 $ pipelens graph p
 = 0
-...\\nx, line 1\\n1 cell\"];
+...\\nx, line 1, column 7\\n1 cell\"];
 ...
 $ pipelens graph p
 = 0
-...    u2 [label=\"2 adds\\na, line 2\\n1 cell\"];
+...    u2 [label=\"2 adds\\na, line 2, column 5\\n1 cell\"];
 ...
 $ pipelens graph p
 = 0
