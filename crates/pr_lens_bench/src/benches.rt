@@ -1,10 +1,11 @@
 //! The bench of a program on the samples of a file.
 
-ghost use Rattle.std.specs.Prelude.{◌≡◌, ◌≢◌, ◌≤◌, ℕ, List, length, vec_len, ◌⊎◌, IfErr, IfOk, IsErrOf, OnErr};
+ghost use Rattle.std.specs.Prelude.{◌≡◌, ◌≢◌, ◌≤◌, ℕ, List, Some, length, vec_len, ◌⊎◌, IfErr, IfOk, IsErrOf, OnErr};
 ghost use Rattle.pr_edge.specs.Files.{HasReadCause, IsMissing};
 ghost use Rattle.pr_samples.specs.declared.feed.Got.{Got};
-ghost use Rattle.pr_samples.specs.Feed.{name_of};
+ghost use Rattle.pr_samples.specs.Feed.{name_of, place_of};
 ghost use Rattle.pr_tool_answers.specs.declared.answers.Answer.{Answer};
+ghost use Rattle.pr_tool_modes.specs.Files.{IsInOrder};
 ghost use Rattle.pr_tool_modes.specs.Programs.{inputs_of};
 ghost use Rattle.pr_lens_signals.specs.Reading.{IsLongFeed};
 ghost use Rattle.pr_lens_rtl_text.specs.Limits.{most_text_bytes};
@@ -54,6 +55,8 @@ fn lines_of<S: Shelf>(
     ensures name { name_of feed.new ≡ name_of feed.old }
     ensures later { S.faults shelf.old ≤ S.faults shelf.new }
     ensures same { S.told shelf.new ≡ S.told shelf.old }
+    ensures reached { S.reach shelf.old (name_of feed.old) ≡ Some (place_of feed.old)
+        → S.reach shelf.new (name_of feed.old) ≡ Some (place_of feed.new) }
     ensures others { (q : List ℕ) → q ≢ name_of feed.old → S.reach shelf.new q ≡ S.reach shelf.old q }
 {
     let mut sample = vec![in alloc; 0; trial.front.scoped.inputs.len()]?;
@@ -94,6 +97,9 @@ pub fn bench<S: Shelf>(
 
     ensures later { S.faults shelf.old ≤ S.faults shelf.new }
     ensures same { S.told shelf.new ≡ S.told shelf.old }
+
+    // The file is read in order, and no byte of it twice.
+    ensures once { IsInOrder (S.reach shelf.old samples.now) (S.reach shelf.new samples.now) }
     ensures others { (q : List ℕ) → q ≢ samples.now → S.reach shelf.new q ≡ S.reach shelf.old q }
 {
     let mut feed = feed_of(alloc, trial, samples)?;

@@ -1,9 +1,9 @@
 //! The lines of a bench, which are made while the samples are read.
 
-ghost use Rattle.std.specs.Prelude.{◌≡◌, ◌≢◌, ◌≤◌, ℕ, List, length, vec_len, IfErr, IfOk, OnErr};
+ghost use Rattle.std.specs.Prelude.{◌≡◌, ◌≢◌, ◌≤◌, ℕ, List, Some, length, vec_len, IfErr, IfOk, OnErr};
 ghost use Rattle.pr_edge.specs.Files.{HasReadCause, IsMissing};
 ghost use Rattle.pr_samples.specs.declared.feed.Got.{Got};
-ghost use Rattle.pr_samples.specs.Feed.{name_of, SameFile};
+ghost use Rattle.pr_samples.specs.Feed.{name_of, place_of, SameFile};
 ghost use Rattle.pr_tool_modes.specs.Programs.{inputs_of};
 ghost use Rattle.pr_lens_signals.specs.Reading.{IsLongFeed};
 ghost use Rattle.pr_lens_rtl_text.specs.Limits.{most_text_bytes};
@@ -55,6 +55,8 @@ pub fn lines_in<S: Shelf>(
     ensures file { SameFile feed.old feed.new }
     ensures later { S.faults shelf.old ≤ S.faults shelf.new }
     ensures same { S.told shelf.new ≡ S.told shelf.old }
+    ensures reached { S.reach shelf.old (name_of feed.old) ≡ Some (place_of feed.old)
+        → S.reach shelf.new (name_of feed.old) ≡ Some (place_of feed.new) }
     ensures others { (q : List ℕ) → q ≢ name_of feed.old → S.reach shelf.new q ≡ S.reach shelf.old q }
 {
     let mut evaluator = Evaluator::new(alloc, &trial.front.flat)?;

@@ -1,11 +1,11 @@
 //! The rows of a program that shows its instances, which are written while the samples are read.
 
-ghost use Rattle.std.specs.Prelude.{◌≡◌, ◌≢◌, ◌≤◌, ◌<◌, ◌+◌, ◌++◌, ◌∷◌, [], ℕ, List, length, vec_len, IfErr, IfOk, OnErr, OnOk};
+ghost use Rattle.std.specs.Prelude.{◌≡◌, ◌≢◌, ◌≤◌, ◌<◌, ◌+◌, ◌++◌, ◌∷◌, [], ℕ, List, Some, length, vec_len, IfErr, IfOk, OnErr, OnOk};
 ghost use Rattle.pr_edge.specs.Files.{HasReadCause, IsMissing};
 ghost use Rattle.pr_edge.specs.Tape.{Appends, AppendsFront};
 ghost use Rattle.pr_flat.specs.Flats.{equations_of as flat_equations};
 ghost use Rattle.pr_samples.specs.declared.feed.Got.{Got};
-ghost use Rattle.pr_samples.specs.Feed.{name_of, SameFile};
+ghost use Rattle.pr_samples.specs.Feed.{name_of, place_of, SameFile};
 ghost use Rattle.pr_source.specs.Standing.{Stands};
 ghost use Rattle.pr_tool_modes.specs.Programs.{inputs_of};
 ghost use Rattle.pr_lens_tracks.specs.Texts.{HasWritten, rows_text, text_behind};
@@ -106,6 +106,8 @@ pub fn put_rows<S: Shelf, K: Sink>(
     ensures file { SameFile work.old.feed work.new.feed }
     ensures later { S.faults shelf.old ≤ S.faults shelf.new }
     ensures same { S.told shelf.new ≡ S.told shelf.old }
+    ensures reached { S.reach shelf.old (name_of work.old.feed) ≡ Some (place_of work.old.feed)
+        → S.reach shelf.new (name_of work.old.feed) ≡ Some (place_of work.new.feed) }
     ensures others { (q : List ℕ) → q ≢ name_of work.old.feed → S.reach shelf.new q ≡ S.reach shelf.old q }
     ensures out_later { K.faults out.old ≤ K.faults out.new }
 {

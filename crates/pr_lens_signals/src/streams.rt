@@ -9,7 +9,7 @@ ghost use Rattle.pr_flat.specs.Widths.{AreWidths};
 ghost use Rattle.pr_expand_spec.specs.Programs.{equations_of};
 ghost use Rattle.pr_samples.specs.Feed.{name_of};
 ghost use Rattle.pr_source.specs.Standing.{Stands};
-ghost use Rattle.pr_tool_modes.specs.Files.{ShowsFault};
+ghost use Rattle.pr_tool_modes.specs.Files.{IsInOrder, ShowsFault};
 ghost use Rattle.pr_tool_modes.specs.Programs.{inputs_of};
 ghost use Rattle.pr_lens_tracks.specs.Texts.{head_text};
 ghost use Rattle.pr_lens_signals.specs.Calls.{call};
@@ -97,6 +97,7 @@ fn show<S: Shelf, K: Sink>(
     ensures fault { ShowsFault (S.faults shelf.old) (S.faults shelf.new) result }
     ensures later { S.faults shelf.old ≤ S.faults shelf.new }
     ensures same { S.told shelf.new ≡ S.told shelf.old }
+    ensures once { IsInOrder (S.reach shelf.old samples.now) (S.reach shelf.new samples.now) }
     ensures others { (q : List ℕ) → q ≢ samples.now → S.reach shelf.new q ≡ S.reach shelf.old q }
     ensures out_later { K.faults out.old ≤ K.faults out.new }
 {
@@ -158,6 +159,8 @@ pub fn signals<S: Shelf, K: Sink>(
     ensures unread { OnErr result (S.faults shelf.new ≡ S.faults shelf.old) }
     ensures later { S.faults shelf.old ≤ S.faults shelf.new }
     ensures same { S.told shelf.new ≡ S.told shelf.old }
+    // The file is read in order, and no byte of it twice.
+    ensures once { IsInOrder (S.reach shelf.old samples.now) (S.reach shelf.new samples.now) }
     ensures others { (q : List ℕ) → q ≢ samples.now → S.reach shelf.new q ≡ S.reach shelf.old q }
     ensures out_later { K.faults out.old ≤ K.faults out.new }
 {

@@ -1,8 +1,10 @@
 -- What is said of the bytes that were read of a file.
 use Rattle.std.proofs.Common.{◌≡◌, ◌+◌, ◌-◌, ◌<◌, ◌≤◌, ◌++◌, ◌∙◌, [], ℕ, List, Option, Some, None, IfSome, length, take, drop, refl, sym, ap, subst, arith, length-append, length-drop}
+use Rattle.std.specs.Prelude.{IsSome}
+use Rattle.std.proofs.lemmas.Bool.{eq-eqb}
 use Rattle.std.proofs.lemmas.List.{length-take-le, take-append-drop, take_all}
 use Rattle.std.proofs.Math.Seq.{take-add}
-use Rattle.pr_edge.specs.Files.{IsMissing, IsPart, IsPrefix, OfFile, Told}
+use Rattle.pr_edge.specs.Files.{IsMissing, IsPart, IsPrefix, IsReadOnce, IsReadThrough, OfFile, Told, raised}
 use Rattle.pr_tool_modes.specs.Files.{IsLong}
 use Rattle.pr_tool_modes.proofs.FileLemmas.{long_file}
 use Rattle.pr_lens_log.specs.declared.excerpts.Choice.{Choice}
@@ -20,7 +22,7 @@ use Rattle.pr_lens_tool.specs.declared.orders.Drawing.TheVariants.{Wave, Chart}
 use Rattle.pr_lens_tool.specs.declared.outcomes.Outcome.{Outcome}
 use Rattle.pr_lens_tool.specs.declared.outcomes.Outcome.TheVariants.{Plain, Explained, Streamed, Usage, BadLog, NoCycle, Unshown, LongLog, LongModule, LongBench, NoStream}
 use Rattle.pr_lens_tool.specs.Outcomes.{Shows}
-use Rattle.pr_lens_tool.specs.Logs.{HasLog, HasShortText, HasText, HasUnshown, IsDrawing, IsNoLog, IsReadTo, IsUndrawn, choice_of, drawn_text, most_log_bytes, outcome_of}
+use Rattle.pr_lens_tool.specs.Logs.{HasLog, HasShortText, HasText, HasUnshown, IsDrawing, IsNoLog, IsReadOnFrom, IsReadTo, IsUndrawn, choice_of, drawn_text, most_log_bytes, outcome_of}
 
 -- ---- bytes of a file, and a piece more
 -- the file begins with both
@@ -105,6 +107,20 @@ read_none told name r read = record { bytes = []; count = refl; file = front_of 
 -- it is longer than a log may be
 pub long_log : (told : Told) (name : List ℕ) (place limit : ℕ) (r : Reader) → IsReadTo told name place r → limit < place → (IsMissing told name → ⊥) → IsLong told name limit
 long_log told name place limit r read more there = long_file told name limit (of_both told name _ _ _ read.file read.file (λ file front same. omega (arith, front.within, read.count, more))) there
+
+-- ---- a log that is read in order
+-- a read from the place that was reached
+pub reach_on : (place count : ℕ) (before now : Option ℕ) → now ≡ raised before place count → before ≡ Some place → now ≡ Some (place + count)
+reach_on place count before now is at = is ∙ (ap (λ (r : Option ℕ). raised r place count) at ∙ rw (eq-eqb place place refl) refl)
+
+-- the last read began within a limit
+pub once_on : (most place : ℕ) (first before now : Option ℕ) → place ≤ most → IsReadThrough place first before → IsReadOnFrom place before now → IsReadOnce (most + 4096) first now
+once_on most place first before None le through on = λ none. on (through none)
+once_on most place first before (Some r) le through on = λ none. let read = on (through none) in (read.0, omega (arith, read.1, le))
+
+-- it ended there
+pub once_through : (most place : ℕ) (first now : Option ℕ) → place ≤ most → IsReadThrough place first now → IsReadOnce most first now
+once_through most place first now le through = λ none. subst (λ (o : Option ℕ). IsSome o × IfSome o (λ r. r ≤ most)) (sym (through none)) (refl, le)
 
 -- ---- what a call comes to
 -- a line is none of a log

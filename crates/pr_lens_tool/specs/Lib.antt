@@ -6,6 +6,7 @@ pub mod Outcomes
 pub mod Modules
 pub mod Programs
 pub mod Replies
+pub mod Files
 pub mod Logs
 pub mod Streams
 pub mod Calls

@@ -1,5 +1,5 @@
 -- What is drawn of logs.
-use Rattle.std.specs.Prelude.{◌≡◌, ◌≤◌, ◌<◌, ◌-◌, ⊤, ℕ, List, Some, None, length}
+use Rattle.std.specs.Prelude.{◌≡◌, ◌≤◌, ◌<◌, ◌+◌, ◌-◌, ⊤, ℕ, List, Option, Some, None, IfSome, IsSome, length}
 use Rattle.pr_edge.specs.Files.{Told, HasReadCause, IsPrefix, OfFile}
 use Rattle.pr_tool_answers.specs.declared.answers.Answer.{Answer}
 use Rattle.pr_tool_modes.specs.Files.{IsText, IsLong}
@@ -32,6 +32,10 @@ pub record IsReadTo (told : Told) (name : List ℕ) (place : ℕ) (r : Reader) :
   pub count : length bytes ≡ place
   pub file : OfFile told name (IsPrefix bytes)
   pub read : HasRead bytes r
+
+-- a file that was read in order up to a place was read on from there in order, by at most 4,096 bytes
+abbrev pub IsReadOnFrom : ℕ → Option ℕ → Option ℕ → Type 0
+IsReadOnFrom place before now = before ≡ Some place → (IsSome now × IfSome now (λ r. r ≤ place + 4096))
 
 -- the file has a text, and this is so of it
 pub record HasText (told : Told) (name : List ℕ) (fact : List ℕ → Type 0) : Type 0 where

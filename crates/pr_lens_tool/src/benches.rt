@@ -1,9 +1,10 @@
 //! The bench for the module of a program.
 
-ghost use Rattle.std.specs.Prelude.{◌≡◌, ◌≤◌, ◌⊎◌, length, IfOk, IfErr, OnOk};
+ghost use Rattle.std.specs.Prelude.{◌≡◌, ◌≢◌, ◌≤◌, ◌⊎◌, ℕ, List, length, IfOk, IfErr, OnOk};
 ghost use Rattle.pr_base.specs.Fabrics.{columns, registers};
 ghost use Rattle.pr_conf.specs.Configuration.{shape_of};
 ghost use Rattle.pr_tool_answers.specs.declared.answers.Answer.{Answer};
+ghost use Rattle.pr_tool_modes.specs.Files.{IsInOrder};
 ghost use Rattle.pr_tool_modes.specs.Programs.{IsUncompiled};
 ghost use Rattle.pr_lens_bench.specs.Reading.{IsFit};
 ghost use Rattle.pr_lens_bench.specs.Benches.{IsBench, IsUnbenched};
@@ -111,6 +112,8 @@ fn tried<S: Shelf>(
     ensures shown { IfErr result (Shows (S.faults shelf.old) (S.faults shelf.new)) }
     ensures later { S.faults shelf.old ≤ S.faults shelf.new }
     ensures same { S.told shelf.new ≡ S.told shelf.old }
+    ensures once { IsInOrder (S.reach shelf.old samples.now) (S.reach shelf.new samples.now) }
+    ensures others { (q : List ℕ) → q ≢ samples.now → S.reach shelf.new q ≡ S.reach shelf.old q }
 {
     match bench(alloc, trial, samples, shelf) {
         Ok(text) => Ok(Output {
@@ -141,6 +144,12 @@ pub fn bench_of<S: Shelf>(
     ensures shown { IfErr result (Shows (S.faults shelf.old) (S.faults shelf.new)) }
     ensures later { S.faults shelf.old ≤ S.faults shelf.new }
     ensures same { S.told shelf.new ≡ S.told shelf.old }
+
+    // A file that is not both the program and the samples is read in order, and no byte of it twice.
+    ensures once { (q : List ℕ) → (q ≡ (target_in target.now).file → q ≢ samples.now)
+        → IsInOrder (S.reach shelf.old q) (S.reach shelf.new q) }
+    ensures others { (q : List ℕ) → q ≢ (target_in target.now).file → q ≢ samples.now
+        → S.reach shelf.new q ≡ S.reach shelf.old q }
 {
     let most = Cap::MOST_PROGRAM_BYTES;
     let text = match read_file(alloc, shelf, target.file, most, Cap::ProgramBytes) {

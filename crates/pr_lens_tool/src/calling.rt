@@ -1,11 +1,14 @@
 //! The call.
 
-ghost use Rattle.std.specs.Prelude.{◌≡◌, ◌≤◌, IfOk, IfErr, OnOk};
+ghost use Rattle.std.specs.Prelude.{◌≡◌, ◌≢◌, ◌≤◌, ◌+◌, ℕ, List, IfOk, IfErr, OnOk};
+ghost use Rattle.pr_base.specs.Limits.{most_program_bytes};
+ghost use Rattle.pr_edge.specs.Files.{IsReadOnce};
 ghost use Rattle.pr_tool_answers.specs.declared.answers.Answer.{Answer};
 ghost use Rattle.pr_lens_signals.specs.Calls.{call};
 ghost use Rattle.pr_lens_tool.specs.declared.outcomes.Outcome.TheVariants.{Plain};
-ghost use Rattle.pr_tool_modes.specs.Files.{ShowsFault};
-ghost use Rattle.pr_lens_tool.specs.Asked.{asked_in, product_in, question_in, target_in};
+ghost use Rattle.pr_tool_modes.specs.Files.{IsInOrder, ShowsFault};
+ghost use Rattle.pr_lens_tool.specs.Asked.{Whole, asked_in, product_in, question_in, target_in};
+ghost use Rattle.pr_lens_tool.specs.Files.{IsOnce, IsOnceFile, IsOther, IsOtherFile};
 ghost use Rattle.pr_lens_tool.specs.Orders.{asked_by};
 ghost use Rattle.pr_lens_tool.specs.Outcomes.{IsWritten, Shows};
 ghost use Rattle.pr_lens_tool.specs.Programs.{IsToldOf, IsUntold};
@@ -72,6 +75,9 @@ fn of_file<S: Shelf>(
     ensures shown { IfErr result (ShowsFault (S.faults shelf.old) (S.faults shelf.new)) }
     ensures later { S.faults shelf.old ≤ S.faults shelf.new }
     ensures same { S.told shelf.new ≡ S.told shelf.old }
+    ensures once { IsReadOnce (most_program_bytes + 4096)
+        (S.reach shelf.old (target_in target.now).file) (S.reach shelf.new (target_in target.now).file) }
+    ensures others { (q : List ℕ) → q ≢ (target_in target.now).file → S.reach shelf.new q ≡ S.reach shelf.old q }
 {
     let most = Cap::MOST_PROGRAM_BYTES;
     let text = read_file(alloc, shelf, target.file, most, Cap::ProgramBytes)?;
@@ -96,6 +102,10 @@ fn made<S: Shelf>(
     ensures shown { IfErr result (Shows (S.faults shelf.old) (S.faults shelf.new)) }
     ensures later { S.faults shelf.old ≤ S.faults shelf.new }
     ensures same { S.told shelf.new ≡ S.told shelf.old }
+    ensures once { (q : List ℕ) → IsOnceFile (Whole (product_in product.entry)) (target_in target.now) q
+        → IsInOrder (S.reach shelf.old q) (S.reach shelf.new q) }
+    ensures others { (q : List ℕ) → IsOtherFile (Whole (product_in product.entry)) (target_in target.now) q
+        → S.reach shelf.new q ≡ S.reach shelf.old q }
 {
     match product {
         Product::OfProgram(question) => match of_file(alloc, target, question, shelf) {
@@ -132,6 +142,10 @@ fn follow<S: Shelf, K: Sink>(alloc: Global, order: &Order, shelf: &mut S, out: &
     ensures told { S.told shelf.new ≡ S.told shelf.old }
     ensures shelf_later { S.faults shelf.old ≤ S.faults shelf.new }
     ensures out_later { K.faults out.old ≤ K.faults out.new }
+    ensures once { (q : List ℕ) → IsOnceFile (asked_in order.now).task (asked_in order.now).target q
+        → IsInOrder (S.reach shelf.old q) (S.reach shelf.new q) }
+    ensures others { (q : List ℕ) → IsOtherFile (asked_in order.now).task (asked_in order.now).target q
+        → S.reach shelf.new q ≡ S.reach shelf.old q }
 {
     match order.task {
         Task::Signals { samples, style } => {
@@ -164,6 +178,11 @@ pub fn pipelens<S: Shelf, K: Sink>(
     ensures own { HasOwnLine (asked_by words.now) result }
     // A failed read is not kept quiet: the outcome is a read fault, or the count is as it was.
     ensures shown { Shows (S.faults shelf.old) (S.faults shelf.new) result.outcome }
+    // A file that is named once is read in order, and no byte of it twice, so that a pipe serves as well.
+    ensures once { (q : List ℕ) → IsOnce (asked_by words.now) q
+        → IsInOrder (S.reach shelf.old q) (S.reach shelf.new q) }
+    // Only the files that are named are read.
+    ensures other_files { (q : List ℕ) → IsOther (asked_by words.now) q → S.reach shelf.new q ≡ S.reach shelf.old q }
     ensures told { S.told shelf.new ≡ S.told shelf.old }
     ensures shelf_later { S.faults shelf.old ≤ S.faults shelf.new }
     ensures out_later { K.faults out.old ≤ K.faults out.new }

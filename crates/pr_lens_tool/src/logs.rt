@@ -1,7 +1,7 @@
 //! What is made of logs.
 
-ghost use Rattle.std.specs.Prelude.{◌≡◌, ◌≤◌, ◌<◌, ◌+◌, ◌-◌, ◌^◌, ℕ, IfOk, IfErr, OnOk, length};
-ghost use Rattle.pr_edge.specs.Files.{IsMissing, OfFile};
+ghost use Rattle.std.specs.Prelude.{◌≡◌, ◌≢◌, ◌≤◌, ◌<◌, ◌+◌, ◌-◌, ◌^◌, ℕ, List, Some, IfOk, IfErr, OnOk, length};
+ghost use Rattle.pr_edge.specs.Files.{IsMissing, IsReadOnce, OfFile};
 ghost use Rattle.pr_tool_answers.specs.declared.answers.Answer.{Answer};
 ghost use Rattle.pr_lens_log.specs.declared.windows.Window.{Window};
 ghost use Rattle.pr_lens_log.specs.Logs.{IsKept, Tale};
@@ -9,7 +9,7 @@ ghost use Rattle.pr_lens_log.specs.Readers.{HasRead, HasRoom, choice_of as choic
 ghost use Rattle.pr_lens_log.specs.Windows.{part_of};
 ghost use Rattle.pr_lens_tool.specs.declared.outcomes.Outcome.TheVariants.{Plain, Unshown};
 ghost use Rattle.pr_lens_tool.specs.Outcomes.{Shows};
-ghost use Rattle.pr_lens_tool.specs.Logs.{HasLog, HasShortText, IsDrawing, IsNoLog, IsReadTo, IsUndrawn, choice_of, drawn_text};
+ghost use Rattle.pr_lens_tool.specs.Logs.{HasLog, HasShortText, IsDrawing, IsNoLog, IsReadOnFrom, IsReadTo, IsUndrawn, choice_of, drawn_text, most_log_bytes};
 
 use crate::orders::Drawing;
 use crate::outcomes::{Outcome, Output};
@@ -45,6 +45,10 @@ fn read_more<S: Shelf>(
     ensures shown { IfErr result (Shows (S.faults shelf.old) (S.faults shelf.new)) }
     ensures later { S.faults shelf.old ≤ S.faults shelf.new }
     ensures same { S.told shelf.new ≡ S.told shelf.old }
+    ensures reached { IfOk result (λ count. S.reach shelf.old name.now ≡ Some place
+        → S.reach shelf.new name.now ≡ Some (place + count)) }
+    ensures once { IsReadOnFrom place (S.reach shelf.old name.now) (S.reach shelf.new name.now) }
+    ensures others { (q : List ℕ) → q ≢ name.now → S.reach shelf.new q ≡ S.reach shelf.old q }
 {
     let mut piece = [0u8; 4096];
     match shelf.read_at(name, place, &mut piece) {
@@ -69,6 +73,8 @@ fn read_file<S: Shelf>(reader: &mut Reader, shelf: &mut S, name: &str) -> Result
     ensures shown { IfErr result (Shows (S.faults shelf.old) (S.faults shelf.new)) }
     ensures later { S.faults shelf.old ≤ S.faults shelf.new }
     ensures same { S.told shelf.new ≡ S.told shelf.old }
+    ensures once { IsReadOnce (most_log_bytes + 4096) (S.reach shelf.old name.now) (S.reach shelf.new name.now) }
+    ensures others { (q : List ℕ) → q ≢ name.now → S.reach shelf.new q ≡ S.reach shelf.old q }
 {
     let mut place: u64 = 0;
     while place <= LOG {
@@ -109,6 +115,8 @@ fn log_of<S: Shelf>(
     ensures shown { IfErr result (Shows (S.faults shelf.old) (S.faults shelf.new)) }
     ensures later { S.faults shelf.old ≤ S.faults shelf.new }
     ensures same { S.told shelf.new ≡ S.told shelf.old }
+    ensures once { IsReadOnce (most_log_bytes + 4096) (S.reach shelf.old name.now) (S.reach shelf.new name.now) }
+    ensures others { (q : List ℕ) → q ≢ name.now → S.reach shelf.new q ≡ S.reach shelf.old q }
 {
     let mut reader = Reader::make(alloc, choice_of(drawing, window))?;
     read_file(&mut reader, shelf, name)?;
@@ -159,6 +167,10 @@ pub fn of_log<S: Shelf>(
 
     ensures later { S.faults shelf.old ≤ S.faults shelf.new }
     ensures same { S.told shelf.new ≡ S.told shelf.old }
+
+    // The file is read in order and each byte of it once, at most 4,096 past the limit.
+    ensures once { IsReadOnce (most_log_bytes + 4096) (S.reach shelf.old name.now) (S.reach shelf.new name.now) }
+    ensures others { (q : List ℕ) → q ≢ name.now → S.reach shelf.new q ≡ S.reach shelf.old q }
 {
     let log = log_of(alloc, drawing, window, shelf, name)?;
     if log.excerpt.part.is_empty() {

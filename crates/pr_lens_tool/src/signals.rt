@@ -1,7 +1,9 @@
 //! What the streams of a program are on the samples of a file.
 
-ghost use Rattle.std.specs.Prelude.{◌≡◌, ◌≤◌, IfErr, IfOk, OnOk};
-ghost use Rattle.pr_tool_modes.specs.Files.{ShowsFault};
+ghost use Rattle.std.specs.Prelude.{◌≡◌, ◌≢◌, ◌≤◌, ◌+◌, ℕ, List, IfErr, IfOk, OnOk};
+ghost use Rattle.pr_base.specs.Limits.{most_program_bytes};
+ghost use Rattle.pr_edge.specs.Files.{IsReadOnce};
+ghost use Rattle.pr_tool_modes.specs.Files.{IsInOrder, ShowsFault};
 ghost use Rattle.pr_tool_modes.specs.Programs.{IsLoaded, IsNotLoaded};
 ghost use Rattle.pr_lens_signals.specs.Calls.{call};
 ghost use Rattle.pr_lens_signals.specs.Manners.{manner_of};
@@ -28,6 +30,8 @@ fn load<S: Shelf>(alloc: Global, shelf: &mut S, name: &str) -> Result<Front, Ans
     ensures shown { IfErr result (ShowsFault (S.faults shelf.old) (S.faults shelf.new)) }
     ensures later { S.faults shelf.old ≤ S.faults shelf.new }
     ensures same { S.told shelf.new ≡ S.told shelf.old }
+    ensures once { IsReadOnce (most_program_bytes + 4096) (S.reach shelf.old name.now) (S.reach shelf.new name.now) }
+    ensures others { (q : List ℕ) → q ≢ name.now → S.reach shelf.new q ≡ S.reach shelf.old q }
 {
     let most = Cap::MOST_PROGRAM_BYTES;
     let text = read_file(alloc, shelf, name, most, Cap::ProgramBytes)?;
@@ -53,6 +57,11 @@ pub fn of_samples<S: Shelf, K: Sink>(
     ensures same { S.told shelf.new ≡ S.told shelf.old }
     ensures later { S.faults shelf.old ≤ S.faults shelf.new }
     ensures out_later { K.faults out.old ≤ K.faults out.new }
+
+    // A file that is not both the program and the samples is read in order, and no byte of it twice.
+    ensures once { (q : List ℕ) → (q ≡ name.now → q ≢ samples.now)
+        → IsInOrder (S.reach shelf.old q) (S.reach shelf.new q) }
+    ensures others { (q : List ℕ) → q ≢ name.now → q ≢ samples.now → S.reach shelf.new q ≡ S.reach shelf.old q }
 {
     let front = match load(alloc, shelf, name) {
         Ok(front) => front,

@@ -1,8 +1,8 @@
-use Rattle.std.proofs.Common.{◌≡◌, ◌≢◌, ◌≤◌, ◌-◌, ℕ, List, length}
+use Rattle.std.proofs.Common.{◌≡◌, ◌≢◌, ◌≤◌, ◌-◌, ℕ, List, length, Some}
 use Rattle.std.specs.Prelude.{vec_len}
 use Rattle.pr_edge.specs.Files.{IsMissing}
 use Rattle.pr_flat.specs.Shape.{shapes_of}
-use Rattle.pr_samples.specs.Feed.{name_of, given_of, most_of, reads_nothing, SameFile}
+use Rattle.pr_samples.specs.Feed.{name_of, given_of, most_of, place_of, reads_nothing, SameFile}
 use Rattle.pr_lens_rtl_text.specs.Limits.{most_text_bytes}
 use Rattle.pr_lens_bench.proofs.BenchLemmas.{HasMade}
 use Rattle.pr_lens_bench.proofs.reading.lines_in.Given as goal
@@ -19,6 +19,7 @@ invariant-samples g l = record {
   steady : g.S.Shelf.faults l.shelf ≡ g.S.Shelf.faults l.initial.shelf;
   later : g.S.Shelf.faults l.initial.shelf ≤ g.S.Shelf.faults l.shelf;
   same : g.S.Shelf.told l.shelf ≡ g.S.Shelf.told l.initial.shelf;
+  reached : g.S.Shelf.reach l.initial.shelf (name_of l.initial.feed) ≡ Some (place_of l.initial.feed) → g.S.Shelf.reach l.shelf (name_of l.initial.feed) ≡ Some (place_of l.feed);
   others : (q : List ℕ) → q ≢ name_of l.initial.feed → g.S.Shelf.reach l.shelf q ≡ g.S.Shelf.reach l.initial.shelf q;
 }
 

@@ -38,6 +38,7 @@ samples-init g c =
       steady = refl;
       later = omega arith;
       same = refl;
+      reached = λ known. known;
       others = λ q other. refl;
       out_later = omega arith;
     }
@@ -108,6 +109,7 @@ samples-preserved g c =
       steady = c.next.ensures.steady (λ fault. let no : Got.Sample ≡ Got.ReadFault = sym c.in-Sample.is ∙ fault in cc) ∙ c.samples.invariant.steady;
       later = omega (arith, c.samples.invariant.later, c.next.ensures.later);
       same = c.next.ensures.same ∙ c.samples.invariant.same;
+      reached = λ known. rw c.samples.invariant.file.name at (c.next.ensures.reached (rw c.samples.invariant.file.name (c.samples.invariant.reached known)));
       others = λ q other. c.next.ensures.others q (rw c.samples.invariant.file.name other) ∙ c.samples.invariant.others q other;
       out_later = omega (arith, c.samples.invariant.out_later, c.put_row.ensures.later);
     }

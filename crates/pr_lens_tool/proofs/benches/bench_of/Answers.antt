@@ -1,5 +1,6 @@
 use Rattle.std.proofs.Common.{◌∙◌}
 use Rattle.std.proofs.lemmas.Result.{IfErr-weaker, IfOk-weaker, on_ok_weaker}
+use Rattle.pr_tool_modes.proofs.OrderLemmas.{order_after, order_once, order_one}
 use Rattle.pr_lens_bench.specs.Benches.{IsBench}
 use Rattle.pr_lens_tool.specs.Asked.{target_in}
 use Rattle.pr_lens_tool.proofs.BenchLemmas.{bench_made, bench_unmade}
@@ -31,3 +32,13 @@ returns-in-Err-clause-shown g c = plain_shown _ _ c.in-Err.answer c.in-Err.ensur
 
 pub returns-in-Err-planned_on-clause-shown : goal.returns-in-Err-planned_on-clause-shown
 returns-in-Err-planned_on-clause-shown g c = kept_shown _ _ _ c.in-Ok.ensures.steady
+
+pub returns-in-Err-clause-once : goal.returns-in-Err-clause-once
+returns-in-Err-clause-once g c = λ q once. order_one (g.S.Shelf.reach c.args.shelf.now) (g.S.Shelf.reach c.read_file.new.shelf) c.args.target.now.file.now q (order_once _ _ _ c.read_file.ensures.once) c.read_file.ensures.others
+
+pub returns-in-Err-planned_on-clause-once : goal.returns-in-Err-planned_on-clause-once
+returns-in-Err-planned_on-clause-once g c = λ q once. order_one (g.S.Shelf.reach c.args.shelf.now) (g.S.Shelf.reach c.read_file.new.shelf) c.args.target.now.file.now q (order_once _ _ _ c.read_file.ensures.once) c.read_file.ensures.others
+
+pub returns-clause-once : goal.returns-clause-once
+returns-clause-once g c = λ q once. order_after (g.S.Shelf.reach c.args.shelf.now) (g.S.Shelf.reach c.read_file.new.shelf) (g.S.Shelf.reach c.tried.new.shelf) _ c.args.target.now.file.now q c.read_file.ensures.once c.read_file.ensures.others
+    (λ e. c.tried.ensures.others q (once e)) (order_one (g.S.Shelf.reach c.read_file.new.shelf) (g.S.Shelf.reach c.tried.new.shelf) c.args.samples.now q c.tried.ensures.once c.tried.ensures.others)

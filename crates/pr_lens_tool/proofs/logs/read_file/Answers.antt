@@ -4,7 +4,7 @@ use Rattle.pr_edge.specs.Files.{IsMissing, Told}
 use Rattle.pr_lens_log.specs.Readers.{HasRead}
 use Rattle.pr_lens_log.proofs.ReaderLaws.{room_less}
 use Rattle.pr_lens_tool.specs.Logs.{HasShortText, IsReadTo}
-use Rattle.pr_lens_tool.proofs.LogLemmas.{long_log, no_log_since, read_whole, shown_since}
+use Rattle.pr_lens_tool.proofs.LogLemmas.{long_log, no_log_since, once_on, once_through, read_whole, shown_since}
 use Rattle.pr_lens_tool.proofs.logs.read_file.Goals as goal
 
 pub read_more-requires-clause-read : goal.read_more-requires-clause-read
@@ -64,6 +64,8 @@ loop-place-preserved g c =
       choice = c.in_ok-count.ensures.choice ∙ before.choice;
       steady = c.in_ok-count.ensures.steady ∙ before.steady;
       same = c.read_more.ensures.same ∙ before.same;
+      reached = λ none. c.in_ok-count.ensures.reached (before.reached none);
+      others = λ q other. c.read_more.ensures.others q other ∙ before.others q other;
     }
 
 pub returns-clause-refused : goal.returns-clause-refused
@@ -73,6 +75,19 @@ returns-clause-refused g c =
 
 pub returns-clause-shown : goal.returns-clause-shown
 returns-clause-shown g c = inr (inr c.loop-place.invariant.steady)
+
+pub returns-in_err-count-clause-once : goal.returns-in_err-count-clause-once
+returns-in_err-count-clause-once g c =
+    let test = c.loop-place-test.true in
+    once_on 17592186044416 c.loop-place.place _ _ _ (omega (arith, test)) c.loop-place.invariant.reached c.read_more.ensures.once
+
+pub returns-then-count-eq0-clause-once : goal.returns-then-count-eq0-clause-once
+returns-then-count-eq0-clause-once g c =
+    let test = c.loop-place-test.true in
+    once_on 17592186044416 c.loop-place.place _ _ _ (omega (arith, test)) c.loop-place.invariant.reached c.read_more.ensures.once
+
+pub returns-clause-once : goal.returns-clause-once
+returns-clause-once g c = once_through (17592186044416 + 4096) c.loop-place.place _ _ (omega (arith, c.loop-place.invariant.near)) c.loop-place.invariant.reached
 
 pub overflow_add-place : goal.overflow_add-place
 overflow_add-place g c =

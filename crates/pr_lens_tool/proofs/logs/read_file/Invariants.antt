@@ -1,6 +1,6 @@
-use Rattle.std.proofs.Common.{◌≡◌, ◌<◌, ◌≤◌, ◌+◌, ◌-◌, ◌^◌}
+use Rattle.std.proofs.Common.{◌≡◌, ◌≢◌, ◌<◌, ◌≤◌, ◌+◌, ◌-◌, ◌^◌, ℕ, List}
 use Rattle.pr_lens_log.specs.Readers.{HasRoom, choice_of}
-use Rattle.pr_edge.specs.Files.{IsMissing}
+use Rattle.pr_edge.specs.Files.{IsMissing, IsReadThrough}
 use Rattle.pr_lens_tool.specs.Logs.{IsReadTo}
 use Rattle.pr_lens_tool.proofs.logs.read_file.Given as goal
 
@@ -13,6 +13,8 @@ invariant-loop-place g l = record {
   choice : choice_of l.reader ≡ choice_of l.initial.reader;
   steady : g.S.Shelf.faults l.shelf ≡ g.S.Shelf.faults l.initial.shelf;
   same : g.S.Shelf.told l.shelf ≡ g.S.Shelf.told l.initial.shelf;
+  reached : IsReadThrough l.place (g.S.Shelf.reach l.initial.shelf l.name) (g.S.Shelf.reach l.shelf l.name);
+  others : (q : List ℕ) → q ≢ l.name → g.S.Shelf.reach l.shelf q ≡ g.S.Shelf.reach l.initial.shelf q;
 }
 
 abbrev pub decreases-loop-place : goal.decreases-loop-place

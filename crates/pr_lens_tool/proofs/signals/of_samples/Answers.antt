@@ -1,4 +1,5 @@
 use Rattle.std.proofs.Common.{◌∙◌}
+use Rattle.pr_tool_modes.proofs.OrderLemmas.{order_after, order_once, order_one}
 use Rattle.pr_lens_signals.specs.Manners.{manner_of}
 use Rattle.pr_lens_tool.proofs.StreamLemmas.{has_foreign, has_streams}
 use Rattle.pr_lens_tool.proofs.FaultLemmas.{streamed_shown, plain_shown, kept_shown}
@@ -22,3 +23,14 @@ returns-in-Ok-signals-clause-shown g c = streamed_shown _ _ _ c.in-Ok-signals.an
 
 pub returns-in-Err-signals-clause-shown : goal.returns-in-Err-signals-clause-shown
 returns-in-Err-signals-clause-shown g c = kept_shown _ _ _ (c.in-Err-signals.ensures.unread ∙ c.in-Ok.ensures.steady)
+
+pub returns-in-Err-clause-once : goal.returns-in-Err-clause-once
+returns-in-Err-clause-once g c = λ q once. order_one (g.S.Shelf.reach c.args.shelf.now) (g.S.Shelf.reach c.load.new.shelf) c.args.name.now q (order_once _ _ _ c.load.ensures.once) c.load.ensures.others
+
+pub returns-in-Ok-signals-clause-once : goal.returns-in-Ok-signals-clause-once
+returns-in-Ok-signals-clause-once g c = λ q once. order_after (g.S.Shelf.reach c.args.shelf.now) (g.S.Shelf.reach c.load.new.shelf) (g.S.Shelf.reach c.signals.new.shelf) _ c.args.name.now q c.load.ensures.once c.load.ensures.others
+    (λ e. c.signals.ensures.others q (once e)) (order_one (g.S.Shelf.reach c.load.new.shelf) (g.S.Shelf.reach c.signals.new.shelf) c.args.samples.now q c.signals.ensures.once c.signals.ensures.others)
+
+pub returns-in-Err-signals-clause-once : goal.returns-in-Err-signals-clause-once
+returns-in-Err-signals-clause-once g c = λ q once. order_after (g.S.Shelf.reach c.args.shelf.now) (g.S.Shelf.reach c.load.new.shelf) (g.S.Shelf.reach c.signals.new.shelf) _ c.args.name.now q c.load.ensures.once c.load.ensures.others
+    (λ e. c.signals.ensures.others q (once e)) (order_one (g.S.Shelf.reach c.load.new.shelf) (g.S.Shelf.reach c.signals.new.shelf) c.args.samples.now q c.signals.ensures.once c.signals.ensures.others)
