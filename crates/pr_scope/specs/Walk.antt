@@ -19,10 +19,10 @@ use Rattle.pr_scope_names.specs.declared.names.Callee.{Callee}
 use Rattle.pr_scope_names.specs.declared.names.Static.{Static}
 use Rattle.pr_scope_names.specs.declared.names.Static.TheVariants as static
 use Rattle.pr_scope.specs.declared.statements.Ready.{Ready}
-use Rattle.pr_scope.specs.declared.progress.Made.{Made}
+use Rattle.pr_scope.specs.declared.progress.WalkState.{WalkState}
 use Rattle.pr_scope.specs.declared.checking.ScopeFault.{ScopeFault}
 use Rattle.pr_scope.specs.declared.checking.ScopeFault.TheVariants.{Scope, Limit, Memory}
-use Rattle.pr_scope_names.specs.Outcomes.{and_then, provided, in_turn, all_of, counted, number_of}
+use Rattle.pr_scope_names.specs.Outcomes.{Gives, and_then, provided, in_turn, all_of, counted, number_of}
 use Rattle.pr_scope_names.specs.Names.{Known, Streaming, built_in, is_free, assign, bind, known_in, streams_in}
 use Rattle.pr_scope_names.specs.Constants.{constant_of}
 use Rattle.pr_scope.specs.Expressions.{walk_of, past_of}
@@ -222,7 +222,7 @@ IsFault (stop.Offends o) at fault = IsRefusal fault (Some (refusal at o))
 IsFault (stop.Memory e) at fault = (r : Option Refusal) → IsRefusal fault r
 
 -- what the code keeps
-abbrev pub world_of : Made → World
+abbrev pub world_of : WalkState → World
 world_of m = record {
   known = known_in m.statics;
   streams = streams_in m.streams;
@@ -230,6 +230,10 @@ world_of m = record {
   inputs = m.inputs.items;
   has_output = m.has_output;
 }
+
+-- what the code keeps after a step is what the change makes of what it kept before
+abbrev pub Follows : Result Unit Stop → WalkState → WalkState → (World → Result World Offence) → Type 0
+Follows result old new change = Gives result (λ _. world_of new) (change (world_of old))
 
 abbrev pub Walked : {T : Type 0} → Result T ScopeFault → (T → World) → Result World Refusal → Type 0
 Walked result world outcome = MatchResult result (λ t. outcome ≡ Ok (world t)) (λ e. IsRefusal e (refusal_of outcome))

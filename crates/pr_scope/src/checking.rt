@@ -34,3 +34,13 @@ pub enum ScopeFault {
     #[error("out of memory")]
     Memory(AllocError),
 }
+
+impl From<AllocError> for ScopeFault {
+    ghost use Rattle.pr_scope.specs.declared.checking.ScopeFault.TheVariants.{Memory};
+
+    ghost from_gives = { λ a e. e ≡ Memory a };
+
+    fn from(error: AllocError) -> ScopeFault {
+        ScopeFault::Memory(error)
+    }
+}

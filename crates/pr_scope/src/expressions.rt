@@ -236,10 +236,8 @@ fn call(
     ensures value { result ≡ called (known_in statics.now name.now) given scene.now count }
     ensures grows { IfOk result (λ c. count.turns ≤ c.turns) }
 {
-    if let Some(known) = statics.get(name) {
-        if let Static::Function(callee) = known {
-            return call_function(callee, given, scene, count);
-        }
+    if let Some(Static::Function(callee)) = statics.get(name) {
+        return call_function(callee, given, scene, count);
     }
     count_one(count, 0)?;
     Err(Offence::Breaks(Rule::Kinds))
@@ -248,22 +246,7 @@ fn call(
 fn shifts(op: BinOp) -> bool
     ensures { result ≡ is_shift op }
 {
-    match op {
-        BinOp::Left => true,
-        BinOp::Right => true,
-        BinOp::Add => false,
-        BinOp::Sub => false,
-        BinOp::Mul => false,
-        BinOp::And => false,
-        BinOp::Or => false,
-        BinOp::Xor => false,
-        BinOp::Equal => false,
-        BinOp::NotEqual => false,
-        BinOp::Less => false,
-        BinOp::LessEqual => false,
-        BinOp::Greater => false,
-        BinOp::GreaterEqual => false,
-    }
+    matches!(op, BinOp::Left | BinOp::Right)
 }
 
 /// A shift by a constant.
@@ -321,10 +304,10 @@ pub fn walk(
             let count = walk(statics, streams, scene, count, one)?;
             walk(statics, streams, scene, count, other)
         }
-        Expr::Call(name, args) => match walk_all(statics, streams, scene, count, args) {
-            Err(offence) => Err(offence),
-            Ok(count) => call(statics, scene, count, name, args.len()),
-        },
+        Expr::Call(name, args) => {
+            let count = walk_all(statics, streams, scene, count, args)?;
+            call(statics, scene, count, name, args.len())
+        }
         Expr::Cat(parts) => walk_all(statics, streams, scene, count, parts),
         Expr::Paren(inner) => walk(statics, streams, scene, count, inner),
     }
@@ -352,12 +335,7 @@ fn walk_all(
 fn calls_past(statics: &Statics, name: &Name) -> bool
     ensures { result ≡ is_past (known_in statics.now name.now) }
 {
-    if let Some(known) = statics.get(name) {
-        if let Static::Function(callee) = known {
-            return callee.past;
-        }
-    }
-    false
+    matches!(statics.get(name), Some(Static::Function(callee)) if callee.past)
 }
 
 /// Whether the text has `@`, or a call of a function that has a past.
@@ -366,8 +344,7 @@ pub fn has_past(statics: &Statics, expr: &Expr) -> bool
     ensures { result ≡ past_of expr.now (known_in statics.now) }
 {
     match expr {
-        Expr::Number(_) => false,
-        Expr::Refer(_) => false,
+        Expr::Number(_) | Expr::Refer(_) => false,
         Expr::Delay(_, _) => true,
         Expr::Slice(inner, _, _) => has_past(statics, inner),
         Expr::Not(inner) => has_past(statics, inner),

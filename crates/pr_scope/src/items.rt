@@ -3,10 +3,10 @@ ghost use Rattle.std.specs.Prelude.{◌≡◌, ◌<◌, IfOk, None, OnOk, map};
 ghost use Rattle.pr_scope_names.specs.Outcomes.{Gives, all_of};
 ghost use Rattle.pr_scope_names.specs.Names.{IsOutside, KeepsNames, horizon_in, known_in, streams_in};
 ghost use Rattle.pr_scope_names.specs.Constants.{constant_of};
-ghost use Rattle.pr_scope.specs.Walk.{body_walk, callee_of, constant_change, function_change, have_widths, input_change, input_ready, introduced, item_change, output_change, output_ready, params_from, step_change, table_change, world_of};
+ghost use Rattle.pr_scope.specs.Walk.{Follows, body_walk, callee_of, constant_change, function_change, have_widths, input_change, input_ready, introduced, item_change, output_change, output_ready, params_from, step_change, table_change, world_of};
 
 use crate::expressions::{Scene, has_past, walk};
-use crate::progress::Made;
+use crate::progress::WalkState;
 use crate::statements::{
     Ready, any_stmt_past, assign_stream, complete, has_width, is_new, walk_stmt, walk_stmts,
 };
@@ -76,10 +76,8 @@ fn introduce(
     if !is_new(statics, streams, name) {
         return Err(Stop::Offends(Offence::Breaks(Rule::Introduced)));
     }
-    match statics.set(alloc, name, number, what) {
-        Err(error) => Err(Stop::Memory(error)),
-        Ok(()) => Ok(()),
-    }
+    statics.set(alloc, name, number, what)?;
+    Ok(())
 }
 
 /// The entries of a table, from left to right.
@@ -88,14 +86,8 @@ fn entries_of(alloc: Global, statics: &Statics, values: &[Fixed]) -> Result<Vec<
 {
     let mut entries = Vec::new(alloc);
     for value in values {
-        let number = match constant(statics, value) {
-            Err(offence) => return Err(Stop::Offends(offence)),
-            Ok(number) => number,
-        };
-        match entries.push(number) {
-            Err(failed) => return Err(Stop::Memory(failed.into())),
-            Ok(()) => {}
-        }
+        let number = constant(statics, value)?;
+        entries.push(number)?;
     }
     Ok(entries)
 }
@@ -106,10 +98,7 @@ fn locals_of(alloc: Global, statics: &Statics, params: &[Param]) -> Result<Strea
 {
     let mut streams = Streams::new(alloc);
     for param in params {
-        match assign_stream(alloc, statics, &mut streams, &param.name, None) {
-            Err(stop) => return Err(stop),
-            Ok(()) => {}
-        }
+        assign_stream(alloc, statics, &mut streams, &param.name, None)?;
     }
     Ok(streams)
 }
@@ -143,18 +132,13 @@ fn walk_body(
         turns: 0,
         deepest: 0,
     };
-    let count = match walk_stmts(alloc, statics, &mut streams, true, begin, body) {
-        Err(stop) => return Err(stop),
-        Ok(count) => count,
-    };
+    let count = walk_stmts(alloc, statics, &mut streams, true, begin, body)?;
     let scene = Scene {
         own: None,
         inside: true,
     };
-    match walk(statics, &streams, &scene, count, value) {
-        Err(offence) => Err(Stop::Offends(offence)),
-        Ok(count) => Ok(count),
-    }
+    let count = walk(statics, &streams, &scene, count, value)?;
+    Ok(count)
 }
 
 /// What callers see of a function, whose body is walked.
@@ -171,199 +155,143 @@ fn define(
     ensures horizon { horizon_in statics.new ≡ horizon_in statics.old }
 {
     let past = any_stmt_past(statics, function.body) || has_past(statics, function.value);
-    let locals = match locals_of(alloc, statics, function.params) {
-        Err(stop) => return Err(stop),
-        Ok(locals) => locals,
-    };
+    let locals = locals_of(alloc, statics, function.params)?;
     if !(params_have_widths(function.params) && has_width(function.width)) {
         return Err(Stop::Offends(Offence::Breaks(Rule::Bounds)));
     }
-    match walk_body(alloc, statics, locals, function.body, function.value) {
-        Err(stop) => Err(stop),
-        Ok(count) => Ok(Callee {
-            item: Some(number),
-            params: function.params.len(),
-            turns: count.turns,
-            depth: u32::from(count.deepest) + 1,
-            past,
-        }),
-    }
+    let count = walk_body(alloc, statics, locals, function.body, function.value)?;
+    Ok(Callee {
+        item: Some(number),
+        params: function.params.len(),
+        turns: count.turns,
+        depth: u32::from(count.deepest) + 1,
+        past,
+    })
 }
 
-fn input(alloc: Global, made: &mut Made, name: &Name, width: u64) -> Result<(), Stop>
-    ensures walk { Gives result (λ _. world_of made.new) (input_change name.now width (world_of made.old)) }
-    ensures grows { OnOk result (made.old.count.turns < made.new.count.turns) }
+fn input(alloc: Global, state: &mut WalkState, name: &Name, width: u64) -> Result<(), Stop>
+    ensures walk { Follows result state.old state.new (input_change name.now width) }
+    ensures grows { OnOk result (state.old.count.turns < state.new.count.turns) }
 {
-    let ready = match before_input(made.count, width) {
-        Err(offence) => return Err(Stop::Offends(offence)),
-        Ok(ready) => ready,
-    };
-    match complete(alloc, &made.statics, &mut made.streams, name, ready) {
-        Err(stop) => return Err(stop),
-        Ok(count) => made.count = count,
-    }
-    match made.inputs.push(width as u8) {
-        Err(failed) => Err(Stop::Memory(failed.into())),
-        Ok(()) => Ok(()),
-    }
+    let ready = before_input(state.count, width)?;
+    state.count = complete(alloc, &state.statics, &mut state.streams, name, ready)?;
+    state.inputs.push(width as u8)?;
+    Ok(())
 }
 
 fn output(
     alloc: Global,
-    made: &mut Made,
+    state: &mut WalkState,
     name: &Name,
     width: Option<u64>,
     value: &Expr,
 ) -> Result<(), Stop>
-    ensures walk { Gives result (λ _. world_of made.new) (output_change name.now width value.now (world_of made.old)) }
-    ensures grows { OnOk result (made.old.count.turns < made.new.count.turns) }
+    ensures walk { Follows result state.old state.new (output_change name.now width value.now) }
+    ensures grows { OnOk result (state.old.count.turns < state.new.count.turns) }
 {
-    let ready = match before_output(&made.statics, &made.streams, made.count, width, value) {
-        Err(offence) => return Err(Stop::Offends(offence)),
-        Ok(ready) => ready,
-    };
-    match complete(alloc, &made.statics, &mut made.streams, name, ready) {
-        Err(stop) => Err(stop),
-        Ok(count) => {
-            made.count = count;
-            made.has_output = true;
-            Ok(())
-        }
-    }
+    let ready = before_output(&state.statics, &state.streams, state.count, width, value)?;
+    state.count = complete(alloc, &state.statics, &mut state.streams, name, ready)?;
+    state.has_output = true;
+    Ok(())
 }
 
 fn constant_item(
     alloc: Global,
-    made: &mut Made,
+    state: &mut WalkState,
     number: u32,
     name: &Name,
     value: &Fixed,
 ) -> Result<(), Stop>
-    ensures walk { Gives result (λ _. world_of made.new) (constant_change name.now value.now (world_of made.old)) }
-    ensures grows { OnOk result (made.old.count.turns < made.new.count.turns) }
+    ensures walk { Follows result state.old state.new (constant_change name.now value.now) }
+    ensures grows { OnOk result (state.old.count.turns < state.new.count.turns) }
 {
-    let count = match count_one(made.count, 0) {
-        Err(offence) => return Err(Stop::Offends(offence)),
-        Ok(count) => count,
-    };
-    let amount = match constant(&made.statics, value) {
-        Err(offence) => return Err(Stop::Offends(offence)),
-        Ok(amount) => amount,
-    };
-    match introduce(
+    let count = count_one(state.count, 0)?;
+    let what = Static::Constant(constant(&state.statics, value)?);
+    introduce(
         alloc,
-        &mut made.statics,
-        &made.streams,
+        &mut state.statics,
+        &state.streams,
         number,
         name,
-        Static::Constant(amount),
-    ) {
-        Err(stop) => Err(stop),
-        Ok(()) => {
-            made.count = count;
-            Ok(())
-        }
-    }
+        what,
+    )?;
+    state.count = count;
+    Ok(())
 }
 
 fn table_item(
     alloc: Global,
-    made: &mut Made,
+    state: &mut WalkState,
     number: u32,
     name: &Name,
     values: &[Fixed],
 ) -> Result<(), Stop>
-    ensures walk { Gives result (λ _. world_of made.new) (table_change name.now values.now (world_of made.old)) }
-    ensures grows { OnOk result (made.old.count.turns < made.new.count.turns) }
+    ensures walk { Follows result state.old state.new (table_change name.now values.now) }
+    ensures grows { OnOk result (state.old.count.turns < state.new.count.turns) }
 {
-    let count = match count_one(made.count, 0) {
-        Err(offence) => return Err(Stop::Offends(offence)),
-        Ok(count) => count,
-    };
-    let entries = match entries_of(alloc, &made.statics, values) {
-        Err(stop) => return Err(stop),
-        Ok(entries) => Table::new(entries),
-    };
-    match introduce(
+    let count = count_one(state.count, 0)?;
+    let entries = entries_of(alloc, &state.statics, values)?;
+    let what = Static::Table(Table::new(entries));
+    introduce(
         alloc,
-        &mut made.statics,
-        &made.streams,
+        &mut state.statics,
+        &state.streams,
         number,
         name,
-        Static::Table(entries),
-    ) {
-        Err(stop) => Err(stop),
-        Ok(()) => {
-            made.count = count;
-            Ok(())
-        }
-    }
+        what,
+    )?;
+    state.count = count;
+    Ok(())
 }
 
 fn function_item(
     alloc: Global,
-    made: &mut Made,
+    state: &mut WalkState,
     number: u32,
     name: &Name,
     function: &Function,
 ) -> Result<(), Stop>
-    ensures walk { Gives result (λ _. world_of made.new) (function_change number name.now function.now.params.now
-        function.now.width function.now.body.now function.now.value.now (world_of made.old)) }
-    ensures grows { OnOk result (made.old.count.turns < made.new.count.turns) }
+    ensures walk { Follows result state.old state.new (function_change number name.now function.now.params.now
+        function.now.width function.now.body.now function.now.value.now) }
+    ensures grows { OnOk result (state.old.count.turns < state.new.count.turns) }
 {
-    let count = match count_one(made.count, 0) {
-        Err(offence) => return Err(Stop::Offends(offence)),
-        Ok(count) => count,
-    };
-    if !is_new(&made.statics, &made.streams, name) {
+    let count = count_one(state.count, 0)?;
+    if !is_new(&state.statics, &state.streams, name) {
         return Err(Stop::Offends(Offence::Breaks(Rule::Introduced)));
     }
-    let callee = match define(alloc, &mut made.statics, number, function) {
-        Err(stop) => return Err(stop),
-        Ok(callee) => callee,
-    };
-    match made
+    let callee = define(alloc, &mut state.statics, number, function)?;
+    state
         .statics
-        .set(alloc, name, number, Static::Function(callee))
-    {
-        Err(error) => Err(Stop::Memory(error)),
-        Ok(()) => {
-            made.count = count;
-            Ok(())
-        }
-    }
+        .set(alloc, name, number, Static::Function(callee))?;
+    state.count = count;
+    Ok(())
 }
 
-fn step(alloc: Global, made: &mut Made, stmt: &Stmt) -> Result<(), Stop>
-    ensures walk { Gives result (λ _. world_of made.new) (step_change stmt.now (world_of made.old)) }
-    ensures grows { OnOk result (made.old.count.turns < made.new.count.turns) }
+fn step(alloc: Global, state: &mut WalkState, stmt: &Stmt) -> Result<(), Stop>
+    ensures walk { Follows result state.old state.new (step_change stmt.now) }
+    ensures grows { OnOk result (state.old.count.turns < state.new.count.turns) }
 {
-    match walk_stmt(
+    state.count = walk_stmt(
         alloc,
-        &mut made.statics,
-        &mut made.streams,
+        &mut state.statics,
+        &mut state.streams,
         false,
-        made.count,
+        state.count,
         stmt,
-    ) {
-        Err(stop) => Err(stop),
-        Ok(count) => {
-            made.count = count;
-            Ok(())
-        }
-    }
+    )?;
+    Ok(())
 }
 
 /// What the items have made after this one, which has this number.
-pub fn walk_item(alloc: Global, made: &mut Made, number: u32, item: &Item) -> Result<(), Stop>
-    ensures walk { Gives result (λ _. world_of made.new) (item_change number item.now (world_of made.old)) }
-    ensures grows { OnOk result (made.old.count.turns < made.new.count.turns) }
+pub fn walk_item(alloc: Global, state: &mut WalkState, number: u32, item: &Item) -> Result<(), Stop>
+    ensures walk { Follows result state.old state.new (item_change number item.now) }
+    ensures grows { OnOk result (state.old.count.turns < state.new.count.turns) }
 {
     match item {
-        Item::Input { name, width } => input(alloc, made, name, *width),
-        Item::Output { name, width, value } => output(alloc, made, name, *width, value),
-        Item::Const { name, value } => constant_item(alloc, made, number, name, value),
-        Item::Table { name, values } => table_item(alloc, made, number, name, values),
+        Item::Input { name, width } => input(alloc, state, name, *width),
+        Item::Output { name, width, value } => output(alloc, state, name, *width, value),
+        Item::Const { name, value } => constant_item(alloc, state, number, name, value),
+        Item::Table { name, values } => table_item(alloc, state, number, name, values),
         Item::Function {
             name,
             params,
@@ -377,8 +305,8 @@ pub fn walk_item(alloc: Global, made: &mut Made, number: u32, item: &Item) -> Re
                 body,
                 value: result,
             };
-            function_item(alloc, made, number, name, &function)
+            function_item(alloc, state, number, name, &function)
         }
-        Item::Step(stmt) => step(alloc, made, stmt),
+        Item::Step(stmt) => step(alloc, state, stmt),
     }
 }

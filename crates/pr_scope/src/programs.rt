@@ -4,31 +4,29 @@ ghost use Rattle.pr_scope.specs.Walk.{IsFault, IsRefusal, Walked, ended, items_w
 
 use crate::checking::{ScopeFault, Scoped};
 use crate::items::walk_item;
-use crate::progress::Made;
+use crate::progress::WalkState;
 use pr_base::Cap;
 use pr_lang::{Item, Program};
 use pr_scope_names::{Count, Offence, Rule, Statics, Stop, Streams};
-use std::alloc::{AllocError, Global};
+use std::alloc::Global;
 
 fn fault(stop: Stop, item: u32) -> ScopeFault
     ensures { IsFault stop item result }
 {
     match stop {
-        Stop::Offends(offence) => match offence {
-            Offence::Turns => ScopeFault::Limit(Cap::Turns),
-            Offence::Breaks(rule) => ScopeFault::Scope {
-                rule: rule.number(),
-                item,
-            },
+        Stop::Offends(Offence::Turns) => ScopeFault::Limit(Cap::Turns),
+        Stop::Offends(Offence::Breaks(rule)) => ScopeFault::Scope {
+            rule: rule.number(),
+            item,
         },
         Stop::Memory(error) => ScopeFault::Memory(error),
     }
 }
 
-fn end(made: &Made, item: u32) -> Result<(), ScopeFault>
-    ensures { Walked result (λ _. world_of made.now) (ended item (world_of made.now)) }
+fn end(state: &WalkState, item: u32) -> Result<(), ScopeFault>
+    ensures { Walked result (λ _. world_of state.now) (ended item (world_of state.now)) }
 {
-    if made.inputs.is_empty() || !made.has_output {
+    if state.inputs.is_empty() || !state.has_output {
         return Err(ScopeFault::Scope {
             rule: Rule::Ends.number(),
             item,
@@ -37,18 +35,16 @@ fn end(made: &Made, item: u32) -> Result<(), ScopeFault>
     Ok(())
 }
 
-fn walk_items(alloc: Global, made: &mut Made, items: &[Item]) -> Result<(), ScopeFault>
-    ensures walk { Walked result (λ _. world_of made.new) (items_walk 0 items.now (world_of made.old)) }
-    ensures few { OnOk result (length items.now ≤ made.new.count.turns) }
+fn walk_items(alloc: Global, state: &mut WalkState, items: &[Item]) -> Result<(), ScopeFault>
+    ensures walk { Walked result (λ _. world_of state.new) (items_walk 0 items.now (world_of state.old)) }
+    ensures few { OnOk result (length items.now ≤ state.new.count.turns) }
 {
     let mut number = 0;
     for item in items {
-        match walk_item(alloc, made, number, item) {
-            Err(stop) => return Err(fault(stop, number)),
-            Ok(()) => number += 1,
-        }
+        walk_item(alloc, state, number, item).map_err(|stop| fault(stop, number))?;
+        number += 1;
     }
-    end(made, number)
+    end(state, number)
 }
 
 /// Checks the scope rules of a program.
@@ -60,12 +56,8 @@ pub fn check(alloc: Global, program: Program) -> Result<Scoped, ScopeFault>
     ensures ok { IfOk result (λ s. s.program ≡ program) }
     ensures err { IfErr result (λ e. IsRefusal e (offence program)) }
 {
-    let statics = match Statics::new(alloc) {
-        Err(error) => return Err(ScopeFault::Memory(error)),
-        Ok(statics) => statics,
-    };
-    let mut made = Made {
-        statics,
+    let mut state = WalkState {
+        statics: Statics::new(alloc)?,
         streams: Streams::new(alloc),
         count: Count {
             turns: 0,
@@ -74,20 +66,18 @@ pub fn check(alloc: Global, program: Program) -> Result<Scoped, ScopeFault>
         inputs: Vec::new(alloc),
         has_output: false,
     };
-    match walk_items(alloc, &mut made, &program.items) {
-        Err(fault) => Err(fault),
-        Ok(()) => Ok(hand_over(program, made)),
-    }
+    walk_items(alloc, &mut state, &program.items)?;
+    Ok(hand_over(program, state))
 }
 
-fn hand_over(program: Program, made: Made) -> Scoped
-    requires walk { program_walk program ≡ Ok (world_of made) }
-    requires few { vec_len program.items ≤ made.count.turns }
+fn hand_over(program: Program, state: WalkState) -> Scoped
+    requires walk { program_walk program ≡ Ok (world_of state) }
+    requires few { vec_len program.items ≤ state.count.turns }
     ensures { result.program ≡ program }
 {
     Scoped {
         program,
-        inputs: made.inputs,
-        turns: made.count.turns,
+        inputs: state.inputs,
+        turns: state.count.turns,
     }
 }

@@ -5,7 +5,7 @@ use pr_scope_names::{Count, Statics, Streams};
 
 /// What the items so far have made.
 #[derive(Drop)]
-pub struct Made {
+pub struct WalkState {
     pub statics: Statics,
     pub streams: Streams,
     pub count: Count,

@@ -53,7 +53,7 @@ pub struct Loop<'a> {
 
 /// A turn of a loop, at one value of its index.
 #[derive(Clone, Copy)]
-pub struct Turn<'a> {
+pub struct LoopTurn<'a> {
     pub index: &'a Name,
     pub at: u64,
     pub inside: bool,
@@ -134,10 +134,8 @@ pub fn assign_stream(
     if statics.get(name).is_some() || streams.has(name, place) {
         return Err(Stop::Offends(Offence::Breaks(Rule::Introduced)));
     }
-    match streams.add(alloc, name, place) {
-        Err(error) => Err(Stop::Memory(error)),
-        Ok(()) => Ok(()),
-    }
+    streams.add(alloc, name, place)?;
+    Ok(())
 }
 
 /// A target is introduced.
@@ -152,10 +150,8 @@ pub fn complete(
         (completed name.now (known_in statics.now) (streams_in streams.old) ready) }
     ensures same_count { IfOk result (λ c. c ≡ ready.count) }
 {
-    match assign_stream(alloc, statics, streams, name, ready.place) {
-        Err(stop) => Err(stop),
-        Ok(()) => Ok(ready.count),
-    }
+    assign_stream(alloc, statics, streams, name, ready.place)?;
+    Ok(ready.count)
 }
 
 fn let_stmt(
@@ -172,10 +168,8 @@ fn let_stmt(
         (completed stmt.now.target.now.name (known_in statics.now) (streams_in streams.old))) }
     ensures grows { IfOk result (λ c. count.turns < c.turns) }
 {
-    match before_let(statics, streams, inside, count, stmt) {
-        Err(offence) => Err(Stop::Offends(offence)),
-        Ok(ready) => complete(alloc, statics, streams, &stmt.target.name, ready),
-    }
+    let ready = before_let(statics, streams, inside, count, stmt)?;
+    complete(alloc, statics, streams, &stmt.target.name, ready)
 }
 
 fn begin_rec(statics: &Statics, count: Count, stmt: &Rec) -> Result<Ready, Offence>
@@ -211,23 +205,19 @@ fn body_of_rec(
         (known_in statics.now) (streams_in streams.now) inside begun) }
     ensures grows { IfOk result (λ r. begun.count.turns ≤ r.count.turns) }
 {
-    match stmt.target.name.copy(alloc) {
-        Err(error) => Err(Stop::Memory(error)),
-        Ok(name) => {
-            let own = Some(Instance {
-                name,
-                index: begun.place,
-            });
-            let scene = Scene { own, inside };
-            match walk(statics, streams, &scene, begun.count, stmt.body) {
-                Err(offence) => Err(Stop::Offends(offence)),
-                Ok(count) => Ok(Ready {
-                    place: begun.place,
-                    count,
-                }),
-            }
-        }
-    }
+    let own = Instance {
+        name: stmt.target.name.copy(alloc)?,
+        index: begun.place,
+    };
+    let scene = Scene {
+        own: Some(own),
+        inside,
+    };
+    let count = walk(statics, streams, &scene, begun.count, stmt.body)?;
+    Ok(Ready {
+        place: begun.place,
+        count,
+    })
 }
 
 fn before_rec(
@@ -243,10 +233,8 @@ fn before_rec(
         (known_in statics.now) (streams_in streams.now) inside count) }
     ensures grows { IfOk result (λ r. count.turns < r.count.turns) }
 {
-    match begin_rec(statics, count, stmt) {
-        Err(offence) => Err(Stop::Offends(offence)),
-        Ok(begun) => body_of_rec(alloc, statics, streams, inside, begun, stmt),
-    }
+    let begun = begin_rec(statics, count, stmt)?;
+    body_of_rec(alloc, statics, streams, inside, begun, stmt)
 }
 
 fn rec_stmt(
@@ -263,10 +251,8 @@ fn rec_stmt(
         (completed stmt.now.target.now.name (known_in statics.now) (streams_in streams.old))) }
     ensures grows { IfOk result (λ c. count.turns < c.turns) }
 {
-    match before_rec(alloc, statics, streams, inside, count, stmt) {
-        Err(stop) => Err(stop),
-        Ok(ready) => complete(alloc, statics, streams, &stmt.target.name, ready),
-    }
+    let ready = before_rec(alloc, statics, streams, inside, count, stmt)?;
+    complete(alloc, statics, streams, &stmt.target.name, ready)
 }
 
 /// A loop's bounds, and its index, which has to be new.
@@ -341,17 +327,15 @@ pub fn walk_stmt(
             low,
             high,
             body,
-        } => match before_for(statics, streams, count, index, low, high) {
-            Err(offence) => Err(Stop::Offends(offence)),
-            Ok(span) => {
-                let all = Loop {
-                    index,
-                    span,
-                    inside,
-                };
-                walk_turns(alloc, statics, streams, &all, body)
-            }
-        },
+        } => {
+            let span = before_for(statics, streams, count, index, low, high)?;
+            let all = Loop {
+                index,
+                span,
+                inside,
+            };
+            walk_turns(alloc, statics, streams, &all, body)
+        }
     }
 }
 
@@ -375,15 +359,12 @@ fn walk_turns(
 {
     let mut count = all.span.count;
     for at in all.span.low..all.span.high {
-        let one = Turn {
+        let one = LoopTurn {
             index: all.index,
             at,
             inside: all.inside,
         };
-        match walk_turn(alloc, statics, streams, count, &one, body) {
-            Err(stop) => return Err(stop),
-            Ok(after) => count = after,
-        }
+        count = walk_turn(alloc, statics, streams, count, &one, body)?;
     }
     Ok(count)
 }
@@ -394,7 +375,7 @@ fn walk_turn(
     statics: &mut Statics,
     streams: &mut Streams,
     count: Count,
-    one: &Turn,
+    one: &LoopTurn,
     body: &[Stmt],
 ) -> Result<Count, Stop>
     requires { known_in statics.old one.now.index.now ≡ None }
@@ -406,18 +387,11 @@ fn walk_turn(
     ensures horizon { horizon_in statics.new ≡ horizon_in statics.old }
     ensures grows { IfOk result (λ c. count.turns < c.turns) }
 {
-    let count = match count_one(count, 0) {
-        Err(offence) => return Err(Stop::Offends(offence)),
-        Ok(count) => count,
-    };
-    match statics.set_index(alloc, one.index, one.at) {
-        Err(error) => Err(Stop::Memory(error)),
-        Ok(()) => {
-            let count = walk_stmts(alloc, statics, streams, one.inside, count, body)?;
-            statics.unset_index(one.index);
-            Ok(count)
-        }
-    }
+    let count = count_one(count, 0)?;
+    statics.set_index(alloc, one.index, one.at)?;
+    let count = walk_stmts(alloc, statics, streams, one.inside, count, body)?;
+    statics.unset_index(one.index);
+    Ok(count)
 }
 
 /// The count after these statements.
@@ -439,10 +413,7 @@ pub fn walk_stmts(
 {
     let mut count = count;
     for stmt in stmts {
-        match walk_stmt(alloc, statics, streams, inside, count, stmt) {
-            Err(stop) => return Err(stop),
-            Ok(after) => count = after,
-        }
+        count = walk_stmt(alloc, statics, streams, inside, count, stmt)?;
     }
     Ok(count)
 }
@@ -453,23 +424,9 @@ fn stmt_has_past(statics: &Statics, stmt: &Stmt) -> bool
     ensures { result ≡ stmt_past_of stmt.now (known_in statics.now) }
 {
     match stmt {
-        Stmt::Let {
-            target: _,
-            width: _,
-            value,
-        } => has_past(statics, value),
-        Stmt::Rec {
-            target: _,
-            width: _,
-            init: _,
-            body: _,
-        } => true,
-        Stmt::For {
-            index: _,
-            low: _,
-            high: _,
-            body,
-        } => any_stmt_past(statics, body),
+        Stmt::Let { value, .. } => has_past(statics, value),
+        Stmt::Rec { .. } => true,
+        Stmt::For { body, .. } => any_stmt_past(statics, body),
     }
 }
 

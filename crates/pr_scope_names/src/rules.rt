@@ -1,8 +1,9 @@
 //! What a walk can break.
-ghost use Rattle.std.specs.Prelude.{◌≡◌};
+ghost use Rattle.std.specs.Prelude.{◌≡◌, alloc_error};
+ghost use Rattle.pr_scope_names.specs.declared.rules.Stop.TheVariants.{Memory, Offends};
 ghost use Rattle.pr_scope_names.specs.Outcomes.{number_of};
 
-use std::alloc::AllocError;
+use std::alloc::{AllocError, AllocFailed};
 
 /// The rules of scope, in the order of their numbers, which are 1 to 10.
 #[derive(Clone, Copy, Debug, PartialEq, Eq)]
@@ -62,4 +63,28 @@ pub enum Offence {
 pub enum Stop {
     Offends(Offence),
     Memory(AllocError),
+}
+
+impl From<Offence> for Stop {
+    ghost from_gives = { λ a e. e ≡ Offends a };
+
+    fn from(offence: Offence) -> Stop {
+        Stop::Offends(offence)
+    }
+}
+
+impl From<AllocError> for Stop {
+    ghost from_gives = { λ a e. e ≡ Memory a };
+
+    fn from(error: AllocError) -> Stop {
+        Stop::Memory(error)
+    }
+}
+
+impl<T: Drop> From<AllocFailed<T>> for Stop {
+    ghost from_gives = { λ _ e. e ≡ Memory alloc_error };
+
+    fn from(refused: AllocFailed<T>) -> Stop {
+        Stop::Memory(AllocError::from(refused))
+    }
 }

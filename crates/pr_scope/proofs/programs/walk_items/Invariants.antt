@@ -4,7 +4,7 @@ use Rattle.pr_scope.proofs.programs.walk_items.Given as goal
 
 abbrev pub invariant-loop-item : goal.invariant-loop-item
 invariant-loop-item l = record {
-  rest : items_walk l.number (drop l.item-index l.items) (world_of l.made) ≡ items_walk 0 l.items (world_of l.fn.made);
-  grows : l.number ≤ l.made.count.turns;
+  rest : items_walk l.number (drop l.item-index l.items) (world_of l.state) ≡ items_walk 0 l.items (world_of l.fn.state);
+  grows : l.number ≤ l.state.count.turns;
   number : l.number ≡ l.item-index;
 }
