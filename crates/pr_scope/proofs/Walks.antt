@@ -1,36 +1,25 @@
 -- The steps of walks.
-use Rattle.std.proofs.Common.{◌≡◌, ◌∙◌, ◌+◌, ◌-◌, ◌<◌, ℕ, suc, Bool, true, List, [], ◌∷◌, ◌++◌, append_assoc, None, map, drop, length, get_or, Option, Result, Ok, Err, Vec, Global, refl, sym, ap, subst, arith}
-use Rattle.std.proofs.lemmas.List.{at_drop_more, length-map}
+use Rattle.std.proofs.Common.{◌≡◌, ◌+◌, ◌-◌, ◌<◌, ℕ, suc, true, List, None, map, length, Result, Ok, Err, Vec, Global, refl, sym, ap, subst, arith}
+use Rattle.std.proofs.lemmas.List.{length-map}
 use Rattle.std.proofs.lemmas.Result.{err_from_is_err_and}
 use Rattle.std.specs.Result.{IsErrAnd}
-use Rattle.pr_lang.specs.declared.trees.Fixed.{Fixed}
-use Rattle.pr_lang.specs.declared.trees.Ref.{Ref}
-use Rattle.pr_lang.specs.declared.trees.Param.{Param}
-use Rattle.pr_lang.specs.declared.trees.Item.{Item}
 use Rattle.pr_lang.specs.declared.trees.Expr as expressions
 use Rattle.pr_lang.specs.declared.trees.Expr.{Expr}
 use Rattle.pr_lang.specs.declared.trees.Expr.TheVariants.{Call}
 use Rattle.pr_lang.specs.declared.trees.Expr.TheOpen.{Expr-F}
 use Rattle.pr_lang.specs.declared.trees.Expr.TheFolds.{fold-roll-Expr}
-use Rattle.pr_lang.specs.declared.trees.Stmt as statements
 use Rattle.pr_lang.specs.declared.trees.Stmt.{Stmt}
-use Rattle.pr_lang.specs.declared.trees.Stmt.TheVariants.{Let, Rec, For}
-use Rattle.pr_lang.specs.declared.trees.Stmt.TheOpen.{Stmt-F}
-use Rattle.pr_lang.specs.declared.trees.Stmt.TheFolds.{fold-roll-Stmt}
 use Rattle.pr_scope_names.specs.declared.rules.Offence.{Offence}
 use Rattle.pr_scope_names.specs.declared.rules.Stop.{Stop}
-use Rattle.pr_scope_names.specs.declared.rules.Stop.TheVariants.{Offends, Memory}
 use Rattle.pr_scope_names.specs.declared.counts.Count.{Count}
 use Rattle.pr_scope.specs.declared.expressions.Scene.{Scene}
-use Rattle.pr_scope.specs.declared.statements.Span.{Span}
-use Rattle.pr_scope_names.specs.Outcomes.{all_of, and_then, Gives, IsOffence}
-use Rattle.pr_scope_names.specs.Names.{Known, Streaming, assign}
+use Rattle.pr_scope_names.specs.Outcomes.{and_then, Gives, IsOffence}
+use Rattle.pr_scope_names.specs.Names.{Known, Streaming}
 use Rattle.pr_scope_names.specs.Amounts.{amount_of}
 use Rattle.pr_scope_names.proofs.Folds.{amount_kept}
 use Rattle.pr_scope.specs.Expressions.{Reading, called, reading, reading_step, walk_of, walks_of}
-use Rattle.pr_scope.specs.declared.checking.ScopeFault.{ScopeFault}
-use Rattle.pr_scope.specs.Walk.{IsFault, IsRefusal, Refusal, World, body_walk, item_change, items_walk, onward, params_from, refusal_of}
-use Rattle.pr_scope.specs.Statements.{Change, Progress, change_of, changes_of, completed, for_ready, let_ready, rec_ready, stmt_step, turn, turns}
+use Rattle.pr_scope.specs.Walk.{body_walk}
+use Rattle.pr_scope.specs.Statements.{Progress, changes_of, turns}
 
 pub reading_amount : (e : Expr) → (reading e).amount ≡ amount_of e
 reading_amount = amount_kept Reading reading_step (λ r. r.amount) (λ x. refl)
@@ -54,23 +43,11 @@ call_met known streams scene c d name lent args given r all walked same is =
 pub stopped : {T A : Type 0} (r : Result T Stop) (f : T → A) (o : Result A Offence) (e : Stop) → IsErrAnd r (λ d. d ≡ e) → IsOffence e o → Gives r f o
 stopped r f o e is stop = let p = err_from_is_err_and r is in rw (p.1, p.2) stop
 
--- the first step's offence is that of both
-pub offends_then : {A B : Type 0} (e : Stop) (o : Result A Offence) (k : A → Result B Offence) → IsOffence e o → IsOffence e (and_then o k)
-offends_then (Offends p) o k h = rw h refl
-offends_then (Memory e) o k h = tt
-
-turns_next : (f : ℕ → Progress → Result Progress Offence) (end at : ℕ) (s : Progress) → at < end → turns (end - at) at f s ≡ and_then (f at s) (turns (end - (at + 1)) (at + 1) f)
+-- the next turn of a loop, and the rest of them
+pub turns_next : (f : ℕ → Progress → Result Progress Offence) (end at : ℕ) (s : Progress) → at < end → turns (end - at) at f s ≡ and_then (f at s) (turns (end - (at + 1)) (at + 1) f)
 turns_next f end at s h =
     let more : end - at ≡ suc (end - (at + 1)) = omega arith in
     rw more refl
-
-pub turns_step : (f : ℕ → Progress → Result Progress Offence) (end at : ℕ) (s t : Progress) (w : Result Progress Offence) → at < end → f at s ≡ Ok t → turns (end - at) at f s ≡ w → turns (end - (at + 1)) (at + 1) f t ≡ w
-turns_step f end at s t w h step rest =
-    sym (turns_next f end at s h ∙ ap (λ (o : Result Progress Offence). and_then o (turns (end - (at + 1)) (at + 1) f)) step) ∙ rest
-
-pub turns_stop : (f : ℕ → Progress → Result Progress Offence) (end at : ℕ) (s : Progress) (w : Result Progress Offence) (e : Stop) → at < end → IsOffence e (f at s) → turns (end - at) at f s ≡ w → IsOffence e w
-turns_stop f end at s w e h stop rest =
-    rw (← rest, turns_next f end at s h) (offends_then e (f at s) (turns (end - (at + 1)) (at + 1) f) stop)
 
 -- a function's body, and its result
 pub body_met : (body : List Stmt) (value : Expr) (k known : Known) (locals : Streaming) (s : Progress) (r : Result Count Offence) → changes_of body known true (record { streams = locals; count = record { turns = 0; deepest = 0 } }) ≡ Ok s → k ≡ known → r ≡ walk_of value k s.streams (record { own = None; inside = true }) s.count → body_walk body value known locals ≡ r

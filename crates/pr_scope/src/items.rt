@@ -74,7 +74,7 @@ fn introduce(
     ensures horizon { horizon_in statics.new ≡ horizon_in statics.old }
 {
     if !is_new(statics, streams, name) {
-        return Err(Stop::Offends(Offence::Breaks(Rule::Introduced)));
+        return Err(Offence::Breaks(Rule::Introduced).into());
     }
     statics.set(alloc, name, number, what)?;
     Ok(())
@@ -157,7 +157,7 @@ fn define(
     let past = any_stmt_past(statics, function.body) || has_past(statics, function.value);
     let locals = locals_of(alloc, statics, function.params)?;
     if !(params_have_widths(function.params) && has_width(function.width)) {
-        return Err(Stop::Offends(Offence::Breaks(Rule::Bounds)));
+        return Err(Offence::Breaks(Rule::Bounds).into());
     }
     let count = walk_body(alloc, statics, locals, function.body, function.value)?;
     Ok(Callee {
@@ -257,7 +257,7 @@ fn function_item(
 {
     let count = count_one(state.count, 0)?;
     if !is_new(&state.statics, &state.streams, name) {
-        return Err(Stop::Offends(Offence::Breaks(Rule::Introduced)));
+        return Err(Offence::Breaks(Rule::Introduced).into());
     }
     let callee = define(alloc, &mut state.statics, number, function)?;
     state

@@ -132,7 +132,7 @@ pub fn assign_stream(
         (assign name.now place (known_in statics.now) (streams_in streams.old)) }
 {
     if statics.get(name).is_some() || streams.has(name, place) {
-        return Err(Stop::Offends(Offence::Breaks(Rule::Introduced)));
+        return Err(Offence::Breaks(Rule::Introduced).into());
     }
     streams.add(alloc, name, place)?;
     Ok(())
@@ -340,6 +340,7 @@ pub fn walk_stmt(
 }
 
 #[cycle(stmts)]
+#[tactic(auto, using(crate::proofs::Walks::turns_next))]
 fn walk_turns(
     alloc: Global,
     statics: &mut Statics,
