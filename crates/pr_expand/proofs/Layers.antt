@@ -1,13 +1,11 @@
 -- What each kind of expression and statement makes.
-use Rattle.std.proofs.Common.{◌≡◌, ◌∙◌, ◌<◌, ℕ, suc, ◌+◌, ◌-◌, List, [], ◌∷◌, ◌++◌, append_assoc, map, length, drop, get_or, Option, Some, None, Result, Vec, Global, refl, sym, ap, arith}
-use Rattle.std.specs.Global.{Box}
+use Rattle.std.proofs.Common.{◌≡◌, ◌∙◌, ◌<◌, ℕ, suc, ◌+◌, ◌-◌, List, [], ◌∷◌, ◌++◌, append_assoc, map, length, drop, get_or, Option, Vec, Global, sym, ap, arith}
 use Rattle.std.proofs.lemmas.List.{at_drop_more}
-use Rattle.pr_lang.specs.declared.trees.BinOp.{BinOp}
 use Rattle.pr_lang.specs.declared.trees.Fixed.{Fixed}
 use Rattle.pr_lang.specs.declared.trees.Ref.{Ref}
 use Rattle.pr_lang.specs.declared.trees.Expr as expressions
 use Rattle.pr_lang.specs.declared.trees.Expr.{Expr}
-use Rattle.pr_lang.specs.declared.trees.Expr.TheVariants.{Binary, Choose, Call, Cat}
+use Rattle.pr_lang.specs.declared.trees.Expr.TheVariants.{Call, Cat}
 use Rattle.pr_lang.specs.declared.trees.Expr.TheOpen.{Expr-F}
 use Rattle.pr_lang.specs.declared.trees.Expr.TheFolds.{fold-roll-Expr}
 use Rattle.pr_lang.specs.declared.trees.Stmt as statements
@@ -15,34 +13,15 @@ use Rattle.pr_lang.specs.declared.trees.Stmt.{Stmt}
 use Rattle.pr_lang.specs.declared.trees.Stmt.TheVariants.{Let, Rec, For}
 use Rattle.pr_lang.specs.declared.trees.Stmt.TheOpen.{Stmt-F}
 use Rattle.pr_lang.specs.declared.trees.Stmt.TheFolds.{fold-roll-Stmt}
-use Rattle.pr_scope_names.specs.declared.rules.Offence.{Offence}
-use Rattle.pr_scope_names.specs.Amounts.{Amount, amount_of}
-use Rattle.pr_scope_names.proofs.Folds.{amount_kept}
-use Rattle.pr_flat.specs.declared.equations.Op.{Op}
-use Rattle.pr_flat.specs.declared.equations.Op.TheVariants as op
-use Rattle.pr_lang_meaning.specs.Expressions.{constant_shift, operator}
 use Rattle.pr_expand_spec.specs.declared.givens.Given.{Given}
-use Rattle.pr_expand_spec.specs.Making.{Equations, Made, constant, with_equation}
-use Rattle.pr_expand_spec.specs.Expressions.{AllMade, Plan, Streams, Visible, all_made, apply, called, combined, concatenated, function_of, plan_of, plan_step}
+use Rattle.pr_expand_spec.specs.Making.{Equations, Made, constant}
+use Rattle.pr_expand_spec.specs.Expressions.{AllMade, Plan, Streams, Visible, all_made, called, concatenated, function_of, plan_of, plan_step}
+use Rattle.pr_expand.specs.Descents.{making}
 use Rattle.pr_expand_spec.specs.Statements.{Change, Progress, change_of, changes_of, let_change, rec_change, stmt_step, turns, with_index}
 
 -- what was given before
 abbrev pub with_given : List Given → AllMade → AllMade
 with_given done a = record { equations = a.equations; given = done ++ a.given }
-
-abbrev pub making : Expr → Visible → Streams → Equations → Made
-making e = (plan_of e).making
-
-pub plan_amount : (e : Expr) → (plan_of e).amount ≡ amount_of e
-plan_amount = amount_kept Plan plan_step (λ p. p.amount) (λ x. refl)
-
-pub binary_law : (o : BinOp) (l r : Box Expr) (v : Visible) (env : Streams) (es : Equations) → making (Binary o l r) v env es ≡ combined o (constant_shift o ((plan_of r.value).amount v.known)) (plan_of l.value) (plan_of r.value) v env es
-unfolding expressions.roll-Expr denote.Hole.Carrier.roll
-binary_law o l r v env es = ap (λ (p : Plan). p.making v env es) (fold-roll-Expr Plan plan_step (Expr-F.Binary o l r))
-
-choose_law : (c l r : Box Expr) (v : Visible) (env : Streams) (es : Equations) → making (Choose c l r) v env es ≡ apply op.Choose (all_made (plan_of c.value ∷ plan_of l.value ∷ plan_of r.value ∷ []) v env es)
-unfolding expressions.roll-Expr denote.Hole.Carrier.roll
-choose_law c l r v env es = ap (λ (p : Plan). p.making v env es) (fold-roll-Expr Plan plan_step (Expr-F.Choose c l r))
 
 call_law : (name : List ℕ) (args : Vec Expr Global) (v : Visible) (env : Streams) (es : Equations) → making (Call name args) v env es ≡ called (function_of (v.known name) (v.functions name)) (all_made (map plan_of args.items) v env es)
 unfolding expressions.roll-Expr denote.Hole.Carrier.roll
@@ -73,42 +52,6 @@ rec_is st target width init e v s is = ap (λ (x : Stmt). change_of x v s) is �
 pub for_is : (st : Stmt) (index : List ℕ) (low high : Fixed) (body : Vec Stmt Global) (lent : List Stmt) (v : Visible) (s : Progress) (from to : ℕ) → st ≡ For index low high body → lent ≡ body.items → from ≡ constant low v.known → to ≡ constant high v.known → change_of st v s ≡ turns (to - from) from (λ at. changes_of lent (with_index index at v)) s
 for_is st index low high body lent v s from to is all begin end =
     ap (λ (x : Stmt). change_of x v s) is ∙ (for_law index low high body v s ∙ (λ i. turns (sym end i - sym begin i) (sym begin i) (λ at. changes_of (sym all i) (with_index index at v)) s))
-
-abbrev pub on_one : Op → Made → Made
-on_one p x = with_equation p (x.given ∷ []) None x.equations
-
-abbrev pub on_two : Op → Made → Made → Made
-on_two p x y = with_equation p (x.given ∷ y.given ∷ []) None y.equations
-
-abbrev pub on_three : Made → Made → Made → Made
-on_three x y z = with_equation op.Choose (x.given ∷ y.given ∷ z.given ∷ []) None z.equations
-
-amount_at : (v : Visible) (by : Expr) (o : BinOp) (r : Box Expr) (k : Option Op) (amount : Option (Result ℕ Offence)) → by ≡ r.value → amount ≡ amount_of by v.known → k ≡ constant_shift o amount → constant_shift o ((plan_of r.value).amount v.known) ≡ k
-amount_at v by o r k amount again known is =
-    sym (is ∙ ap (constant_shift o) (known ∙ (ap (λ (y : Expr). amount_of y v.known) again ∙ ap (λ (f : Amount). f v.known) (sym (plan_amount r.value)))))
-
--- a shift by a constant
-pub shift_is : (v : Visible) (env : Streams) (es : Equations) (e a by : Expr) (o : BinOp) (l r : Box Expr) (x : Made) (p : Op) (amount : Option (Result ℕ Offence)) → e ≡ Binary o l r → a ≡ l.value → by ≡ r.value → amount ≡ amount_of by v.known → Some p ≡ constant_shift o amount → x ≡ making a v env es → on_one p x ≡ making e v env es
-shift_is v env es e a by o l r x p amount is left again known shift first =
-    let law : making e v env es ≡ combined o (Some p) (plan_of l.value) (plan_of r.value) v env es = ap (λ (y : Expr). making y v env es) is ∙ (binary_law o l r v env es ∙ ap (λ (k : Option Op). combined o k (plan_of l.value) (plan_of r.value) v env es) (amount_at v by o r (Some p) amount again known shift)) in
-    let one : x ≡ making l.value v env es = first ∙ ap (λ (z : Expr). making z v env es) left in
-    ap (on_one p) one ∙ sym law
-
--- an operator on two streams; the second part is made among the same names
-pub two_is : (v w : Visible) (env : Streams) (es : Equations) (e a by b : Expr) (o : BinOp) (l r : Box Expr) (x y : Made) (p : Op) (amount : Option (Result ℕ Offence)) → e ≡ Binary o l r → a ≡ l.value → by ≡ r.value → b ≡ r.value → amount ≡ amount_of by v.known → None ≡ constant_shift o amount → p ≡ operator o → w ≡ v → x ≡ making a v env es → y ≡ making b w env x.equations → on_two p x y ≡ making e v env es
-two_is v w env es e a by b o l r x y p amount is left again right known none sign same first second =
-    let law : making e v env es ≡ combined o None (plan_of l.value) (plan_of r.value) v env es = ap (λ (z : Expr). making z v env es) is ∙ (binary_law o l r v env es ∙ ap (λ (k : Option Op). combined o k (plan_of l.value) (plan_of r.value) v env es) (amount_at v by o r None amount again known none)) in
-    let one : x ≡ making l.value v env es = first ∙ ap (λ (z : Expr). making z v env es) left in
-    let two : y ≡ making r.value v env (making l.value v env es).equations = second ∙ (λ i. making (right i) (same i) env (one i).equations) in
-    (λ i. on_two (sign i) (one i) (two i)) ∙ sym law
-
-pub three_is : (v w u : Visible) (env : Streams) (es : Equations) (e c a b : Expr) (k l r : Box Expr) (x y z : Made) → e ≡ Choose k l r → c ≡ k.value → a ≡ l.value → b ≡ r.value → w ≡ v → u ≡ v → x ≡ making c v env es → y ≡ making a w env x.equations → z ≡ making b u env y.equations → on_three x y z ≡ making e v env es
-three_is v w u env es e c a b k l r x y z is test left right same kept first second third =
-    let law : making e v env es ≡ _ = ap (λ (q : Expr). making q v env es) is ∙ choose_law k l r v env es in
-    let one : x ≡ making k.value v env es = first ∙ ap (λ (q : Expr). making q v env es) test in
-    let two : y ≡ making l.value v env (making k.value v env es).equations = second ∙ (λ i. making (left i) (same i) env (one i).equations) in
-    let three : z ≡ making r.value v env (making l.value v env (making k.value v env es).equations).equations = third ∙ (λ i. making (right i) (kept i) env (two i).equations) in
-    (λ i. on_three (one i) (two i) (three i)) ∙ sym law
 
 -- a call, whose arguments are made
 pub call_is : (v w : Visible) (env : Streams) (es : Equations) (e : Expr) (name : List ℕ) (args : Vec Expr Global) (lent : List Expr) (a : AllMade) → e ≡ Call name args → lent ≡ args.items → w ≡ v → a ≡ all_made (map plan_of lent) v env es → called (function_of (w.known name) (w.functions name)) a ≡ making e v env es

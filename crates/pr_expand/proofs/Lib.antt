@@ -6,6 +6,7 @@ pub mod Layers
 pub mod Scenes
 pub mod Callables
 pub mod Weights
+pub mod Ways
 pub mod Recurrences
 pub mod Between
 pub mod Fitting

@@ -1,29 +1,19 @@
 -- What stops the making of a part stops the making of the whole, since making only appends.
 use Rattle.std.proofs.Common.{◌≡◌, ◌∙◌, ◌<◌, ◌≤◌, ℕ, zero, suc, ◌+◌, ◌-◌, Bool, true, false, List, [], ◌∷◌, ◌++◌, length, drop, get_or, map, Option, Some, None, Result, IfErr, IsErrAnd, Vec, Global, refl, sym, ap, subst, arith}
-use Rattle.std.specs.Global.{Box}
 use Rattle.std.specs.Option.{IfSome}
 use Rattle.std.proofs.lemmas.List.{at_drop_more}
 use Rattle.std.proofs.lemmas.Result.{err_from_is_err_and}
-use Rattle.pr_lang.specs.declared.trees.BinOp.{BinOp}
-use Rattle.pr_lang.specs.declared.trees.Fixed.{Fixed}
 use Rattle.pr_lang.specs.declared.trees.Param.{Param}
 use Rattle.pr_lang.specs.declared.trees.Stmt.{Stmt}
 use Rattle.pr_lang.specs.declared.trees.Item.{Item}
 use Rattle.pr_lang.specs.declared.trees.Item.TheVariants as item
-use Rattle.pr_lang.specs.declared.trees.Expr as expressions
 use Rattle.pr_lang.specs.declared.trees.Expr.{Expr}
-use Rattle.pr_lang.specs.declared.trees.Expr.TheVariants.{Slice, Not, Binary, Choose, Call, Cat}
-use Rattle.pr_lang.specs.declared.trees.Expr.TheOpen.{Expr-F}
-use Rattle.pr_lang.specs.declared.trees.Expr.TheFolds.{fold-roll-Expr}
-use Rattle.pr_scope_names.specs.declared.rules.Offence.{Offence}
-use Rattle.pr_scope_names.specs.Amounts.{amount_of}
-use Rattle.pr_flat.specs.declared.equations.Op.{Op}
+use Rattle.pr_lang.specs.declared.trees.Expr.TheVariants.{Call, Cat}
 use Rattle.pr_flat.specs.declared.equations.Op.TheVariants as op
 use Rattle.pr_flat.specs.declared.equations.Operand.{Operand}
-use Rattle.pr_lang_meaning.specs.Expressions.{constant_shift, operator}
 use Rattle.pr_expand_spec.specs.declared.givens.Given.{Given}
-use Rattle.pr_expand_spec.specs.Making.{Equations, Made, constant, declare_last, delayed, delayed_once, lawful, made, with_equation}
-use Rattle.pr_expand_spec.specs.Expressions.{AllMade, Inlined, Plan, Streams, Visible, all_made, apply, assigned, beside, called, combined, concatenated, declared_at_operator, declared_else, function_of, plan_of, plan_step}
+use Rattle.pr_expand_spec.specs.Making.{Equations, Made, declare_last, delayed, delayed_once, lawful, made, with_equation}
+use Rattle.pr_expand_spec.specs.Expressions.{AllMade, Inlined, Streams, Visible, all_made, assigned, beside, called, concatenated, declared_at_operator, declared_else, function_of, plan_of}
 use Rattle.pr_expand_spec.specs.Statements.{Progress, change_of, changes_of, named, turns, with_index}
 use Rattle.pr_expand_spec.specs.Programs.{World, item_change, items_change, no_streams, passed, with_arguments}
 use Rattle.pr_scope_facts.proofs.Appending.{AllAppend, Appends, DoesAppend, append-index, appends-both, appends-length, appends-nothing, appends-with, arguments-append, assigned-appends, changes-append, delayed-appends, items-append, making-appends, visible-appends}
@@ -32,7 +22,8 @@ use Rattle.pr_expand.specs.declared.stops.Stop.TheVariants.{Limit, Memory}
 use Rattle.pr_expand.specs.Code.{IsPast}
 use Rattle.pr_expand.specs.Scopes.{defined}
 use Rattle.pr_expand.proofs.Between.{items_step}
-use Rattle.pr_expand.proofs.Layers.{binary_law, call_is, cat_is, making, on_three, on_two, parts_step, stmts_step, three_is, turns_step, two_is, with_given}
+use Rattle.pr_expand.specs.Descents.{making}
+use Rattle.pr_expand.proofs.Layers.{call_is, cat_is, parts_step, stmts_step, turns_step, with_given}
 
 pub past_more : (s : Stop) (a b : Equations) → length a ≤ length b → IsPast s a → IsPast s b
 past_more Limit a b grown past = omega (arith, grown, past)
@@ -52,68 +43,6 @@ pub longer_progress : (a : Equations) (p w : Progress) → p ≡ w → Appends a
 longer_progress a p w is grown = subst (λ (x : Progress). length a ≤ length x.equations) is (appends-length a p.equations grown)
 
 -- ---- expressions
-slice_law : (x : Box Expr) (h l : Fixed) (v : Visible) (env : Streams) (es : Equations) → making (Slice x h l) v env es ≡ apply (op.Slice (constant h v.known) (constant l v.known)) (all_made (plan_of x.value ∷ []) v env es)
-unfolding expressions.roll-Expr denote.Hole.Carrier.roll
-slice_law x h l v env es = ap (λ (p : Plan). p.making v env es) (fold-roll-Expr Plan plan_step (Expr-F.Slice x h l))
-
-not_law : (x : Box Expr) (v : Visible) (env : Streams) (es : Equations) → making (Not x) v env es ≡ apply op.Not (all_made (plan_of x.value ∷ []) v env es)
-unfolding expressions.roll-Expr denote.Hole.Carrier.roll
-not_law x v env es = ap (λ (p : Plan). p.making v env es) (fold-roll-Expr Plan plan_step (Expr-F.Not x))
-
--- the equations of a part, and of the whole
-abbrev pub IsWithin : Expr → Expr → Visible → Streams → Equations → Type 0
-IsWithin x e v env es = length (making x v env es).equations ≤ length (making e v env es).equations
-
-pub slice_within : (v : Visible) (env : Streams) (es : Equations) (e x : Expr) (b : Box Expr) (h l : Fixed) → e ≡ Slice b h l → x ≡ b.value → IsWithin x e v env es
-slice_within v env es e x b h l is part =
-    subst (λ (y : Expr). IsWithin y e v env es) (sym part)
-    (longer (making b.value v env es).equations _ (making e v env es) (ap (λ (y : Expr). making y v env es) is ∙ slice_law b h l v env es) (appends-with (op.Slice (constant h v.known) (constant l v.known)) ((making b.value v env es).given ∷ []) None (making b.value v env es).equations))
-
-pub not_within : (v : Visible) (env : Streams) (es : Equations) (e x : Expr) (b : Box Expr) → e ≡ Not b → x ≡ b.value → IsWithin x e v env es
-not_within v env es e x b is part =
-    subst (λ (y : Expr). IsWithin y e v env es) (sym part)
-    (longer (making b.value v env es).equations _ (making e v env es) (ap (λ (y : Expr). making y v env es) is ∙ not_law b v env es) (appends-with op.Not ((making b.value v env es).given ∷ []) None (making b.value v env es).equations))
-
-combined_appends : (v : Visible) → AllAppend v → (env : Streams) (es : Equations) (o : BinOp) (k : Option Op) (l r : Expr) → Appends (making l v env es).equations (combined o k (plan_of l) (plan_of r) v env es).equations
-combined_appends v fs env es o (Some p) l r = appends-with p ((making l v env es).given ∷ []) None (making l v env es).equations
-combined_appends v fs env es o None l r =
-    let x = making l v env es in
-    let y = making r v env x.equations in
-    appends-both x.equations y.equations _ (making-appends v fs r env x.equations) (appends-with (operator o) (x.given ∷ y.given ∷ []) None y.equations)
-
--- the first part of an operator
-pub first_within : (v : Visible) → AllAppend v → (env : Streams) (es : Equations) (e x : Expr) (o : BinOp) (l r : Box Expr) → e ≡ Binary o l r → x ≡ l.value → IsWithin x e v env es
-first_within v fs env es e x o l r is part =
-    let k = constant_shift o ((plan_of r.value).amount v.known) in
-    subst (λ (y : Expr). IsWithin y e v env es) (sym part)
-    (longer (making l.value v env es).equations _ (making e v env es) (ap (λ (y : Expr). making y v env es) is ∙ binary_law o l r v env es) (combined_appends v fs env es o k l.value r.value))
-
--- the second part, where the first is made
-pub second_within : (v w : Visible) (env : Streams) (es : Equations) (e a by b : Expr) (o : BinOp) (l r : Box Expr) (x : Made) (p : Op) (amount : Option (Result ℕ Offence)) → e ≡ Binary o l r → a ≡ l.value → by ≡ r.value → b ≡ r.value → amount ≡ amount_of by v.known → None ≡ constant_shift o amount → p ≡ operator o → w ≡ v → x ≡ making a v env es → length (making b w env x.equations).equations ≤ length (making e v env es).equations
-second_within v w env es e a by b o l r x p amount is left again right known none sign same first =
-    let y = making b w env x.equations in
-    longer y.equations (on_two p x y) (making e v env es) (sym (two_is v w env es e a by b o l r x y p amount is left again right known none sign same first refl)) (appends-with p (x.given ∷ y.given ∷ []) None y.equations)
-
-pub condition_within : (v : Visible) → AllAppend v → (env : Streams) (es : Equations) (e c : Expr) (k l r : Box Expr) → e ≡ Choose k l r → c ≡ k.value → IsWithin c e v env es
-condition_within v fs env es e c k l r is test =
-    let x = making c v env es in
-    let y = making l.value v env x.equations in
-    let z = making r.value v env y.equations in
-    longer x.equations (on_three x y z) (making e v env es) (sym (three_is v v v env es e c l.value r.value k l r x y z is test refl refl refl refl refl refl refl))
-    (appends-both x.equations y.equations _ (making-appends v fs l.value env x.equations) (appends-both y.equations z.equations _ (making-appends v fs r.value env y.equations) (appends-with op.Choose (x.given ∷ y.given ∷ z.given ∷ []) None z.equations)))
-
-pub chosen_within : (v w : Visible) → AllAppend v → (env : Streams) (es : Equations) (e c a : Expr) (k l r : Box Expr) (x : Made) → e ≡ Choose k l r → c ≡ k.value → a ≡ l.value → w ≡ v → x ≡ making c v env es → length (making a w env x.equations).equations ≤ length (making e v env es).equations
-chosen_within v w fs env es e c a k l r x is test left same first =
-    let y = making a w env x.equations in
-    let z = making r.value v env y.equations in
-    longer y.equations (on_three x y z) (making e v env es) (sym (three_is v w v env es e c a r.value k l r x y z is test left refl same refl first refl refl))
-    (appends-both y.equations z.equations _ (making-appends v fs r.value env y.equations) (appends-with op.Choose (x.given ∷ y.given ∷ z.given ∷ []) None z.equations))
-
-pub other_within : (v w u : Visible) (env : Streams) (es : Equations) (e c a b : Expr) (k l r : Box Expr) (x y : Made) → e ≡ Choose k l r → c ≡ k.value → a ≡ l.value → b ≡ r.value → w ≡ v → u ≡ v → x ≡ making c v env es → y ≡ making a w env x.equations → length (making b u env y.equations).equations ≤ length (making e v env es).equations
-other_within v w u env es e c a b k l r x y is test left right same kept first second =
-    let z = making b u env y.equations in
-    longer z.equations (on_three x y z) (making e v env es) (sym (three_is v w u env es e c a b k l r x y z is test left right same kept first second refl)) (appends-with op.Choose (x.given ∷ y.given ∷ z.given ∷ []) None z.equations)
-
 parts_append : (v : Visible) → AllAppend v → (exprs : List Expr) (env : Streams) (es : Equations) → Appends es (all_made (map plan_of exprs) v env es).equations
 parts_append v fs [] env es = appends-nothing es
 parts_append v fs (e ∷ exprs) env es = appends-both es (making e v env es).equations _ (making-appends v fs e env es) (parts_append v fs exprs env (making e v env es).equations)

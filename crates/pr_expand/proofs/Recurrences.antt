@@ -17,7 +17,7 @@ use Rattle.pr_expand_spec.specs.Expressions.{Streams, Visible, declared_at_opera
 use Rattle.pr_expand_spec.specs.Statements.{Progress, body_made, number_after, rec_change, settled, with_recurrence, with_standing}
 use Rattle.pr_scope_facts.proofs.Appending.{appends-length, appends-with}
 use Rattle.pr_expand.specs.Code.{longer}
-use Rattle.pr_expand.proofs.Layers.{making}
+use Rattle.pr_expand.specs.Descents.{making}
 
 over : (b : Bool) (x y : Standing) (o : Option Standing) → cond b (Some y) (cond b (Some x) o) ≡ cond b (Some y) o
 over true x y o = refl

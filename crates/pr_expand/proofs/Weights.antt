@@ -6,10 +6,10 @@ use Rattle.pr_lang.specs.declared.trees.BinOp.{BinOp}
 use Rattle.pr_lang.specs.declared.trees.Fixed.{Fixed}
 use Rattle.pr_lang.specs.declared.trees.Ref.{Ref}
 use Rattle.pr_lang.specs.declared.trees.Expr as expressions
-use Rattle.pr_lang.specs.declared.trees.Expr.{Expr}
-use Rattle.pr_lang.specs.declared.trees.Expr.TheVariants.{Slice, Not, Binary, Choose, Call, Cat, Paren}
+use Rattle.pr_lang.specs.declared.trees.Expr.{Expr, map-Expr, out-Expr}
+use Rattle.pr_lang.specs.declared.trees.Expr.TheVariants.{Binary, Choose, Call, Cat}
 use Rattle.pr_lang.specs.declared.trees.Expr.TheOpen.{Expr-F}
-use Rattle.pr_lang.specs.declared.trees.Expr.TheFolds.{fold-Expr, fold-roll-Expr}
+use Rattle.pr_lang.specs.declared.trees.Expr.TheFolds.{fold-Expr, fold-roll-Expr, fold_out-Expr}
 use Rattle.pr_lang.specs.declared.trees.Stmt as statements
 use Rattle.pr_lang.specs.declared.trees.Stmt.{Stmt}
 use Rattle.pr_lang.specs.declared.trees.Stmt.TheVariants.{Let, Rec, For}
@@ -22,6 +22,7 @@ use Rattle.pr_scope_names.specs.declared.names.Statics.{Statics}
 use Rattle.pr_scope_names.specs.declared.names.Callee.{Callee}
 use Rattle.pr_scope_names.specs.declared.names.Static.TheVariants.{Function}
 use Rattle.pr_scope_names.specs.Names.{KeepsNames, horizon_in, known_in}
+use Rattle.pr_expand.specs.Descents.{first_in, first_step}
 use Rattle.pr_expand.specs.Scopes.{IsEarlier, IsScene}
 
 abbrev pub total : List ℕ → ℕ
@@ -56,18 +57,6 @@ abbrev pub stmts_weight : List Stmt → ℕ
 stmts_weight stmts = total (map stmt_weight stmts)
 
 -- a part is lighter than the whole
-slice_law : (x : Box Expr) (h l : Fixed) → weight (Slice x h l) ≡ suc (weight x.value)
-unfolding weight expressions.roll-Expr denote.Hole.Carrier.roll
-slice_law x h l = fold-roll-Expr ℕ weight_step (Expr-F.Slice x h l)
-
-not_law : (x : Box Expr) → weight (Not x) ≡ suc (weight x.value)
-unfolding weight expressions.roll-Expr denote.Hole.Carrier.roll
-not_law x = fold-roll-Expr ℕ weight_step (Expr-F.Not x)
-
-paren_law : (x : Box Expr) → weight (Paren x) ≡ suc (weight x.value)
-unfolding weight expressions.roll-Expr denote.Hole.Carrier.roll
-paren_law x = fold-roll-Expr ℕ weight_step (Expr-F.Paren x)
-
 binary_law : (o : BinOp) (l r : Box Expr) → weight (Binary o l r) ≡ suc (weight l.value + weight r.value)
 unfolding weight expressions.roll-Expr denote.Hole.Carrier.roll
 binary_law o l r = fold-roll-Expr ℕ weight_step (Expr-F.Binary o l r)
@@ -96,26 +85,26 @@ for_law : (index : List ℕ) (low high : Fixed) (body : Vec Stmt Global) → stm
 unfolding stmt_weight statements.roll-Stmt denote.Hole.Carrier.roll
 for_law index low high body = fold-roll-Stmt ℕ stmt_weight_step (Stmt-F.For index low high body)
 
-pub slice_lighter : (e x : Expr) (b : Box Expr) (h l : Fixed) → e ≡ Slice b h l → x ≡ b.value → weight x < weight e
-slice_lighter e x b h l is part = let w : weight e ≡ suc (weight x) = ap weight is ∙ (slice_law b h l ∙ ap (λ (y : Expr). suc (weight y)) (sym part)) in omega (arith, w)
+first_less : (y : Expr-F Expr) (x : Expr) → first_step y ≡ Some x → weight x < weight_step (map-Expr Expr ℕ weight y)
+first_less (Expr-F.Slice e h l) x is = let same : e.value ≡ x = cc in let w = ap weight same in omega (arith, w)
+first_less (Expr-F.Not e) x is = let same : e.value ≡ x = cc in let w = ap weight same in omega (arith, w)
+first_less (Expr-F.Binary o a b) x is = let same : a.value ≡ x = cc in let w = ap weight same in omega (arith, w)
+first_less (Expr-F.Choose c a b) x is = let same : c.value ≡ x = cc in let w = ap weight same in omega (arith, w)
+first_less (Expr-F.Paren e) x is = let same : e.value ≡ x = cc in let w = ap weight same in omega (arith, w)
+first_less _ x is = cc
 
-pub not_lighter : (e x : Expr) (b : Box Expr) → e ≡ Not b → x ≡ b.value → weight x < weight e
-not_lighter e x b is part = let w : weight e ≡ suc (weight x) = ap weight is ∙ (not_law b ∙ ap (λ (y : Expr). suc (weight y)) (sym part)) in omega (arith, w)
-
-pub paren_lighter : (e x : Expr) (b : Box Expr) → e ≡ Paren b → x ≡ b.value → weight x < weight e
-paren_lighter e x b is part = let w : weight e ≡ suc (weight x) = ap weight is ∙ (paren_law b ∙ ap (λ (y : Expr). suc (weight y)) (sym part)) in omega (arith, w)
-
-pub first_lighter : (e x : Expr) (o : BinOp) (l r : Box Expr) → e ≡ Binary o l r → x ≡ l.value → weight x < weight e
-first_lighter e x o l r is part = let w : weight e ≡ suc (weight x + weight r.value) = ap weight is ∙ (binary_law o l r ∙ ap (λ (y : Expr). suc (weight y + weight r.value)) (sym part)) in omega (arith, w)
+pub first_lighter : (e x : Expr) → first_in e ≡ Some x → weight x < weight e
+unfolding weight
+first_lighter e x is =
+    let whole : weight e ≡ weight_step (map-Expr Expr ℕ weight (out-Expr e)) = fold_out-Expr ℕ weight_step e in
+    let less = first_less (out-Expr e) x is in
+    omega (arith, whole, less)
 
 pub second_lighter : (e x : Expr) (o : BinOp) (l r : Box Expr) → e ≡ Binary o l r → x ≡ r.value → weight x < weight e
 second_lighter e x o l r is part = let w : weight e ≡ suc (weight l.value + weight x) = ap weight is ∙ (binary_law o l r ∙ ap (λ (y : Expr). suc (weight l.value + weight y)) (sym part)) in omega (arith, w)
 
 choice_is : (e : Expr) (c l r : Box Expr) → e ≡ Choose c l r → weight e ≡ suc (weight c.value + weight l.value + weight r.value)
 choice_is e c l r is = ap weight is ∙ choose_law c l r
-
-pub condition_lighter : (e x : Expr) (c l r : Box Expr) → e ≡ Choose c l r → x ≡ c.value → weight x < weight e
-condition_lighter e x c l r is part = let w = choice_is e c l r is in let same : weight x ≡ weight c.value = ap weight part in omega (arith, w, same)
 
 pub chosen_lighter : (e x : Expr) (c l r : Box Expr) → e ≡ Choose c l r → x ≡ l.value → weight x < weight e
 chosen_lighter e x c l r is part = let w = choice_is e c l r is in let same : weight x ≡ weight l.value = ap weight part in omega (arith, w, same)

@@ -22,7 +22,9 @@ use Rattle.pr_expand.specs.declared.environment.Environment.{Environment}
 use Rattle.pr_expand.specs.declared.ledgers.AllMade as all
 use Rattle.pr_expand.specs.declared.ledgers.Ledger.{Ledger}
 use Rattle.pr_expand.specs.declared.ledgers.Progress as progress
-use Rattle.pr_expand.specs.Code.{all_of, progress_of, shapes_in, streams_in}
+use Rattle.pr_expand.specs.declared.ledgers.Made as one
+use Rattle.pr_expand.specs.Code.{all_of, made_of, progress_of, shapes_in, streams_in}
+use Rattle.pr_expand.specs.Descents.{rest_of}
 use Rattle.pr_expand.specs.Scopes.{defined, visible_at, visible_in}
 
 -- one equation more, and its operand
@@ -40,6 +42,10 @@ earlier_made back statics standing ledger = earlier (constant back (known_in sta
 
 abbrev pub expr_made : Expr → List Item → Statics → Environment → Ledger → Made
 expr_made e items statics env ledger = (plan_of e).making (visible_in items statics) (streams_in env) (shapes_in ledger)
+
+-- an expression whose first operand is made
+abbrev pub rest_made : Expr → List Item → Statics → Environment → one.Made → Made
+rest_made e items statics env first = rest_of e (visible_in items statics) (streams_in env) (made_of first)
 
 abbrev pub exprs_made : List Expr → List Item → Statics → Environment → Ledger → AllMade
 exprs_made exprs items statics env ledger =

@@ -9,9 +9,11 @@ ghost use Rattle.pr_expand_spec.specs.Programs.{signed_function};
 ghost use Rattle.pr_expand.specs.Code.{IsPast, all_of, longer, made_of, progress_of, shapes_in, streams_in};
 ghost use Rattle.pr_expand.specs.Parts.{arguments_made, body_run, call_made, expr_made, exprs_made, item_called};
 ghost use Rattle.pr_expand.specs.Parts.{let_made, rec_made, recurring, stmt_made, stmts_made, turn_made, turns_made};
-ghost use Rattle.pr_expand.specs.Parts.{stood, value_made};
+ghost use Rattle.pr_expand.specs.Parts.{rest_made, stood, value_made};
+ghost use Rattle.pr_expand.specs.Descents.{first_in};
 ghost use Rattle.pr_expand.specs.Scopes.{IsScene, callee_in};
 
+use crate::descents::{Descent, descend};
 use crate::environment::Environment;
 use crate::ledgers::{AllMade, Ledger, Made, Progress, cut};
 use crate::making::{choose, fit, one, two, with_width};
@@ -75,7 +77,8 @@ fn callee_of(statics: &Statics, name: &Name) -> Option<Callee>
     None
 }
 
-/// The equations of an expression.
+/// The equations of an expression. A loop goes down the first operands and back, as a long way of calls would need much
+/// stack.
 #[cycle(make)]
 fn make(
     alloc: Global,
@@ -90,37 +93,37 @@ fn make(
     ensures limit { IfErr result (λ s. IsPast s (expr_made expr.now items.now statics.old env.now ledger).equations) }
     ensures names { OnOk result (KeepsNames statics.old statics.new) }
 {
+    let Descent {
+        mut around,
+        innermost,
+    } = descend(alloc, expr)?;
+    let mut made = make_innermost(alloc, items, statics, env, ledger, innermost)?;
+    while let Some(outer) = around.pop() {
+        made = make_rest(alloc, items, statics, env, made, outer)?;
+    }
+    Ok(made)
+}
+
+/// The equations of an expression without a first operand.
+#[cycle(make)]
+fn make_innermost(
+    alloc: Global,
+    items: &[Item],
+    statics: &mut Statics,
+    env: &Environment,
+    ledger: Ledger,
+    expr: &Expr,
+) -> Result<Made, Stop>
+    requires scene { IsScene items.now statics.old }
+    requires innermost { first_in expr.now ≡ None }
+    ensures value { IfOk result (λ m. made_of m ≡ expr_made expr.now items.now statics.old env.now ledger) }
+    ensures limit { IfErr result (λ s. IsPast s (expr_made expr.now items.now statics.old env.now ledger).equations) }
+    ensures names { OnOk result (KeepsNames statics.old statics.new) }
+{
     match expr {
         Expr::Number(number) => Ok(gives(ledger, Operand::Const(*number), false)),
         Expr::Refer(target) => Ok(refer(statics, env, ledger, target)),
         Expr::Delay(target, back) => refer_earlier(alloc, statics, env, ledger, target, back),
-        Expr::Slice(inner, high, low) => {
-            let high = value_of(statics, high);
-            let low = value_of(statics, low);
-            let a = make(alloc, items, statics, env, ledger, inner)?;
-            one(alloc, a.ledger, Op::Slice(high, low), a.given, None)
-        }
-        Expr::Not(inner) => {
-            let a = make(alloc, items, statics, env, ledger, inner)?;
-            one(alloc, a.ledger, Op::Not, a.given, None)
-        }
-        Expr::Binary(op, first, second) => {
-            let by = shift(*op, amount(statics, second));
-            let a = make(alloc, items, statics, env, ledger, first)?;
-            match by {
-                Some(by) => one(alloc, a.ledger, by, a.given, None),
-                None => {
-                    let b = make(alloc, items, statics, env, a.ledger, second)?;
-                    two(alloc, b.ledger, op_of(*op), a.given, b.given)
-                }
-            }
-        }
-        Expr::Choose(condition, first, second) => {
-            let c = make(alloc, items, statics, env, ledger, condition)?;
-            let a = make(alloc, items, statics, env, c.ledger, first)?;
-            let b = make(alloc, items, statics, env, a.ledger, second)?;
-            choose(alloc, b.ledger, c.given, a.given, b.given)
-        }
         Expr::Call(name, args) => {
             let all = make_all(alloc, items, statics, env, ledger, args)?;
             call(alloc, items, statics, name, all)
@@ -129,7 +132,44 @@ fn make(
             let all = make_all(alloc, items, statics, env, ledger, parts)?;
             concatenate(alloc, all)
         }
-        Expr::Paren(inner) => make(alloc, items, statics, env, ledger, inner),
+        _ => unreachable!(),
+    }
+}
+
+/// The equations of an expression whose first operand is made.
+#[cycle(make)]
+fn make_rest(
+    alloc: Global,
+    items: &[Item],
+    statics: &mut Statics,
+    env: &Environment,
+    made: Made,
+    expr: &Expr,
+) -> Result<Made, Stop>
+    requires { IsScene items.now statics.old }
+    ensures value { IfOk result (λ m. made_of m ≡ rest_made expr.now items.now statics.old env.now made) }
+    ensures limit { IfErr result (λ s. IsPast s (rest_made expr.now items.now statics.old env.now made).equations) }
+    ensures names { OnOk result (KeepsNames statics.old statics.new) }
+{
+    match expr {
+        Expr::Slice(_, high, low) => {
+            let op = Op::Slice(value_of(statics, high), value_of(statics, low));
+            one(alloc, made.ledger, op, made.given, None)
+        }
+        Expr::Not(_) => one(alloc, made.ledger, Op::Not, made.given, None),
+        Expr::Binary(op, _, second) => match shift(*op, amount(statics, second)) {
+            Some(by) => one(alloc, made.ledger, by, made.given, None),
+            None => {
+                let b = make(alloc, items, statics, env, made.ledger, second)?;
+                two(alloc, b.ledger, op_of(*op), made.given, b.given)
+            }
+        },
+        Expr::Choose(_, first, second) => {
+            let a = make(alloc, items, statics, env, made.ledger, first)?;
+            let b = make(alloc, items, statics, env, a.ledger, second)?;
+            choose(alloc, b.ledger, made.given, a.given, b.given)
+        }
+        _ => Ok(made),
     }
 }
 

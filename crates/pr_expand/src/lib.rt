@@ -2,6 +2,7 @@
 #![tactic(auto)]
 
 mod delays;
+mod descents;
 mod environment;
 mod expressions;
 mod flats;

@@ -1,11 +1,12 @@
-use Rattle.std.proofs.Common.{◌≡◌, ◌∙◌, ◌<◌, ℕ, IfErr, IfOk, List, take, [], ◌∷◌, option_map, Some, None, length, arith, refl, sym, ap, subst}
+use Rattle.std.proofs.Common.{◌≡◌, ◌∙◌, ◌<◌, ℕ, IfErr, IfOk, List, map, take, [], ◌∷◌, option_map, Some, None, length, arith, refl, sym, ap, subst}
+use Rattle.std.proofs.lemmas.List.Elements.{All-pop}
 use Rattle.std.proofs.lemmas.Result.{IfOk-from_err}
 use Rattle.pr_scope_names.specs.declared.names.Static.TheVariants.{Index}
 use Rattle.pr_scope_names.specs.Names.{known_in}
 use Rattle.pr_flat.specs.declared.equations.Op.TheVariants as op
 use Rattle.pr_flat.specs.Shape.{EquationShape, shapes_of}
 use Rattle.pr_scope_names.proofs.Seen.{names_on}
-use Rattle.pr_lang_meaning.specs.Expressions.{constant_shift, operator}
+use Rattle.pr_lang_meaning.specs.Expressions.{constant_shift}
 use Rattle.pr_expand_spec.specs.declared.givens.Standing.TheVariants.{Own}
 use Rattle.pr_expand_spec.specs.Making.{Made, lawful, with_equation}
 use Rattle.pr_expand_spec.specs.Expressions.{Visible, assigned, declared_at_operator, place, plan_of}
@@ -14,72 +15,224 @@ use Rattle.pr_scope_facts.proofs.Appending.{appends-length, assigned-appends, bo
 use Rattle.pr_expand.specs.Code.{IsPast, all_of, longer, made_of, progress_of, shapes_in, streams_in}
 use Rattle.pr_expand.specs.Scopes.{functions_before, visible_in}
 use Rattle.pr_expand.proofs.Callables.{called_is, callee_known, entered, signed_is}
-use Rattle.pr_expand.proofs.Layers.{call_is, cat_is, for_is, parts_step, shift_is, stmts_step, three_is, turns_step, two_is}
-use Rattle.pr_expand.proofs.Limits.{args_within, assigned_within, begun_within, chosen_within, condition_within, first_within, operator_within, other_within, part_within, parts_within, passed_on, same_long, second_within, stmt_within, turn_within}
+use Rattle.pr_expand.proofs.Layers.{call_is, cat_is, for_is, parts_step, stmts_step, turns_step}
+use Rattle.pr_expand.proofs.Ways.{IsLight, chosen_within, other_within, popped, rest_within, rests_of, rests_step, shift_is, three_is, two_is, way_light, way_lighter, way_made, way_within}
+use Rattle.pr_expand.proofs.Limits.{args_within, assigned_within, begun_within, operator_within, part_within, parts_within, passed_on, same_long, stmt_within, turn_within}
 use Rattle.pr_expand.proofs.Recurrences.{body_as, body_within, counted_as, counted_number, counted_within, cut_shapes, longer_counted, rec_as, rec_last, shapes_cut, stands_as, stands_within, twice}
 use Rattle.pr_expand.proofs.Scenes.{index_back, known_swapped, scene_appends, scene_index, scene_kept, visible_kept}
-use Rattle.pr_expand.proofs.Weights.{args_lighter, body_lighter, call_heavy, chosen_lighter, condition_lighter, first_lighter, let_lighter, not_lighter, one_of, other_lighter, paren_lighter, parts_lighter, rec_lighter, second_lighter, slice_lighter, stmt_of, weight_entered, weight_in, weight_kept, weight_up_to}
+use Rattle.pr_expand.proofs.Weights.{args_lighter, body_lighter, call_heavy, chosen_lighter, let_lighter, one_of, other_lighter, parts_lighter, rec_lighter, second_lighter, stmt_of, weight, weight_entered, weight_in, weight_kept, weight_up_to}
 use Rattle.pr_expand.proofs.expressions.+make.Goals as goal
 
-pub make-make-requires-in-None : goal.make-make-requires-in-None
-make-make-requires-in-None t c = (let h = second_lighter c.args.expr.now c.deref-in-None.result.now c.in-Binary.op c.in-Binary.first c.in-Binary.second c.in-Binary.is c.deref-in-None.ensures in let k = weight_kept c.args.items.now c.args.statics.now c.make-in-Binary.new.statics c.in_ok-a-in-Binary.ensures.names in omega (arith, c.decreases, h, k), scene_kept c.args.items.now c.args.statics.now c.make-in-Binary.new.statics c.in_ok-a-in-Binary.ensures.names c.requires)
+pub make-make_innermost-requires : goal.make-make_innermost-requires
+make-make_innermost-requires t c =
+    (let h = way_lighter c.args.expr.now _ _ c.in_ok-around.ensures.way in omega (arith, c.decreases, h), (c.requires, c.in_ok-around.ensures.last))
 
-pub make-make-requires-in-Choose-2 : goal.make-make-requires-in-Choose-2
-make-make-requires-in-Choose-2 t c = (let h = chosen_lighter c.args.expr.now c.deref-in-Choose-2.result.now c.in-Choose.condition c.in-Choose.first c.in-Choose.second c.in-Choose.is c.deref-in-Choose-2.ensures in let k = weight_kept c.args.items.now c.args.statics.now c.make-in-Choose.new.statics c.in_ok-c-in-Choose.ensures.names in omega (arith, c.decreases, h, k), scene_kept c.args.items.now c.args.statics.now c.make-in-Choose.new.statics c.in_ok-c-in-Choose.ensures.names c.requires)
+pub make-make_rest-requires : goal.make-make_rest-requires
+make-make_rest-requires t c =
+    let h = (All-pop (IsLight (weight c.args.expr.now)) _ _ (Some c.in-Some.outer.now) (popped (λ e. e.now) c.loop-outer.around.items c.pop.new.self.items c.in-Some.outer c.in-Some.ensures.items) c.loop-outer.invariant.light).1 in
+    let k = weight_kept c.args.items.now c.args.statics.now c.loop-outer.statics c.loop-outer.invariant.names in
+    (omega (arith, c.decreases, h, k), scene_kept c.args.items.now c.args.statics.now c.loop-outer.statics c.loop-outer.invariant.names c.requires)
 
-pub make-make-requires-in-Choose-3 : goal.make-make-requires-in-Choose-3
-make-make-requires-in-Choose-3 t c = (let h = other_lighter c.args.expr.now c.deref-in-Choose-3.result.now c.in-Choose.condition c.in-Choose.first c.in-Choose.second c.in-Choose.is c.deref-in-Choose-3.ensures in let k = weight_kept c.args.items.now c.args.statics.now c.make-in-Choose-2.new.statics (names_on c.in_ok-c-in-Choose.ensures.names c.in_ok-a-in-Choose.ensures.names) in omega (arith, c.decreases, h, k), scene_kept c.args.items.now c.args.statics.now c.make-in-Choose-2.new.statics (names_on c.in_ok-c-in-Choose.ensures.names c.in_ok-a-in-Choose.ensures.names) c.requires)
-
-pub make-call-requires : goal.make-call-requires
-make-call-requires t c = (let h = call_heavy c.args.expr.now c.in-Call.name c.in-Call.args c.in-Call.is in let k = weight_kept c.args.items.now c.args.statics.now c.make_all.new.statics c.in_ok-all-in-Call.ensures.names in omega (arith, c.decreases, h, k), scene_kept c.args.items.now c.args.statics.now c.make_all.new.statics c.in_ok-all-in-Call.ensures.names c.requires)
-
-pub make-returns-in-Some-clause-value : goal.make-returns-in-Some-clause-value
-make-returns-in-Some-clause-value t c =
+pub make-loop-outer-init : goal.make-loop-outer-init
+make-loop-outer-init t c =
     let items = c.args.items.now in
     let v = visible_in items c.args.statics.now in
     let env = streams_in c.args.env.now in
-    let es = shapes_in c.args.ledger in
-    let by : Some c.in-Some.by ≡ constant_shift c.in-Binary.op c.amount.result = sym c.in-Some.is ∙ c.shift-by.ensures in
-    let e = shift_is v env es c.args.expr.now c.deref-in-Binary-2.result.now c.deref-in-Binary.result.now c.in-Binary.op c.in-Binary.first c.in-Binary.second (made_of c.in_ok-a-in-Binary.a) c.in-Some.by c.amount.result c.in-Binary.is c.deref-in-Binary-2.ensures c.deref-in-Binary.ensures c.amount.ensures by c.in_ok-a-in-Binary.ensures.value in
-    subst (λ (z : Made). IfOk c.one-in-Some.result (λ m. made_of m ≡ z)) e c.one-in-Some.ensures.value
+    let way = c.in_ok-around.ensures.way in
+    record {
+      names = c.in_ok-made.ensures.names;
+      rest = ap (rests_of (map (λ e. e.now) c.in_ok-around.field-0.around.items) v env) c.in_ok-made.ensures.value ∙ way_made c.args.expr.now _ c.in_ok-around.field-0.innermost.now v env (shapes_in c.args.ledger) way;
+      light = way_light (weight c.args.expr.now) c.args.expr.now _ c.in_ok-around.field-0.innermost.now (omega arith) way;
+    }
 
-pub make-returns-in_ok-b-in-None-clause-value : goal.make-returns-in_ok-b-in-None-clause-value
-make-returns-in_ok-b-in-None-clause-value t c =
+pub make-loop-outer-preserved : goal.make-loop-outer-preserved
+make-loop-outer-preserved t c =
     let items = c.args.items.now in
-    let v = visible_in items c.args.statics.now in
-    let env = streams_in c.args.env.now in
-    let es = shapes_in c.args.ledger in
-    let none : None ≡ constant_shift c.in-Binary.op c.amount.result = sym c.in-None.is ∙ c.shift-by.ensures in
-    let e = two_is v (visible_in items c.make-in-Binary.new.statics) env es c.args.expr.now c.deref-in-Binary-2.result.now c.deref-in-Binary.result.now c.deref-in-None.result.now c.in-Binary.op c.in-Binary.first c.in-Binary.second (made_of c.in_ok-a-in-Binary.a) (made_of c.in_ok-b-in-None.b) c.op_of.result c.amount.result c.in-Binary.is c.deref-in-Binary-2.ensures c.deref-in-Binary.ensures c.deref-in-None.ensures c.amount.ensures none c.op_of.ensures (visible_kept items c.args.statics.now c.make-in-Binary.new.statics c.in_ok-a-in-Binary.ensures.names) c.in_ok-a-in-Binary.ensures.value c.in_ok-b-in-None.ensures.value in
-    subst (λ (z : Made). IfOk c.two.result (λ m. made_of m ≡ z)) e c.two.ensures.value
-
-pub make-returns-in_ok-b-in-Choose-clause-value : goal.make-returns-in_ok-b-in-Choose-clause-value
-make-returns-in_ok-b-in-Choose-clause-value t c =
-    let items = c.args.items.now in
-    let v = visible_in items c.args.statics.now in
-    let env = streams_in c.args.env.now in
-    let es = shapes_in c.args.ledger in
     let s = c.args.statics.now in
-    let e = three_is v (visible_in items c.make-in-Choose.new.statics) (visible_in items c.make-in-Choose-2.new.statics) env es c.args.expr.now c.deref-in-Choose.result.now c.deref-in-Choose-2.result.now c.deref-in-Choose-3.result.now c.in-Choose.condition c.in-Choose.first c.in-Choose.second (made_of c.in_ok-c-in-Choose.c) (made_of c.in_ok-a-in-Choose.a) (made_of c.in_ok-b-in-Choose.b) c.in-Choose.is c.deref-in-Choose.ensures c.deref-in-Choose-2.ensures c.deref-in-Choose-3.ensures (visible_kept items s c.make-in-Choose.new.statics c.in_ok-c-in-Choose.ensures.names) (visible_kept items s c.make-in-Choose-2.new.statics (names_on c.in_ok-c-in-Choose.ensures.names c.in_ok-a-in-Choose.ensures.names)) c.in_ok-c-in-Choose.ensures.value c.in_ok-a-in-Choose.ensures.value c.in_ok-b-in-Choose.ensures.value in
-    subst (λ (z : Made). IfOk c.choose.result (λ m. made_of m ≡ z)) e c.choose.ensures.value
+    let v = visible_in items s in
+    let now = c.loop-outer.invariant in
+    let last = popped (λ e. e.now) c.loop-outer.around.items c.pop.new.self.items c.in-Some.outer c.in-Some.ensures.items in
+    record {
+      names = names_on now.names c.in_ok-made-2.ensures.names;
+      rest = rests_step _ _ c.in-Some.outer.now v (visible_in items c.loop-outer.statics) (streams_in c.args.env.now) (made_of c.loop-outer.made) (made_of c.in_ok-made-2.made) _ last (visible_kept items s c.loop-outer.statics now.names) c.in_ok-made-2.ensures.value now.rest;
+      light = (All-pop (IsLight (weight c.args.expr.now)) _ _ (Some c.in-Some.outer.now) last now.light).0;
+    }
 
-pub make-returns-in_ok-all-in-Call-clause-value : goal.make-returns-in_ok-all-in-Call-clause-value
-make-returns-in_ok-all-in-Call-clause-value t c =
+pub make-returns-in_err-made-clause-limit : goal.make-returns-in_err-made-clause-limit
+make-returns-in_err-made-clause-limit t c =
+    let v = visible_in c.args.items.now c.args.statics.now in
+    passed_on c.from_residual-in_err-made.result c.in_err-made.field-0.0 _ _ c.from_residual-in_err-made.ensures.1
+    (way_within c.args.expr.now _ _ v (scene_appends c.args.items.now c.args.statics.now c.requires) (streams_in c.args.env.now) (shapes_in c.args.ledger) c.in_ok-around.ensures.way)
+    c.in_err-made.ensures.limit
+
+pub make-returns-in_err-made-2-clause-limit : goal.make-returns-in_err-made-2-clause-limit
+make-returns-in_err-made-2-clause-limit t c =
+    let items = c.args.items.now in
+    let s = c.args.statics.now in
+    let v = visible_in items s in
+    let now = c.loop-outer.invariant in
+    passed_on c.from_residual-in_err-made-2.result c.in_err-made-2.field-0.0 _ _ c.from_residual-in_err-made-2.ensures.1
+    (rest_within _ _ c.in-Some.outer.now v (visible_in items c.loop-outer.statics) (scene_appends items s c.requires) (streams_in c.args.env.now) (made_of c.loop-outer.made) _ (popped (λ e. e.now) c.loop-outer.around.items c.pop.new.self.items c.in-Some.outer c.in-Some.ensures.items) (visible_kept items s c.loop-outer.statics now.names) now.rest)
+    c.in_err-made-2.ensures.limit
+
+pub make_innermost-make_all-requires : goal.make_innermost-make_all-requires
+make_innermost-make_all-requires t c = (let h = args_lighter c.args.expr.now c.in-Call.name c.in-Call.args c.deref.result.now c.in-Call.is c.deref.ensures.value in omega (arith, c.decreases, h), c.requires.scene)
+
+pub make_innermost-make_all-requires-in-Cat : goal.make_innermost-make_all-requires-in-Cat
+make_innermost-make_all-requires-in-Cat t c = (let h = parts_lighter c.args.expr.now c.in-Cat.parts c.deref-in-Cat.result.now c.in-Cat.is c.deref-in-Cat.ensures.value in omega (arith, c.decreases, h), c.requires.scene)
+
+pub make_innermost-call-requires : goal.make_innermost-call-requires
+make_innermost-call-requires t c = (let h = call_heavy c.args.expr.now c.in-Call.name c.in-Call.args c.in-Call.is in let k = weight_kept c.args.items.now c.args.statics.now c.make_all.new.statics c.in_ok-all-in-Call.ensures.names in omega (arith, c.decreases, h, k), scene_kept c.args.items.now c.args.statics.now c.make_all.new.statics c.in_ok-all-in-Call.ensures.names c.requires.scene)
+
+pub make_innermost-returns-in_ok-all-in-Call-clause-value : goal.make_innermost-returns-in_ok-all-in-Call-clause-value
+make_innermost-returns-in_ok-all-in-Call-clause-value t c =
     let items = c.args.items.now in
     let v = visible_in items c.args.statics.now in
     let env = streams_in c.args.env.now in
     let es = shapes_in c.args.ledger in
-    let e = call_is v (visible_in items c.make_all.new.statics) env es c.args.expr.now c.in-Call.name c.in-Call.args c.deref-in-Call.result.now (all_of c.in_ok-all-in-Call.all) c.in-Call.is c.deref-in-Call.ensures.value (visible_kept items c.args.statics.now c.make_all.new.statics c.in_ok-all-in-Call.ensures.names) c.in_ok-all-in-Call.ensures.value in
+    let e = call_is v (visible_in items c.make_all.new.statics) env es c.args.expr.now c.in-Call.name c.in-Call.args c.deref.result.now (all_of c.in_ok-all-in-Call.all) c.in-Call.is c.deref.ensures.value (visible_kept items c.args.statics.now c.make_all.new.statics c.in_ok-all-in-Call.ensures.names) c.in_ok-all-in-Call.ensures.value in
     subst (λ (z : Made). IfOk c.call.result (λ m. made_of m ≡ z)) e c.call.ensures.value
 
-pub make-returns-in_ok-all-in-Cat-clause-value : goal.make-returns-in_ok-all-in-Cat-clause-value
-make-returns-in_ok-all-in-Cat-clause-value t c =
+pub make_innermost-returns-in_ok-all-in-Cat-clause-value : goal.make_innermost-returns-in_ok-all-in-Cat-clause-value
+make_innermost-returns-in_ok-all-in-Cat-clause-value t c =
     let items = c.args.items.now in
     let v = visible_in items c.args.statics.now in
     let env = streams_in c.args.env.now in
     let es = shapes_in c.args.ledger in
     let e = cat_is v env es c.args.expr.now c.in-Cat.parts c.deref-in-Cat.result.now (all_of c.in_ok-all-in-Cat.all) c.in-Cat.is c.deref-in-Cat.ensures.value c.in_ok-all-in-Cat.ensures.value in
     subst (λ (z : Made). IfOk c.concatenate.result (λ m. made_of m ≡ z)) e c.concatenate.ensures.value
+
+pub make_innermost-returns-in_ok-all-in-Call-clause-limit : goal.make_innermost-returns-in_ok-all-in-Call-clause-limit
+make_innermost-returns-in_ok-all-in-Call-clause-limit t c =
+    let items = c.args.items.now in
+    let v = visible_in items c.args.statics.now in
+    let env = streams_in c.args.env.now in
+    let es = shapes_in c.args.ledger in
+    let e = call_is v (visible_in items c.make_all.new.statics) env es c.args.expr.now c.in-Call.name c.in-Call.args c.deref.result.now (all_of c.in_ok-all-in-Call.all) c.in-Call.is c.deref.ensures.value (visible_kept items c.args.statics.now c.make_all.new.statics c.in_ok-all-in-Call.ensures.names) c.in_ok-all-in-Call.ensures.value in
+    subst (λ (z : Made). IfErr c.call.result (λ s. IsPast s z.equations)) e c.call.ensures.limit
+
+pub make_innermost-returns-in_ok-all-in-Cat-clause-limit : goal.make_innermost-returns-in_ok-all-in-Cat-clause-limit
+make_innermost-returns-in_ok-all-in-Cat-clause-limit t c =
+    let items = c.args.items.now in
+    let v = visible_in items c.args.statics.now in
+    let env = streams_in c.args.env.now in
+    let es = shapes_in c.args.ledger in
+    let e = cat_is v env es c.args.expr.now c.in-Cat.parts c.deref-in-Cat.result.now (all_of c.in_ok-all-in-Cat.all) c.in-Cat.is c.deref-in-Cat.ensures.value c.in_ok-all-in-Cat.ensures.value in
+    subst (λ (z : Made). IfErr c.concatenate.result (λ s. IsPast s z.equations)) e c.concatenate.ensures.limit
+
+pub make_innermost-returns-in_err-all-in-Call-clause-limit : goal.make_innermost-returns-in_err-all-in-Call-clause-limit
+make_innermost-returns-in_err-all-in-Call-clause-limit t c =
+    let items = c.args.items.now in
+    let s = c.args.statics.now in
+    let v = visible_in items s in
+    let fs = scene_appends items s c.requires.scene in
+    let env = streams_in c.args.env.now in
+    let es = shapes_in c.args.ledger in
+    passed_on c.from_residual.result c.in_err-all-in-Call.field-0.0 _ _ c.from_residual.ensures.1
+    (args_within v fs env es c.args.expr.now c.in-Call.name c.in-Call.args c.deref.result.now c.in-Call.is c.deref.ensures.value)
+    c.in_err-all-in-Call.ensures.limit
+
+pub make_innermost-returns-in_err-all-in-Cat-clause-limit : goal.make_innermost-returns-in_err-all-in-Cat-clause-limit
+make_innermost-returns-in_err-all-in-Cat-clause-limit t c =
+    let items = c.args.items.now in
+    let s = c.args.statics.now in
+    let v = visible_in items s in
+    let env = streams_in c.args.env.now in
+    let es = shapes_in c.args.ledger in
+    passed_on c.from_residual-in_err-all-in-Cat.result c.in_err-all-in-Cat.field-0.0 _ _ c.from_residual-in_err-all-in-Cat.ensures.1
+    (parts_within v env es c.args.expr.now c.in-Cat.parts c.deref-in-Cat.result.now c.in-Cat.is c.deref-in-Cat.ensures.value)
+    c.in_err-all-in-Cat.ensures.limit
+
+pub make_innermost-returns-in_err-all-in-Call-clause-value : goal.make_innermost-returns-in_err-all-in-Call-clause-value
+make_innermost-returns-in_err-all-in-Call-clause-value t c = IfOk-from_err _ _ c.from_residual.ensures.0
+
+pub make_innermost-returns-in_err-all-in-Call-clause-names : goal.make_innermost-returns-in_err-all-in-Call-clause-names
+make_innermost-returns-in_err-all-in-Call-clause-names t c = IfOk-from_err _ _ c.from_residual.ensures.0
+
+pub make_innermost-returns-in_err-all-in-Cat-clause-value : goal.make_innermost-returns-in_err-all-in-Cat-clause-value
+make_innermost-returns-in_err-all-in-Cat-clause-value t c = IfOk-from_err _ _ c.from_residual-in_err-all-in-Cat.ensures.0
+
+pub make_innermost-returns-in_err-all-in-Cat-clause-names : goal.make_innermost-returns-in_err-all-in-Cat-clause-names
+make_innermost-returns-in_err-all-in-Cat-clause-names t c = IfOk-from_err _ _ c.from_residual-in_err-all-in-Cat.ensures.0
+
+pub make_rest-make-requires : goal.make_rest-make-requires
+make_rest-make-requires t c = (let h = second_lighter c.args.expr.now c.deref-in-None.result.now c.in-Binary.op _ c.in-Binary.second c.in-Binary.is c.deref-in-None.ensures in omega (arith, c.decreases, h), c.requires)
+
+pub make_rest-make-requires-in-Choose : goal.make_rest-make-requires-in-Choose
+make_rest-make-requires-in-Choose t c = (let h = chosen_lighter c.args.expr.now c.deref-in-Choose.result.now _ c.in-Choose.first c.in-Choose.second c.in-Choose.is c.deref-in-Choose.ensures in omega (arith, c.decreases, h), c.requires)
+
+pub make_rest-make-requires-in-Choose-2 : goal.make_rest-make-requires-in-Choose-2
+make_rest-make-requires-in-Choose-2 t c = (let h = other_lighter c.args.expr.now c.deref-in-Choose-2.result.now _ c.in-Choose.first c.in-Choose.second c.in-Choose.is c.deref-in-Choose-2.ensures in let k = weight_kept c.args.items.now c.args.statics.now c.make-in-Choose.new.statics c.in_ok-a-in-Choose.ensures.names in omega (arith, c.decreases, h, k), scene_kept c.args.items.now c.args.statics.now c.make-in-Choose.new.statics c.in_ok-a-in-Choose.ensures.names c.requires)
+
+pub make_rest-returns-in-Some-clause-value : goal.make_rest-returns-in-Some-clause-value
+make_rest-returns-in-Some-clause-value t c =
+    let v = visible_in c.args.items.now c.args.statics.now in
+    let env = streams_in c.args.env.now in
+    let x = made_of c.args.made in
+    let by : Some c.in-Some.by ≡ constant_shift c.in-Binary.op c.amount.result = sym c.in-Some.is ∙ c.shift.ensures in
+    let e = shift_is v env c.args.expr.now c.deref.result.now c.in-Binary.op _ c.in-Binary.second x c.in-Some.by c.amount.result c.in-Binary.is c.deref.ensures c.amount.ensures by in
+    subst (λ (z : Made). IfOk c.one-in-Some.result (λ m. made_of m ≡ z)) e c.one-in-Some.ensures.value
+
+pub make_rest-returns-in-Some-clause-limit : goal.make_rest-returns-in-Some-clause-limit
+make_rest-returns-in-Some-clause-limit t c =
+    let v = visible_in c.args.items.now c.args.statics.now in
+    let env = streams_in c.args.env.now in
+    let x = made_of c.args.made in
+    let by : Some c.in-Some.by ≡ constant_shift c.in-Binary.op c.amount.result = sym c.in-Some.is ∙ c.shift.ensures in
+    let e = shift_is v env c.args.expr.now c.deref.result.now c.in-Binary.op _ c.in-Binary.second x c.in-Some.by c.amount.result c.in-Binary.is c.deref.ensures c.amount.ensures by in
+    subst (λ (z : Made). IfErr c.one-in-Some.result (λ s. IsPast s z.equations)) e c.one-in-Some.ensures.limit
+
+pub make_rest-returns-in_ok-b-in-None-clause-value : goal.make_rest-returns-in_ok-b-in-None-clause-value
+make_rest-returns-in_ok-b-in-None-clause-value t c =
+    let v = visible_in c.args.items.now c.args.statics.now in
+    let env = streams_in c.args.env.now in
+    let x = made_of c.args.made in
+    let none : None ≡ constant_shift c.in-Binary.op c.amount.result = sym c.in-None.is ∙ c.shift.ensures in
+    let e = two_is v env c.args.expr.now c.deref.result.now c.deref-in-None.result.now c.in-Binary.op _ c.in-Binary.second x (made_of c.in_ok-b-in-None.b) c.op_of.result c.amount.result c.in-Binary.is c.deref.ensures c.deref-in-None.ensures c.amount.ensures none c.op_of.ensures c.in_ok-b-in-None.ensures.value in
+    subst (λ (z : Made). IfOk c.two.result (λ m. made_of m ≡ z)) e c.two.ensures.value
+
+pub make_rest-returns-in_ok-b-in-None-clause-limit : goal.make_rest-returns-in_ok-b-in-None-clause-limit
+make_rest-returns-in_ok-b-in-None-clause-limit t c =
+    let v = visible_in c.args.items.now c.args.statics.now in
+    let env = streams_in c.args.env.now in
+    let x = made_of c.args.made in
+    let none : None ≡ constant_shift c.in-Binary.op c.amount.result = sym c.in-None.is ∙ c.shift.ensures in
+    let e = two_is v env c.args.expr.now c.deref.result.now c.deref-in-None.result.now c.in-Binary.op _ c.in-Binary.second x (made_of c.in_ok-b-in-None.b) c.op_of.result c.amount.result c.in-Binary.is c.deref.ensures c.deref-in-None.ensures c.amount.ensures none c.op_of.ensures c.in_ok-b-in-None.ensures.value in
+    subst (λ (z : Made). IfErr c.two.result (λ s. IsPast s z.equations)) e c.two.ensures.limit
+
+pub make_rest-returns-in_ok-b-in-Choose-clause-value : goal.make_rest-returns-in_ok-b-in-Choose-clause-value
+make_rest-returns-in_ok-b-in-Choose-clause-value t c =
+    let v = visible_in c.args.items.now c.args.statics.now in
+    let env = streams_in c.args.env.now in
+    let x = made_of c.args.made in
+    let s = c.args.statics.now in
+    let e = three_is v (visible_in c.args.items.now c.make-in-Choose.new.statics) env c.args.expr.now c.deref-in-Choose.result.now c.deref-in-Choose-2.result.now _ c.in-Choose.first c.in-Choose.second x (made_of c.in_ok-a-in-Choose.a) (made_of c.in_ok-b-in-Choose.b) c.in-Choose.is c.deref-in-Choose.ensures c.deref-in-Choose-2.ensures (visible_kept c.args.items.now s c.make-in-Choose.new.statics c.in_ok-a-in-Choose.ensures.names) c.in_ok-a-in-Choose.ensures.value c.in_ok-b-in-Choose.ensures.value in
+    subst (λ (z : Made). IfOk c.choose.result (λ m. made_of m ≡ z)) e c.choose.ensures.value
+
+pub make_rest-returns-in_ok-b-in-Choose-clause-limit : goal.make_rest-returns-in_ok-b-in-Choose-clause-limit
+make_rest-returns-in_ok-b-in-Choose-clause-limit t c =
+    let v = visible_in c.args.items.now c.args.statics.now in
+    let env = streams_in c.args.env.now in
+    let x = made_of c.args.made in
+    let s = c.args.statics.now in
+    let e = three_is v (visible_in c.args.items.now c.make-in-Choose.new.statics) env c.args.expr.now c.deref-in-Choose.result.now c.deref-in-Choose-2.result.now _ c.in-Choose.first c.in-Choose.second x (made_of c.in_ok-a-in-Choose.a) (made_of c.in_ok-b-in-Choose.b) c.in-Choose.is c.deref-in-Choose.ensures c.deref-in-Choose-2.ensures (visible_kept c.args.items.now s c.make-in-Choose.new.statics c.in_ok-a-in-Choose.ensures.names) c.in_ok-a-in-Choose.ensures.value c.in_ok-b-in-Choose.ensures.value in
+    subst (λ (z : Made). IfErr c.choose.result (λ s. IsPast s z.equations)) e c.choose.ensures.limit
+
+pub make_rest-returns-in_err-a-in-Choose-clause-limit : goal.make_rest-returns-in_err-a-in-Choose-clause-limit
+make_rest-returns-in_err-a-in-Choose-clause-limit t c =
+    let items = c.args.items.now in
+    let s = c.args.statics.now in
+    passed_on c.from_residual-in_err-a-in-Choose.result c.in_err-a-in-Choose.field-0.0 _ _ c.from_residual-in_err-a-in-Choose.ensures.1
+    (chosen_within (visible_in items s) (scene_appends items s c.requires) (streams_in c.args.env.now) c.args.expr.now c.deref-in-Choose.result.now _ c.in-Choose.first c.in-Choose.second (made_of c.args.made) c.in-Choose.is c.deref-in-Choose.ensures)
+    c.in_err-a-in-Choose.ensures.limit
+
+pub make_rest-returns-in_err-b-in-Choose-clause-limit : goal.make_rest-returns-in_err-b-in-Choose-clause-limit
+make_rest-returns-in_err-b-in-Choose-clause-limit t c =
+    let items = c.args.items.now in
+    let s = c.args.statics.now in
+    passed_on c.from_residual-in_err-b-in-Choose.result c.in_err-b-in-Choose.field-0.0 _ _ c.from_residual-in_err-b-in-Choose.ensures.1
+    (other_within (visible_in items s) (visible_in items c.make-in-Choose.new.statics) (streams_in c.args.env.now) c.args.expr.now c.deref-in-Choose.result.now c.deref-in-Choose-2.result.now _ c.in-Choose.first c.in-Choose.second (made_of c.args.made) (made_of c.in_ok-a-in-Choose.a) c.in-Choose.is c.deref-in-Choose.ensures c.deref-in-Choose-2.ensures (visible_kept items s c.make-in-Choose.new.statics c.in_ok-a-in-Choose.ensures.names) c.in_ok-a-in-Choose.ensures.value)
+    c.in_err-b-in-Choose.ensures.limit
 
 pub make_stmts-loop-stmt-preserved : goal.make_stmts-loop-stmt-preserved
 make_stmts-loop-stmt-preserved t c =
@@ -300,27 +453,6 @@ make_rec-returns-in_err-made-3-clause-limit t c =
     (same_long _ _ whole)
     c.in_err-made-3.ensures.limit
 
-pub make-make-requires : goal.make-make-requires
-make-make-requires t c = (let h = slice_lighter c.args.expr.now c.deref.result.now c.in-Slice.inner c.in-Slice.high c.in-Slice.low c.in-Slice.is c.deref.ensures in omega (arith, c.decreases, h), c.requires)
-
-pub make-make-requires-in-Not : goal.make-make-requires-in-Not
-make-make-requires-in-Not t c = (let h = not_lighter c.args.expr.now c.deref-in-Not.result.now c.in-Not.inner c.in-Not.is c.deref-in-Not.ensures in omega (arith, c.decreases, h), c.requires)
-
-pub make-make-requires-in-Binary : goal.make-make-requires-in-Binary
-make-make-requires-in-Binary t c = (let h = first_lighter c.args.expr.now c.deref-in-Binary-2.result.now c.in-Binary.op c.in-Binary.first c.in-Binary.second c.in-Binary.is c.deref-in-Binary-2.ensures in omega (arith, c.decreases, h), c.requires)
-
-pub make-make-requires-in-Choose : goal.make-make-requires-in-Choose
-make-make-requires-in-Choose t c = (let h = condition_lighter c.args.expr.now c.deref-in-Choose.result.now c.in-Choose.condition c.in-Choose.first c.in-Choose.second c.in-Choose.is c.deref-in-Choose.ensures in omega (arith, c.decreases, h), c.requires)
-
-pub make-make_all-requires : goal.make-make_all-requires
-make-make_all-requires t c = (let h = args_lighter c.args.expr.now c.in-Call.name c.in-Call.args c.deref-in-Call.result.now c.in-Call.is c.deref-in-Call.ensures.value in omega (arith, c.decreases, h), c.requires)
-
-pub make-make_all-requires-in-Cat : goal.make-make_all-requires-in-Cat
-make-make_all-requires-in-Cat t c = (let h = parts_lighter c.args.expr.now c.in-Cat.parts c.deref-in-Cat.result.now c.in-Cat.is c.deref-in-Cat.ensures.value in omega (arith, c.decreases, h), c.requires)
-
-pub make-make-requires-in-Paren : goal.make-make-requires-in-Paren
-make-make-requires-in-Paren t c = (let h = paren_lighter c.args.expr.now c.deref-in-Paren.result.now c.in-Paren.inner c.in-Paren.is c.deref-in-Paren.ensures in omega (arith, c.decreases, h), c.requires)
-
 pub make_stmt-make_let-requires : goal.make_stmt-make_let-requires
 make_stmt-make_let-requires t c = (let h = let_lighter c.args.stmt.now c.in-Let.target c.in-Let.width c.in-Let.value c.in-Let.is in omega (arith, c.decreases, h), c.requires)
 
@@ -330,54 +462,6 @@ make_stmt-make_rec-requires t c = (let h = rec_lighter c.args.stmt.now c.in-Rec.
 pub make_stmt-make_turns-requires : goal.make_stmt-make_turns-requires
 make_stmt-make_turns-requires t c = (let h = body_lighter c.args.stmt.now c.in-For.index c.in-For.low c.in-For.high c.in-For.body c.deref.result.now c.in-For.is c.deref.ensures.value in omega (arith, c.decreases, h), c.requires)
 
-pub make-returns-in-Some-clause-limit : goal.make-returns-in-Some-clause-limit
-make-returns-in-Some-clause-limit t c =
-    let items = c.args.items.now in
-    let v = visible_in items c.args.statics.now in
-    let env = streams_in c.args.env.now in
-    let es = shapes_in c.args.ledger in
-    let by : Some c.in-Some.by ≡ constant_shift c.in-Binary.op c.amount.result = sym c.in-Some.is ∙ c.shift-by.ensures in
-    let e = shift_is v env es c.args.expr.now c.deref-in-Binary-2.result.now c.deref-in-Binary.result.now c.in-Binary.op c.in-Binary.first c.in-Binary.second (made_of c.in_ok-a-in-Binary.a) c.in-Some.by c.amount.result c.in-Binary.is c.deref-in-Binary-2.ensures c.deref-in-Binary.ensures c.amount.ensures by c.in_ok-a-in-Binary.ensures.value in
-    subst (λ (z : Made). IfErr c.one-in-Some.result (λ s. IsPast s z.equations)) e c.one-in-Some.ensures.limit
-
-pub make-returns-in_ok-b-in-None-clause-limit : goal.make-returns-in_ok-b-in-None-clause-limit
-make-returns-in_ok-b-in-None-clause-limit t c =
-    let items = c.args.items.now in
-    let v = visible_in items c.args.statics.now in
-    let env = streams_in c.args.env.now in
-    let es = shapes_in c.args.ledger in
-    let none : None ≡ constant_shift c.in-Binary.op c.amount.result = sym c.in-None.is ∙ c.shift-by.ensures in
-    let e = two_is v (visible_in items c.make-in-Binary.new.statics) env es c.args.expr.now c.deref-in-Binary-2.result.now c.deref-in-Binary.result.now c.deref-in-None.result.now c.in-Binary.op c.in-Binary.first c.in-Binary.second (made_of c.in_ok-a-in-Binary.a) (made_of c.in_ok-b-in-None.b) c.op_of.result c.amount.result c.in-Binary.is c.deref-in-Binary-2.ensures c.deref-in-Binary.ensures c.deref-in-None.ensures c.amount.ensures none c.op_of.ensures (visible_kept items c.args.statics.now c.make-in-Binary.new.statics c.in_ok-a-in-Binary.ensures.names) c.in_ok-a-in-Binary.ensures.value c.in_ok-b-in-None.ensures.value in
-    subst (λ (z : Made). IfErr c.two.result (λ s. IsPast s z.equations)) e c.two.ensures.limit
-
-pub make-returns-in_ok-b-in-Choose-clause-limit : goal.make-returns-in_ok-b-in-Choose-clause-limit
-make-returns-in_ok-b-in-Choose-clause-limit t c =
-    let items = c.args.items.now in
-    let v = visible_in items c.args.statics.now in
-    let env = streams_in c.args.env.now in
-    let es = shapes_in c.args.ledger in
-    let s = c.args.statics.now in
-    let e = three_is v (visible_in items c.make-in-Choose.new.statics) (visible_in items c.make-in-Choose-2.new.statics) env es c.args.expr.now c.deref-in-Choose.result.now c.deref-in-Choose-2.result.now c.deref-in-Choose-3.result.now c.in-Choose.condition c.in-Choose.first c.in-Choose.second (made_of c.in_ok-c-in-Choose.c) (made_of c.in_ok-a-in-Choose.a) (made_of c.in_ok-b-in-Choose.b) c.in-Choose.is c.deref-in-Choose.ensures c.deref-in-Choose-2.ensures c.deref-in-Choose-3.ensures (visible_kept items s c.make-in-Choose.new.statics c.in_ok-c-in-Choose.ensures.names) (visible_kept items s c.make-in-Choose-2.new.statics (names_on c.in_ok-c-in-Choose.ensures.names c.in_ok-a-in-Choose.ensures.names)) c.in_ok-c-in-Choose.ensures.value c.in_ok-a-in-Choose.ensures.value c.in_ok-b-in-Choose.ensures.value in
-    subst (λ (z : Made). IfErr c.choose.result (λ s. IsPast s z.equations)) e c.choose.ensures.limit
-
-pub make-returns-in_ok-all-in-Call-clause-limit : goal.make-returns-in_ok-all-in-Call-clause-limit
-make-returns-in_ok-all-in-Call-clause-limit t c =
-    let items = c.args.items.now in
-    let v = visible_in items c.args.statics.now in
-    let env = streams_in c.args.env.now in
-    let es = shapes_in c.args.ledger in
-    let e = call_is v (visible_in items c.make_all.new.statics) env es c.args.expr.now c.in-Call.name c.in-Call.args c.deref-in-Call.result.now (all_of c.in_ok-all-in-Call.all) c.in-Call.is c.deref-in-Call.ensures.value (visible_kept items c.args.statics.now c.make_all.new.statics c.in_ok-all-in-Call.ensures.names) c.in_ok-all-in-Call.ensures.value in
-    subst (λ (z : Made). IfErr c.call.result (λ s. IsPast s z.equations)) e c.call.ensures.limit
-
-pub make-returns-in_ok-all-in-Cat-clause-limit : goal.make-returns-in_ok-all-in-Cat-clause-limit
-make-returns-in_ok-all-in-Cat-clause-limit t c =
-    let items = c.args.items.now in
-    let v = visible_in items c.args.statics.now in
-    let env = streams_in c.args.env.now in
-    let es = shapes_in c.args.ledger in
-    let e = cat_is v env es c.args.expr.now c.in-Cat.parts c.deref-in-Cat.result.now (all_of c.in_ok-all-in-Cat.all) c.in-Cat.is c.deref-in-Cat.ensures.value c.in_ok-all-in-Cat.ensures.value in
-    subst (λ (z : Made). IfErr c.concatenate.result (λ s. IsPast s z.equations)) e c.concatenate.ensures.limit
-
 pub run-returns-clause-limit : goal.run-returns-clause-limit
 run-returns-clause-limit t c =
     let items = c.args.items.now in
@@ -386,87 +470,6 @@ run-returns-clause-limit t c =
     let body : progress_of c.in_ok-env.field-0 ≡ changes_of c.args.body.now v (progress_of c.args.begun) = c.in_ok-env.ensures.value in
     let same : w ≡ v = visible_kept items c.args.statics.now c.make_stmts.new.statics c.in_ok-env.ensures.names in
     subst (λ (z : Made). IfErr c.make_assigned.result (λ s. IsPast s z.equations)) (λ i. assigned c.args.last.now.width c.args.last.now.expr.now (same i) (body i).streams (body i).equations) c.make_assigned.ensures.limit
-
-pub make-returns-in_err-a-in-Binary-clause-limit : goal.make-returns-in_err-a-in-Binary-clause-limit
-make-returns-in_err-a-in-Binary-clause-limit t c =
-    let items = c.args.items.now in
-    let s = c.args.statics.now in
-    let v = visible_in items s in
-    let fs = scene_appends items s c.requires in
-    let env = streams_in c.args.env.now in
-    let es = shapes_in c.args.ledger in
-    passed_on c.from_residual-in_err-a-in-Binary.result c.in_err-a-in-Binary.field-0.0 _ _ c.from_residual-in_err-a-in-Binary.ensures.1
-    (first_within v fs env es c.args.expr.now c.deref-in-Binary-2.result.now c.in-Binary.op c.in-Binary.first c.in-Binary.second c.in-Binary.is c.deref-in-Binary-2.ensures)
-    c.in_err-a-in-Binary.ensures.limit
-
-pub make-returns-in_err-b-in-None-clause-limit : goal.make-returns-in_err-b-in-None-clause-limit
-make-returns-in_err-b-in-None-clause-limit t c =
-    let items = c.args.items.now in
-    let s = c.args.statics.now in
-    let v = visible_in items s in
-    let env = streams_in c.args.env.now in
-    let es = shapes_in c.args.ledger in
-    passed_on c.from_residual-in_err-b-in-None.result c.in_err-b-in-None.field-0.0 _ _ c.from_residual-in_err-b-in-None.ensures.1
-    (second_within v (visible_in items c.make-in-Binary.new.statics) env es c.args.expr.now c.deref-in-Binary-2.result.now c.deref-in-Binary.result.now c.deref-in-None.result.now c.in-Binary.op c.in-Binary.first c.in-Binary.second (made_of c.in_ok-a-in-Binary.a) (operator c.in-Binary.op) c.amount.result c.in-Binary.is c.deref-in-Binary-2.ensures c.deref-in-Binary.ensures c.deref-in-None.ensures c.amount.ensures (sym c.in-None.is ∙ c.shift-by.ensures) refl (visible_kept items s c.make-in-Binary.new.statics c.in_ok-a-in-Binary.ensures.names) c.in_ok-a-in-Binary.ensures.value)
-    c.in_err-b-in-None.ensures.limit
-
-pub make-returns-in_err-c-in-Choose-clause-limit : goal.make-returns-in_err-c-in-Choose-clause-limit
-make-returns-in_err-c-in-Choose-clause-limit t c =
-    let items = c.args.items.now in
-    let s = c.args.statics.now in
-    let v = visible_in items s in
-    let fs = scene_appends items s c.requires in
-    let env = streams_in c.args.env.now in
-    let es = shapes_in c.args.ledger in
-    passed_on c.from_residual-in_err-c-in-Choose.result c.in_err-c-in-Choose.field-0.0 _ _ c.from_residual-in_err-c-in-Choose.ensures.1
-    (condition_within v fs env es c.args.expr.now c.deref-in-Choose.result.now c.in-Choose.condition c.in-Choose.first c.in-Choose.second c.in-Choose.is c.deref-in-Choose.ensures)
-    c.in_err-c-in-Choose.ensures.limit
-
-pub make-returns-in_err-a-in-Choose-clause-limit : goal.make-returns-in_err-a-in-Choose-clause-limit
-make-returns-in_err-a-in-Choose-clause-limit t c =
-    let items = c.args.items.now in
-    let s = c.args.statics.now in
-    let v = visible_in items s in
-    let fs = scene_appends items s c.requires in
-    let env = streams_in c.args.env.now in
-    let es = shapes_in c.args.ledger in
-    passed_on c.from_residual-in_err-a-in-Choose.result c.in_err-a-in-Choose.field-0.0 _ _ c.from_residual-in_err-a-in-Choose.ensures.1
-    (chosen_within v (visible_in items c.make-in-Choose.new.statics) fs env es c.args.expr.now c.deref-in-Choose.result.now c.deref-in-Choose-2.result.now c.in-Choose.condition c.in-Choose.first c.in-Choose.second (made_of c.in_ok-c-in-Choose.c) c.in-Choose.is c.deref-in-Choose.ensures c.deref-in-Choose-2.ensures (visible_kept items s c.make-in-Choose.new.statics c.in_ok-c-in-Choose.ensures.names) c.in_ok-c-in-Choose.ensures.value)
-    c.in_err-a-in-Choose.ensures.limit
-
-pub make-returns-in_err-b-in-Choose-clause-limit : goal.make-returns-in_err-b-in-Choose-clause-limit
-make-returns-in_err-b-in-Choose-clause-limit t c =
-    let items = c.args.items.now in
-    let s = c.args.statics.now in
-    let v = visible_in items s in
-    let env = streams_in c.args.env.now in
-    let es = shapes_in c.args.ledger in
-    passed_on c.from_residual-in_err-b-in-Choose.result c.in_err-b-in-Choose.field-0.0 _ _ c.from_residual-in_err-b-in-Choose.ensures.1
-    (other_within v (visible_in items c.make-in-Choose.new.statics) (visible_in items c.make-in-Choose-2.new.statics) env es c.args.expr.now c.deref-in-Choose.result.now c.deref-in-Choose-2.result.now c.deref-in-Choose-3.result.now c.in-Choose.condition c.in-Choose.first c.in-Choose.second (made_of c.in_ok-c-in-Choose.c) (made_of c.in_ok-a-in-Choose.a) c.in-Choose.is c.deref-in-Choose.ensures c.deref-in-Choose-2.ensures c.deref-in-Choose-3.ensures (visible_kept items s c.make-in-Choose.new.statics c.in_ok-c-in-Choose.ensures.names) (visible_kept items s c.make-in-Choose-2.new.statics (names_on c.in_ok-c-in-Choose.ensures.names c.in_ok-a-in-Choose.ensures.names)) c.in_ok-c-in-Choose.ensures.value c.in_ok-a-in-Choose.ensures.value)
-    c.in_err-b-in-Choose.ensures.limit
-
-pub make-returns-in_err-all-in-Call-clause-limit : goal.make-returns-in_err-all-in-Call-clause-limit
-make-returns-in_err-all-in-Call-clause-limit t c =
-    let items = c.args.items.now in
-    let s = c.args.statics.now in
-    let v = visible_in items s in
-    let fs = scene_appends items s c.requires in
-    let env = streams_in c.args.env.now in
-    let es = shapes_in c.args.ledger in
-    passed_on c.from_residual-in_err-all-in-Call.result c.in_err-all-in-Call.field-0.0 _ _ c.from_residual-in_err-all-in-Call.ensures.1
-    (args_within v fs env es c.args.expr.now c.in-Call.name c.in-Call.args c.deref-in-Call.result.now c.in-Call.is c.deref-in-Call.ensures.value)
-    c.in_err-all-in-Call.ensures.limit
-
-pub make-returns-in_err-all-in-Cat-clause-limit : goal.make-returns-in_err-all-in-Cat-clause-limit
-make-returns-in_err-all-in-Cat-clause-limit t c =
-    let items = c.args.items.now in
-    let s = c.args.statics.now in
-    let v = visible_in items s in
-    let env = streams_in c.args.env.now in
-    let es = shapes_in c.args.ledger in
-    passed_on c.from_residual-in_err-all-in-Cat.result c.in_err-all-in-Cat.field-0.0 _ _ c.from_residual-in_err-all-in-Cat.ensures.1
-    (parts_within v env es c.args.expr.now c.in-Cat.parts c.deref-in-Cat.result.now c.in-Cat.is c.deref-in-Cat.ensures.value)
-    c.in_err-all-in-Cat.ensures.limit
 
 pub call_item-returns-in_err-begun-in-Function-clause-limit : goal.call_item-returns-in_err-begun-in-Function-clause-limit
 call_item-returns-in_err-begun-in-Function-clause-limit t c =
@@ -585,60 +588,6 @@ make_stmt-returns-in-For-clause-value t c =
     let v = visible_in c.args.items.now c.args.statics.now in
     let e = for_is c.args.stmt.now c.in-For.index c.in-For.low c.in-For.high c.in-For.body c.deref.result.now v (progress_of c.args.begun) c.value_of-from.result c.value_of-to.result c.in-For.is c.deref.ensures.value c.value_of-from.ensures c.value_of-to.ensures in
     subst (λ (z : Progress). IfOk c.make_turns.result (λ p. progress_of p ≡ z)) (sym e) c.make_turns.ensures.value
-
-pub make-returns-in_err-a-in-Slice-clause-value : goal.make-returns-in_err-a-in-Slice-clause-value
-make-returns-in_err-a-in-Slice-clause-value t c = IfOk-from_err _ _ c.from_residual.ensures.0
-
-pub make-returns-in_err-a-in-Slice-clause-names : goal.make-returns-in_err-a-in-Slice-clause-names
-make-returns-in_err-a-in-Slice-clause-names t c = IfOk-from_err _ _ c.from_residual.ensures.0
-
-pub make-returns-in_err-a-in-Not-clause-value : goal.make-returns-in_err-a-in-Not-clause-value
-make-returns-in_err-a-in-Not-clause-value t c = IfOk-from_err _ _ c.from_residual-in_err-a-in-Not.ensures.0
-
-pub make-returns-in_err-a-in-Not-clause-names : goal.make-returns-in_err-a-in-Not-clause-names
-make-returns-in_err-a-in-Not-clause-names t c = IfOk-from_err _ _ c.from_residual-in_err-a-in-Not.ensures.0
-
-pub make-returns-in_err-a-in-Binary-clause-value : goal.make-returns-in_err-a-in-Binary-clause-value
-make-returns-in_err-a-in-Binary-clause-value t c = IfOk-from_err _ _ c.from_residual-in_err-a-in-Binary.ensures.0
-
-pub make-returns-in_err-a-in-Binary-clause-names : goal.make-returns-in_err-a-in-Binary-clause-names
-make-returns-in_err-a-in-Binary-clause-names t c = IfOk-from_err _ _ c.from_residual-in_err-a-in-Binary.ensures.0
-
-pub make-returns-in_err-b-in-None-clause-value : goal.make-returns-in_err-b-in-None-clause-value
-make-returns-in_err-b-in-None-clause-value t c = IfOk-from_err _ _ c.from_residual-in_err-b-in-None.ensures.0
-
-pub make-returns-in_err-b-in-None-clause-names : goal.make-returns-in_err-b-in-None-clause-names
-make-returns-in_err-b-in-None-clause-names t c = IfOk-from_err _ _ c.from_residual-in_err-b-in-None.ensures.0
-
-pub make-returns-in_err-c-in-Choose-clause-value : goal.make-returns-in_err-c-in-Choose-clause-value
-make-returns-in_err-c-in-Choose-clause-value t c = IfOk-from_err _ _ c.from_residual-in_err-c-in-Choose.ensures.0
-
-pub make-returns-in_err-c-in-Choose-clause-names : goal.make-returns-in_err-c-in-Choose-clause-names
-make-returns-in_err-c-in-Choose-clause-names t c = IfOk-from_err _ _ c.from_residual-in_err-c-in-Choose.ensures.0
-
-pub make-returns-in_err-a-in-Choose-clause-value : goal.make-returns-in_err-a-in-Choose-clause-value
-make-returns-in_err-a-in-Choose-clause-value t c = IfOk-from_err _ _ c.from_residual-in_err-a-in-Choose.ensures.0
-
-pub make-returns-in_err-a-in-Choose-clause-names : goal.make-returns-in_err-a-in-Choose-clause-names
-make-returns-in_err-a-in-Choose-clause-names t c = IfOk-from_err _ _ c.from_residual-in_err-a-in-Choose.ensures.0
-
-pub make-returns-in_err-b-in-Choose-clause-value : goal.make-returns-in_err-b-in-Choose-clause-value
-make-returns-in_err-b-in-Choose-clause-value t c = IfOk-from_err _ _ c.from_residual-in_err-b-in-Choose.ensures.0
-
-pub make-returns-in_err-b-in-Choose-clause-names : goal.make-returns-in_err-b-in-Choose-clause-names
-make-returns-in_err-b-in-Choose-clause-names t c = IfOk-from_err _ _ c.from_residual-in_err-b-in-Choose.ensures.0
-
-pub make-returns-in_err-all-in-Call-clause-value : goal.make-returns-in_err-all-in-Call-clause-value
-make-returns-in_err-all-in-Call-clause-value t c = IfOk-from_err _ _ c.from_residual-in_err-all-in-Call.ensures.0
-
-pub make-returns-in_err-all-in-Call-clause-names : goal.make-returns-in_err-all-in-Call-clause-names
-make-returns-in_err-all-in-Call-clause-names t c = IfOk-from_err _ _ c.from_residual-in_err-all-in-Call.ensures.0
-
-pub make-returns-in_err-all-in-Cat-clause-value : goal.make-returns-in_err-all-in-Cat-clause-value
-make-returns-in_err-all-in-Cat-clause-value t c = IfOk-from_err _ _ c.from_residual-in_err-all-in-Cat.ensures.0
-
-pub make-returns-in_err-all-in-Cat-clause-names : goal.make-returns-in_err-all-in-Cat-clause-names
-make-returns-in_err-all-in-Cat-clause-names t c = IfOk-from_err _ _ c.from_residual-in_err-all-in-Cat.ensures.0
 
 pub make_turn-returns-in_err-was-clause-value : goal.make_turn-returns-in_err-was-clause-value
 make_turn-returns-in_err-was-clause-value t c = IfOk-from_err _ _ c.from_residual.ensures.0
