@@ -16,7 +16,7 @@ use Rattle.pr_conf.specs.Rules.{is_lawful_tap}
 use Rattle.pr_conf.specs.StageMap.{step_of}
 use Rattle.pr_conf.specs.Through.{tap_byte}
 use Rattle.pr_conf_pipeline.specs.Rows.{Step}
-use Rattle.pr_lens_clocked.specs.Clocked.{advanced, all_advanced, is_last_valid, last_rows, AreReset}
+use Rattle.pr_lens_rtl.specs.Clocked.{advanced, all_advanced, is_last_valid, last_rows, AreReset}
 use Rattle.pr_lens_rtl.specs.declared.vectors.Part.{Part}
 use Rattle.pr_lens_rtl.specs.declared.vectors.Net.{Net}
 use Rattle.pr_lens_rtl.specs.Verilog.{Values, value, Takes, Fit}

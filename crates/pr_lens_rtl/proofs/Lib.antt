@@ -1,3 +1,4 @@
+pub mod FlowLaws
 pub mod Tables
 pub mod PeLaws
 pub mod StageLaws

@@ -11,7 +11,7 @@ use Rattle.pr_conf.specs.declared.pes.Pe.{Pe}
 use Rattle.pr_conf.specs.Rules.{are_lawful_pes}
 use Rattle.pr_conf.specs.StageMap.{made_from, whole_sight, output_at, states_from, registers_to, register_byte, step_of}
 use Rattle.pr_conf.proofs.PassedLaws.{register_at, state_at, length-registers_to, length-states_from}
-use Rattle.pr_lens_clocked.specs.Clocked.{advanced}
+use Rattle.pr_lens_rtl.specs.Clocked.{advanced}
 use Rattle.pr_lens_rtl.specs.declared.vectors.Part.{Part}
 use Rattle.pr_lens_rtl.specs.declared.vectors.Net.{Net}
 use Rattle.pr_lens_rtl.specs.Verilog.{Expr, Values, width_of, value, assigned, Takes, Fit}

@@ -10,8 +10,8 @@ use Rattle.pr_conf.specs.StageMap.{step_of}
 use Rattle.pr_conf.specs.Through.{tapped, steps_of, results_of}
 use Rattle.pr_base.specs.Numbers.{slices_of}
 use Rattle.pr_conf_pipeline.specs.Rows.{Step}
-use Rattle.pr_lens_clocked.specs.Clocked.{Pins, all_advanced, clock, is_enabled, is_last_valid, last_rows, accepted_now, taken_now, accepted, taken, delivered, after_clocks, AreReset, enabled_clocks, is_quiet}
-use Rattle.pr_lens_clocked.proofs.FlowLaws.{flow, order_law, all_law}
+use Rattle.pr_lens_rtl.specs.Clocked.{Pins, all_advanced, clock, is_enabled, is_last_valid, last_rows, accepted_now, taken_now, accepted, taken, delivered, after_clocks, AreReset, enabled_clocks, is_quiet}
+use Rattle.pr_lens_rtl.proofs.FlowLaws.{flow, order_law, all_law}
 use Rattle.pr_lens_rtl.specs.declared.vectors.Part.{Part}
 use Rattle.pr_lens_rtl.specs.declared.vectors.Net.{Net}
 use Rattle.pr_lens_rtl.specs.Verilog.{Values, Takes, IsSettled, IsClock}

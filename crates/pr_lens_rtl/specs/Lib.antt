@@ -1,3 +1,4 @@
+pub mod Clocked
 pub mod Verilog
 pub mod Module
 pub mod Kept

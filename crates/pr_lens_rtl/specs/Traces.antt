@@ -2,7 +2,7 @@
 use Rattle.std.specs.Prelude.{◌≡◌, ℕ, zero, suc, ◌-◌, ◌*◌, ◌==◌, ◌&&◌, ◌||◌, not, Bool, true, List, [], ◌∷◌, ◌++◌, length, if◌then◌else◌}
 use Rattle.pr_conf.specs.Rules.{bytes_in}
 use Rattle.pr_conf.specs.Shape.{Shape}
-use Rattle.pr_lens_clocked.specs.Clocked.{Held, Pins}
+use Rattle.pr_lens_rtl.specs.Clocked.{Held, Pins}
 use Rattle.pr_lens_rtl.specs.declared.vectors.Part.{Part}
 use Rattle.pr_lens_rtl.specs.declared.vectors.Net.{Net}
 use Rattle.pr_lens_rtl.specs.Verilog.{Values, Module, IsClock}

@@ -6,7 +6,7 @@ ghost use Rattle.pr_code.specs.Spelling.{has_bytes};
 ghost use Rattle.pr_conf.specs.Shape.{Shape};
 ghost use Rattle.pr_conf.specs.Rules.{IsLawful};
 ghost use Rattle.pr_conf.specs.Through.{results_of, steps_of};
-ghost use Rattle.pr_lens_clocked.specs.Clocked.{clock};
+ghost use Rattle.pr_lens_rtl.specs.Clocked.{clock};
 ghost use Rattle.pr_lens_rtl.specs.declared.vectors.Net.{Net};
 ghost use Rattle.pr_lens_rtl.specs.Verilog.{Values, Expr, value, Fit, IsSettled, IsClock};
 ghost use Rattle.pr_lens_rtl.specs.Module.{four_of, module_of};

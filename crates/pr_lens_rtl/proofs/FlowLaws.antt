@@ -4,7 +4,7 @@ use Rattle.std.specs.List.{list_all}
 use Rattle.std.proofs.lemmas.List.{map-append, append-nil}
 use Rattle.std.proofs.lemmas.Bool.{and_parts}
 use Rattle.pr_conf_pipeline.specs.Rows.{Step, rows_over, rows, through}
-use Rattle.pr_lens_clocked.specs.Clocked.{Held, Pins, is_last_valid, last_rows, is_enabled, advanced, all_advanced, clock, accepted_now, taken_now, after_clocks, accepted, taken, delivered, enabled_clocks, is_quiet, AreReset, IsReset}
+use Rattle.pr_lens_rtl.specs.Clocked.{Held, Pins, is_last_valid, last_rows, is_enabled, advanced, all_advanced, clock, accepted_now, taken_now, after_clocks, accepted, taken, delivered, enabled_clocks, is_quiet, AreReset, IsReset}
 
 -- a row where it is valid
 abbrev pub shown : {R : Type 0} → Bool → R → List R

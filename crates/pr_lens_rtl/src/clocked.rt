@@ -1,10 +1,9 @@
 //! A pipeline of stages driven by a clock, with a handshake at each end. Nothing here runs.
-#![tactic(auto)]
 
 ghost use Rattle.std.specs.Prelude.{ℕ, ◌≡◌, ◌<◌, ◌≤◌, true, false, List, ◌++◌, [], ◌∷◌};
 ghost use Rattle.std.specs.List.{list_all};
 ghost use Rattle.pr_conf_pipeline.specs.Rows.{BytePipeline, through};
-ghost use Rattle.pr_lens_clocked.specs.Clocked.{Held, Pins, IsReset, accepted, delivered, after_clocks, clock, is_enabled, enabled_clocks, is_quiet};
+ghost use Rattle.pr_lens_rtl.specs.Clocked.{Held, Pins, IsReset, accepted, delivered, after_clocks, clock, is_enabled, enabled_clocks, is_quiet};
 
 /// What leaves is what the stages make of all that entered, in its order, as far as it has left. Once nothing enters, all
 /// of it has left after as many enabled clocks as there are stages. While a result is not taken, it stays.

@@ -1,7 +1,7 @@
 use Rattle.std.proofs.Common.{[], map, ap, if◌then◌else◌}
-use Rattle.pr_lens_clocked.specs.Clocked.{after_clocks, all_advanced}
-use Rattle.pr_lens_clocked.proofs.FlowLaws.{flow, order_law, all_law}
-use Rattle.pr_lens_clocked.proofs.clocked_law.Goals as goal
+use Rattle.pr_lens_rtl.specs.Clocked.{after_clocks, all_advanced}
+use Rattle.pr_lens_rtl.proofs.FlowLaws.{flow, order_law, all_law}
+use Rattle.pr_lens_rtl.proofs.clocked.clocked_law.Goals as goal
 
 pub returns : goal.returns
 returns c = record {
