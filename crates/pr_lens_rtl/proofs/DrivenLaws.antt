@@ -1,12 +1,12 @@
 -- Vectors that rise are driven once.
-use Rattle.std.proofs.Common.{◌≡◌, ◌≢◌, ◌<◌, ◌≤◌, ℕ, suc, ◌+◌, ◌*◌, ◌-◌, ◌^◌, ◌==◌, ◌&&◌, nat_lt, nat_le, Bool, true, false, List, [], ◌∷◌, ◌++◌, length, map, refl, sym, ap, subst, ◌∙◌, arith}
+use Rattle.std.proofs.Common.{◌≡◌, ◌≢◌, ◌<◌, ◌≤◌, ℕ, suc, ◌*◌, ◌==◌, ◌&&◌, nat_lt, nat_le, true, false, List, [], ◌∷◌, ◌++◌, length, map, refl, sym, ap, subst, arith}
 use Rattle.std.specs.List.{All, AllPairs, flat_map, list_all}
 use Rattle.std.proofs.lemmas.Bool.{and_parts, leb-true, eqb-true}
 use Rattle.std.proofs.lemmas.List.{length-append, map-append}
 use Rattle.std.proofs.lemmas.List.Elements.{All-nil, All-cons, All-append}
 use Rattle.std.proofs.lemmas.List.Kept.{AllPairs-cons}
 use Rattle.pr_base.specs.Numbers.{slices_of}
-use Rattle.pr_conf.specs.Shape.{OutputShape, Shape}
+use Rattle.pr_conf.specs.Shape.{OutputShape}
 use Rattle.pr_conf.specs.Rules.{is_lawful_width, is_lawful_tap, is_lawful_output, are_lawful_outputs}
 use Rattle.pr_conf.proofs.Bounds.{slices-le}
 use Rattle.pr_lens_rtl.specs.declared.vectors.Part.{Part}
@@ -14,7 +14,7 @@ use Rattle.pr_lens_rtl.specs.declared.vectors.Net.{Net}
 use Rattle.pr_lens_rtl.specs.Verilog.{Assign, Module}
 use Rattle.pr_lens_rtl.specs.Kept.{place}
 use Rattle.pr_lens_rtl.specs.Driven.{driven, is_given, IsBelow}
-use Rattle.pr_lens_rtl.proofs.KeptLaws.{Rise, IsWire, IsRegister, IsDriven, is_wire, rise_to}
+use Rattle.pr_lens_rtl.proofs.KeptLaws.{Rise, IsWire, IsRegister, IsDriven, is_wire}
 
 abbrev net_of : Assign → Net
 net_of a = a.net
