@@ -43,19 +43,9 @@ rows_more inputs outputs k (s ∷ ss) (r ∷ rs) sample result e =
     ∙ sym (append_assoc (row_text inputs outputs k s r) (rows_text inputs outputs (suc k) ss rs) (row_text inputs outputs (k + suc (length ss)) sample result))
 
 -- ---- pieces of a line
-pub four_pieces : (t a b c d : List ℕ) {t1 t2 t3 t4 : List ℕ} → t1 ≡ t ++ a → t2 ≡ t1 ++ b → t3 ≡ t2 ++ c → t4 ≡ t3 ++ d → t4 ≡ t ++ (a ++ b ++ c ++ d)
-four_pieces t a b c d h1 h2 h3 h4 = rw (h4, h3, h2, h1) (simp append_assoc)
-
 pub four_more : (t b c : List ℕ) (d : List ℕ) {t1 t2 t3 t4 : List ℕ} → t1 ≡ t ++ codes "   " → t2 ≡ t1 ++ b → t3 ≡ t2 ++ c → t4 ≡ t3 ++ d → length t < length t4
 four_more t b c d {t1} {t2} {t3} {t4} h1 h2 h3 h4 =
     omega (arith, ap length h1, ap length h2, ap length h3, ap length h4, length-append t (codes "   "), length-append t1 b, length-append t2 c, length-append t3 d)
-
-pub five_pieces : (t a b c d e : List ℕ) {t1 t2 t3 t4 t5 : List ℕ} → t1 ≡ t ++ a → t2 ≡ t1 ++ b → t3 ≡ t2 ++ c → t4 ≡ t3 ++ d → t5 ≡ t4 ++ e → t5 ≡ t ++ (a ++ b ++ c ++ d ++ e)
-five_pieces t a b c d e h1 h2 h3 h4 h5 = rw (h5, h4, h3, h2, h1) (simp append_assoc)
-
-pub seven_pieces : (t a b c d e f g : List ℕ) {t1 t2 t3 t4 t5 t6 t7 : List ℕ} → t1 ≡ t ++ a → t2 ≡ t1 ++ b → t3 ≡ t2 ++ c → t4 ≡ t3 ++ d → t5 ≡ t4 ++ e → t6 ≡ t5 ++ f → t7 ≡ t6 ++ g
-    → t7 ≡ t ++ (a ++ b ++ c ++ d ++ e ++ f ++ g)
-seven_pieces t a b c d e f g h1 h2 h3 h4 h5 h6 h7 = rw (h7, h6, h5, h4, h3, h2, h1) (simp append_assoc)
 
 pub three_parts : (a b c : List ℕ) {t0 t1 t2 t3 : List ℕ} → t0 ≡ [] → t1 ≡ t0 ++ a → t2 ≡ t1 ++ b → t3 ≡ t2 ++ c → t3 ≡ a ++ b ++ c
 three_parts a b c e0 e1 e2 e3 = e3 ∙ ap (λ z. z ++ c) (e2 ∙ ap (λ z. z ++ b) (e1 ∙ ap (λ z. z ++ a) e0))

@@ -6,9 +6,6 @@ use Rattle.pr_lens_cost.specs.declared.counts.StageCost.{StageCost}
 use Rattle.pr_lens_cost.specs.Texts.{cells_of}
 
 -- ---- pieces, one after the other
-pub three_put : (t a b c : List ℕ) {t1 t2 t3 : List ℕ} → t1 ≡ t ++ a → t2 ≡ t1 ++ b → t3 ≡ t2 ++ c → t3 ≡ t ++ (a ++ b ++ c)
-three_put t a b c h1 h2 h3 = rw (h3, h2, h1) (simp append_assoc)
-
 pub seven_put : (t a b c d e f g : List ℕ) {t1 t2 t3 t4 : List ℕ} → t1 ≡ t ++ a ++ b → t2 ≡ t1 ++ c ++ d → t3 ≡ t2 ++ e ++ f → t4 ≡ t3 ++ g
     → t4 ≡ t ++ (a ++ b ++ c ++ d ++ e ++ f ++ g)
 seven_put t a b c d e f g h1 h2 h3 h4 = rw (h4, h3, h2, h1) (simp append_assoc)

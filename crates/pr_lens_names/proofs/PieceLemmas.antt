@@ -1,22 +1,6 @@
--- Pieces that were added one after the other.
+-- Pieces in quotes.
 use Rattle.std.proofs.Common.{◌≡◌, ◌++◌, List, ℕ, codes, append_assoc}
 use Rattle.pr_lens_names.specs.Pieces.{quoted}
-
-pub two_put : (t a b : List ℕ) {t1 t2 : List ℕ} → t1 ≡ t ++ a → t2 ≡ t1 ++ b → t2 ≡ t ++ (a ++ b)
-two_put t a b h1 h2 = rw (h2, h1) (simp append_assoc)
-
-pub three_put : (t a b c : List ℕ) {t1 t2 t3 : List ℕ} → t1 ≡ t ++ a → t2 ≡ t1 ++ b → t3 ≡ t2 ++ c → t3 ≡ t ++ (a ++ b ++ c)
-three_put t a b c h1 h2 h3 = rw (h3, h2, h1) (simp append_assoc)
-
-pub four_put : (t a b c d : List ℕ) {t1 t2 t3 t4 : List ℕ} → t1 ≡ t ++ a → t2 ≡ t1 ++ b → t3 ≡ t2 ++ c → t4 ≡ t3 ++ d → t4 ≡ t ++ (a ++ b ++ c ++ d)
-four_put t a b c d h1 h2 h3 h4 = rw (h4, h3, h2, h1) (simp append_assoc)
-
-pub five_put : (t a b c d e : List ℕ) {t1 t2 t3 t4 t5 : List ℕ} → t1 ≡ t ++ a → t2 ≡ t1 ++ b → t3 ≡ t2 ++ c → t4 ≡ t3 ++ d → t5 ≡ t4 ++ e → t5 ≡ t ++ (a ++ b ++ c ++ d ++ e)
-five_put t a b c d e h1 h2 h3 h4 h5 = rw (h5, h4, h3, h2, h1) (simp append_assoc)
-
-pub six_put : (t a b c d e f : List ℕ) {t1 t2 t3 t4 t5 t6 : List ℕ} → t1 ≡ t ++ a → t2 ≡ t1 ++ b → t3 ≡ t2 ++ c → t4 ≡ t3 ++ d → t5 ≡ t4 ++ e → t6 ≡ t5 ++ f
-    → t6 ≡ t ++ (a ++ b ++ c ++ d ++ e ++ f)
-six_put t a b c d e f h1 h2 h3 h4 h5 h6 = rw (h6, h5, h4, h3, h2, h1) (simp append_assoc)
 
 -- two pieces in quotes
 pub quoted_put : (t a b : List ℕ) {t1 t2 t3 t4 : List ℕ} → t1 ≡ t ++ codes "`" → t2 ≡ t1 ++ a → t3 ≡ t2 ++ b → t4 ≡ t3 ++ codes "`" → t4 ≡ t ++ quoted (a ++ b)

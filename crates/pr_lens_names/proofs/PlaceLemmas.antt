@@ -8,7 +8,7 @@ use Rattle.pr_lens_text.specs.Places.{HasNoEnd, IsEndBefore, IsPlace}
 use Rattle.pr_lang.specs.declared.tokens.Token.{Token}
 use Rattle.pr_lens_source.specs.Tokens.{start_of}
 use Rattle.pr_lens_names.specs.Pieces.{column_behind, column_of, line_of, place_text}
-use Rattle.pr_lens_names.proofs.PieceLemmas.{four_put}
+use Rattle.pr_lens_text.proofs.PutLemmas.{four_put}
 
 module _ (text : List ℕ) where
   -- one byte more

@@ -41,10 +41,6 @@ finding_put name text f place old placed noted shown told is_place put_place put
 }
 
 -- ---- pieces, one after the other
-pub seven_put : (t a b c d e f g : List ℕ) {t1 t2 t3 t4 t5 t6 t7 : List ℕ} → t1 ≡ t ++ a → t2 ≡ t1 ++ b → t3 ≡ t2 ++ c → t4 ≡ t3 ++ d → t5 ≡ t4 ++ e → t6 ≡ t5 ++ f → t7 ≡ t6 ++ g
-    → t7 ≡ t ++ (a ++ b ++ c ++ d ++ e ++ f ++ g)
-seven_put t a b c d e f g h1 h2 h3 h4 h5 h6 h7 = rw (h7, h6, h5, h4, h3, h2, h1) (simp append_assoc)
-
 pub eight_put : (t a b c d e f g h : List ℕ) {t1 t2 t3 t4 t5 : List ℕ} → t1 ≡ t ++ a → t2 ≡ t1 ++ b → t3 ≡ t2 ++ c ++ d → t4 ≡ t3 ++ e ++ f → t5 ≡ t4 ++ g ++ h
     → t5 ≡ t ++ (a ++ b ++ c ++ d ++ e ++ f ++ g ++ h)
 eight_put t a b c d e f g h h1 h2 h3 h4 h5 = rw (h5, h4, h3, h2, h1) (simp append_assoc)

@@ -78,10 +78,6 @@ piece-put f n old text new before put =
     ap (λ (k : ℕ). flat_map f (range_with_len 0 k)) (add-one n) ∙ (pieces-suc f 0 n ∙ ap (λ (k : ℕ). pieces ++ f k) (let e : 0 + n ≡ n = omega arith in e)) in
     put ∙ (ap (λ (t : List ℕ). t ++ f n) before ∙ (append_assoc old pieces (f n) ∙ ap (λ (t : List ℕ). old ++ t) (sym more)))
 
--- five pieces, one after the other
-pub five-put : (t a b c d e : List ℕ) {t1 t2 t3 t4 t5 : List ℕ} → t1 ≡ t ++ a → t2 ≡ t1 ++ b → t3 ≡ t2 ++ c → t4 ≡ t3 ++ d → t5 ≡ t4 ++ e → t5 ≡ t ++ (a ++ b ++ c ++ d ++ e)
-five-put t a b c d e h1 h2 h3 h4 h5 = rw (h5, h4, h3, h2, h1) (simp append_assoc)
-
 -- ---- numbers
 -- a number of 128 bits is below the half of so many
 large : (number k : ℕ) → number < 2 ^ 128 → 128 ≤ k → number < 2 ^ k

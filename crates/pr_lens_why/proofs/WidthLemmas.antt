@@ -4,7 +4,7 @@ use Rattle.std.specs.List.{list_any}
 use Rattle.pr_flat.specs.declared.equations.Op.{Op}
 use Rattle.pr_flat.specs.declared.equations.Op.TheVariants.{Choose, Slice, Rec}
 use Rattle.pr_lens_find.specs.declared.widths.Extent.{Extent}
-use Rattle.pr_lens_names.proofs.PieceLemmas.{three_put}
+use Rattle.pr_lens_text.proofs.PutLemmas.{three_put}
 use Rattle.pr_lens_why.specs.Widths.{extents_text, is_inside, op_text, operands_text, other_text}
 
 pub operands_put : (t : List ℕ) (widths : List Extent) (t1 t2 t3 : List ℕ) → (length widths == 0) ≡ false → list_any is_inside widths ≡ false → t1 ≡ t ++ codes "Widths of the operands: "

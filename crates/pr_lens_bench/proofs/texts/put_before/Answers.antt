@@ -2,7 +2,7 @@ use Rattle.std.proofs.lemmas.Result.{on_ok_weaker}
 use Rattle.pr_lens_bench.specs.declared.pieces.Piece.{Piece}
 use Rattle.pr_lens_bench.specs.Pieces.{pieces_text}
 use Rattle.pr_lens_bench.specs.Texts.{before_text, begin_text, head_text, module_text}
-use Rattle.pr_lens_bench.proofs.CellLemmas.{seven_pieces}
+use Rattle.pr_lens_text.proofs.PutLemmas.{seven_put}
 use Rattle.pr_lens_bench.proofs.texts.put_before.Goals as goal
 
 pub returns : goal.returns
@@ -11,7 +11,7 @@ returns c =
     let plan = c.args.plan.now in
     let count = c.args.count in
     on_ok_weaker c.put_begin.result (λ h.
-    seven_pieces c.args.text.now.items (head_text plan.seed count) (pieces_text Piece.Sample count plan.inputs.items) (pieces_text Piece.Wanted count plan.outputs.items) (module_text plan.name.items)
+    seven_put c.args.text.now.items (head_text plan.seed count) (pieces_text Piece.Sample count plan.inputs.items) (pieces_text Piece.Wanted count plan.outputs.items) (module_text plan.name.items)
     (pieces_text Piece.Link count plan.inputs.items) (pieces_text Piece.Link count plan.outputs.items) begin_text
     c.in_ok-put_head.ensures (rw c.deref.ensures.value at c.in_ok-put_pieces.ensures) (rw c.deref-2.ensures.value at c.in_ok-put_pieces-2.ensures) (rw c.deref-3.ensures.value at c.in_ok-put_module.ensures)
     (rw c.deref-4.ensures.value at c.in_ok-put_pieces-3.ensures) (rw c.deref-5.ensures.value at c.in_ok-put_pieces-4.ensures) h) c.put_begin.ensures

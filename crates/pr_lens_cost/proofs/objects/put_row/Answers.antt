@@ -1,6 +1,6 @@
 use Rattle.std.proofs.Common.{codes}
 use Rattle.std.proofs.lemmas.Result.{on_ok_weaker}
-use Rattle.pr_lens_names.proofs.PieceLemmas.{six_put}
+use Rattle.pr_lens_text.proofs.PutLemmas.{six_put}
 use Rattle.pr_lens_cost.specs.Objects.{comma, member, run_object}
 use Rattle.pr_lens_cost.proofs.objects.put_row.Goals as goal
 

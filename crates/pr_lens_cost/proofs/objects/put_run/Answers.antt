@@ -1,6 +1,6 @@
 use Rattle.std.proofs.Common.{codes}
 use Rattle.std.proofs.lemmas.Result.{on_ok_weaker}
-use Rattle.pr_lens_names.proofs.PieceLemmas.{four_put}
+use Rattle.pr_lens_text.proofs.PutLemmas.{four_put}
 use Rattle.pr_lens_cost.specs.Objects.{member, run_objects, run_text}
 use Rattle.pr_lens_cost.proofs.objects.put_run.Goals as goal
 

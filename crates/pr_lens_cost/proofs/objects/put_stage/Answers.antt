@@ -1,6 +1,6 @@
 use Rattle.std.proofs.Common.{codes}
 use Rattle.std.proofs.lemmas.Result.{on_ok_weaker}
-use Rattle.pr_lens_names.proofs.PieceLemmas.{five_put}
+use Rattle.pr_lens_text.proofs.PutLemmas.{five_put}
 use Rattle.pr_lens_cost.specs.Objects.{comma, member, stage_object}
 use Rattle.pr_lens_cost.proofs.objects.put_stage.Goals as goal
 

@@ -1,6 +1,6 @@
 use Rattle.std.proofs.Common.{codes}
 use Rattle.std.proofs.lemmas.Result.{on_ok_weaker}
-use Rattle.pr_lens_names.proofs.PieceLemmas.{two_put}
+use Rattle.pr_lens_text.proofs.PutLemmas.{two_put}
 use Rattle.pr_lens_cost.specs.Objects.{member, sums_text}
 use Rattle.pr_lens_cost.proofs.objects.put_sums.Goals as goal
 

@@ -2,7 +2,7 @@ use Rattle.std.proofs.Common.{codes}
 use Rattle.std.specs.List.{flat_map}
 use Rattle.std.proofs.lemmas.Result.{on_ok_weaker}
 use Rattle.pr_lens_cost.specs.Texts.{line_text, row_text, runs_text}
-use Rattle.pr_lens_cost.proofs.TextLemmas.{three_put}
+use Rattle.pr_lens_text.proofs.PutLemmas.{three_put}
 use Rattle.pr_lens_cost.proofs.tables.put_runs.Goals as goal
 
 pub returns : goal.returns

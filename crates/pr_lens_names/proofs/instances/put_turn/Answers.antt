@@ -2,7 +2,7 @@ use Rattle.std.proofs.Common.{codes, decimal, refl}
 use Rattle.std.proofs.lemmas.Result.{on_ok_weaker}
 use Rattle.pr_lens_source.specs.Tokens.{bytes_of}
 use Rattle.pr_lens_names.specs.Instances.{turn_text}
-use Rattle.pr_lens_names.proofs.PieceLemmas.{five_put}
+use Rattle.pr_lens_text.proofs.PutLemmas.{five_put}
 use Rattle.pr_lens_names.proofs.instances.put_turn.Goals as goal
 
 pub returns : goal.returns

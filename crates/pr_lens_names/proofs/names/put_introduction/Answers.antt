@@ -2,7 +2,7 @@ use Rattle.std.proofs.Common.{codes}
 use Rattle.std.proofs.lemmas.Result.{on_ok_weaker}
 use Rattle.pr_lens_names.specs.Names.{introduction_text, sort_text}
 use Rattle.pr_lens_names.specs.Pieces.{place_text, token_text}
-use Rattle.pr_lens_names.proofs.PieceLemmas.{six_put}
+use Rattle.pr_lens_text.proofs.PutLemmas.{six_put}
 use Rattle.pr_lens_names.proofs.names.put_introduction.Goals as goal
 
 pub returns : goal.returns

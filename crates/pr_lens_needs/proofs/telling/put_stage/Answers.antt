@@ -1,6 +1,6 @@
 use Rattle.std.proofs.Common.{◌∙◌, ◌++◌, List, ℕ, codes, decimal, refl, ap}
 use Rattle.std.proofs.lemmas.Result.{on_ok_weaker}
-use Rattle.pr_lens_names.proofs.PieceLemmas.{four_put}
+use Rattle.pr_lens_text.proofs.PutLemmas.{four_put}
 use Rattle.pr_lens_needs.specs.Texts.{stage_text, wide_text}
 use Rattle.pr_lens_needs.proofs.telling.put_stage.Goals as goal
 

@@ -1,6 +1,6 @@
 use Rattle.std.proofs.Common.{codes}
 use Rattle.std.proofs.lemmas.Result.{on_ok_weaker}
-use Rattle.pr_lens_names.proofs.PieceLemmas.{three_put}
+use Rattle.pr_lens_text.proofs.PutLemmas.{three_put}
 use Rattle.pr_lens_needs.specs.Texts.{counted_text, narrowed_text}
 use Rattle.pr_lens_needs.proofs.telling.tell_narrowed.Goals as goal
 

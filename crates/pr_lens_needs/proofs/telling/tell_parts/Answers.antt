@@ -1,7 +1,7 @@
 use Rattle.std.proofs.Common.{◌∙◌, ◌++◌, List, codes, ap}
 use Rattle.std.proofs.lemmas.Result.{on_ok_weaker}
 use Rattle.pr_lens_needs.specs.declared.takes.Take.{Take}
-use Rattle.pr_lens_names.proofs.PieceLemmas.{three_put}
+use Rattle.pr_lens_text.proofs.PutLemmas.{three_put}
 use Rattle.pr_lens_needs.specs.Texts.{heading_text, part_text, parts_text, takes_text}
 use Rattle.pr_lens_needs.proofs.telling.tell_parts.Goals as goal
 

@@ -1,7 +1,7 @@
 use Rattle.std.proofs.Common.{codes}
 use Rattle.std.proofs.lemmas.Result.{on_ok_weaker}
 use Rattle.pr_lens_rules.specs.Rules.{counts_text}
-use Rattle.pr_lens_names.proofs.PieceLemmas.{two_put}
+use Rattle.pr_lens_text.proofs.PutLemmas.{two_put}
 use Rattle.pr_lens_rules.proofs.rules.tell_call.Goals as goal
 
 pub returns-in_ok-put-in-None : goal.returns-in_ok-put-in-None

@@ -2,7 +2,7 @@ use Rattle.std.proofs.Common.{◌-◌, ◌≡◌, false, codes, decimal, refl, l
 use Rattle.std.proofs.lemmas.Bool.{lt-leb}
 use Rattle.std.proofs.lemmas.Result.{on_ok_weaker}
 use Rattle.pr_lens_rules.specs.Rules.{entries_text}
-use Rattle.pr_lens_names.proofs.PieceLemmas.{five_put}
+use Rattle.pr_lens_text.proofs.PutLemmas.{five_put}
 use Rattle.pr_lens_rules.proofs.rules.tell_entries.Goals as goal
 
 pub returns : goal.returns

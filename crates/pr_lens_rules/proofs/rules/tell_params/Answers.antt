@@ -1,7 +1,7 @@
 use Rattle.std.proofs.Common.{◌∙◌, ◌++◌, List, ℕ, codes, decimal, refl, ap}
 use Rattle.std.proofs.lemmas.Result.{on_ok_weaker}
 use Rattle.pr_lens_rules.specs.Rules.{parameter_text, params_text}
-use Rattle.pr_lens_names.proofs.PieceLemmas.{six_put}
+use Rattle.pr_lens_text.proofs.PutLemmas.{six_put}
 use Rattle.pr_lens_rules.proofs.rules.tell_params.Goals as goal
 
 pub returns : goal.returns

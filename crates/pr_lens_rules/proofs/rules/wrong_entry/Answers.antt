@@ -4,7 +4,7 @@ use Rattle.std.proofs.lemmas.Result.{on_ok_weaker}
 use Rattle.pr_lens_names.specs.Instances.{instance_text, last_number}
 use Rattle.pr_lens_names.specs.Names.{introduction_of}
 use Rattle.pr_lens_rules.specs.Rules.{entry_text, last_turn_text, table_text}
-use Rattle.pr_lens_names.proofs.PieceLemmas.{four_put}
+use Rattle.pr_lens_text.proofs.PutLemmas.{four_put}
 use Rattle.pr_lens_rules.proofs.rules.wrong_entry.Goals as goal
 
 pub returns : goal.returns

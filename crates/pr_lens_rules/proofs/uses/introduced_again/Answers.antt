@@ -3,7 +3,7 @@ use Rattle.std.proofs.lemmas.Result.{on_ok_weaker}
 use Rattle.pr_lens_names.specs.Instances.{instance_text}
 use Rattle.pr_lens_names.specs.Names.{introduction_of}
 use Rattle.pr_lens_rules.specs.Uses.{again_behind, again_text}
-use Rattle.pr_lens_names.proofs.PieceLemmas.{three_put}
+use Rattle.pr_lens_text.proofs.PutLemmas.{three_put}
 use Rattle.pr_lens_rules.proofs.uses.introduced_again.Goals as goal
 
 pub returns : goal.returns

@@ -2,7 +2,7 @@ use Rattle.std.proofs.Common.{codes}
 use Rattle.std.proofs.lemmas.Result.{on_ok_weaker}
 use Rattle.pr_lens_names.specs.Pieces.{place_text}
 use Rattle.pr_lens_rules.specs.Uses.{behind_text}
-use Rattle.pr_lens_names.proofs.PieceLemmas.{three_put}
+use Rattle.pr_lens_text.proofs.PutLemmas.{three_put}
 use Rattle.pr_lens_rules.proofs.uses.tell_behind.Goals as goal
 
 pub returns : goal.returns

@@ -2,7 +2,7 @@ use Rattle.std.proofs.Common.{codes}
 use Rattle.std.proofs.lemmas.Result.{on_ok_weaker}
 use Rattle.pr_lens_show.specs.Findings.{severity_text, what_text, without_end}
 use Rattle.pr_lens_show.specs.Json.{json_string}
-use Rattle.pr_lens_show.proofs.Texts.{seven_put}
+use Rattle.pr_lens_text.proofs.PutLemmas.{seven_put}
 use Rattle.pr_lens_show.proofs.findings.put_what.Goals as goal
 
 pub returns : goal.returns

@@ -1,6 +1,6 @@
 use Rattle.std.proofs.Common.{codes}
 use Rattle.std.proofs.lemmas.Result.{on_ok_weaker}
-use Rattle.pr_lens_names.proofs.PieceLemmas.{five_put}
+use Rattle.pr_lens_text.proofs.PutLemmas.{five_put}
 use Rattle.pr_lens_show.specs.Names.{word_of}
 use Rattle.pr_lens_tool.specs.Replies.{fabric_words, narrow_words, why_line}
 use Rattle.pr_lens_tool.proofs.replies.put_why.Goals as goal

@@ -1,5 +1,5 @@
 use Rattle.std.proofs.lemmas.Result.{on_ok_weaker}
-use Rattle.pr_lens_names.proofs.PieceLemmas.{four_put}
+use Rattle.pr_lens_text.proofs.PutLemmas.{four_put}
 use Rattle.pr_lens_warn.specs.Texts.{sides_text}
 use Rattle.pr_lens_warn.proofs.telling.put_sides.Goals as goal
 

@@ -1,6 +1,6 @@
 use Rattle.std.proofs.Common.{codes, decimal, refl}
 use Rattle.std.proofs.lemmas.Result.{on_ok_weaker}
-use Rattle.pr_lens_names.proofs.PieceLemmas.{four_put}
+use Rattle.pr_lens_text.proofs.PutLemmas.{four_put}
 use Rattle.pr_lens_why.specs.Limits.{left_text}
 use Rattle.pr_lens_why.proofs.fits.tell_left.Goals as goal
 

@@ -1,6 +1,6 @@
 use Rattle.std.proofs.Common.{◌∙◌, ◌++◌, [], Bool, true, cond, codes, sym, ap}
 use Rattle.std.proofs.lemmas.Result.{on_ok_weaker}
-use Rattle.pr_lens_names.proofs.PieceLemmas.{three_put}
+use Rattle.pr_lens_text.proofs.PutLemmas.{three_put}
 use Rattle.pr_lens_why.specs.Syntax.{expected_pieces, joined, listed_text}
 use Rattle.pr_lens_why.proofs.syntax.put_expected.Goals as goal
 

@@ -1,6 +1,6 @@
 use Rattle.std.proofs.lemmas.Result.{on_ok_weaker}
 use Rattle.pr_lens_source.specs.Tokens.{kind_of}
-use Rattle.pr_lens_names.proofs.PieceLemmas.{four_put}
+use Rattle.pr_lens_text.proofs.PutLemmas.{four_put}
 use Rattle.pr_lens_why.specs.Syntax.{help_text, listed_text, slip_at, syntax_text, whole_file_text, wrong_text}
 use Rattle.pr_lens_why.proofs.syntax.tell.Goals as goal
 

@@ -1,6 +1,6 @@
 use Rattle.std.proofs.Common.{◌∙◌, ◌++◌, List, ℕ, codes, decimal, refl, sym, ap}
 use Rattle.std.proofs.lemmas.Result.{on_ok_weaker}
-use Rattle.pr_lens_names.proofs.PieceLemmas.{three_put}
+use Rattle.pr_lens_text.proofs.PutLemmas.{three_put}
 use Rattle.pr_lens_why.specs.Widths.{op_text, slice_text}
 use Rattle.pr_lens_why.proofs.WidthLemmas.{op_other}
 use Rattle.pr_lens_why.proofs.widths.tell_op.Goals as goal
