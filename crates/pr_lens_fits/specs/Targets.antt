@@ -1,9 +1,8 @@
 -- Texts that end earlier, with an output more.
 use Rattle.std.specs.Prelude.{ℕ, ◌≡◌, ◌≢◌, ◌≤◌, ◌+◌, ◌-◌, ◌^◌, ◌<◌, ◌⊎◌, ◌++◌, [], Bool, true, false, Some, List, All, codes, length, min, replicate, slice_range}
 use Rattle.pr_base.specs.declared.caps.Cap.{Cap}
-use Rattle.pr_lang.specs.declared.tokens.Keyword.TheVariants.{Let, Rec}
 use Rattle.pr_lang.specs.declared.tokens.Kind.{Kind}
-use Rattle.pr_lang.specs.declared.tokens.Kind.TheVariants.{End, Mark, Word}
+use Rattle.pr_lang.specs.declared.tokens.Kind.TheVariants.{End, Mark}
 use Rattle.pr_lang.specs.declared.tokens.Symbol.TheVariants.{Assign, Colon}
 use Rattle.pr_lang.specs.declared.tokens.Token.{Token}
 use Rattle.pr_lang.specs.declared.trees.Program.{Program}
@@ -11,6 +10,7 @@ use Rattle.pr_cut_units.specs.Nets.{limit_passed}
 use Rattle.pr_compile_front.specs.Refusals.{HasWidths}
 use Rattle.pr_compile.specs.Configured.{OfReadyBy, net_by}
 use Rattle.pr_lens_source.specs.declared.sources.Span.{Span}
+use Rattle.pr_lens_source.specs.Kinds.{is_assigning}
 use Rattle.pr_lens_source.specs.Tokens.{kind_of, start_of, first_of, front_text}
 use Rattle.pr_lens_find.specs.Turns.{IsItemWith}
 use Rattle.pr_lens_fits.specs.Unfits.{HasRefusal, PassesLimit}
@@ -20,12 +20,6 @@ abbrev pub IsShort : ℕ → Token → Type 0
 IsShort most token = token.end - token.start ≤ most
 
 -- ---- targets
--- an item that begins so has a target, which stands behind that token
-abbrev pub has_target : Kind → Bool
-has_target (Word Let) = true
-has_target (Word Rec) = true
-has_target _ = false
-
 -- before such a token it ends
 abbrev pub ends_target : Kind → Bool
 ends_target (Mark Colon) = true
@@ -41,14 +35,14 @@ pub record IsTargetEnd (tokens : List Token) (first end : ℕ) : Type 0 where
 
 -- the text of the target of an item that begins at a token
 pub record HasTarget (text : List ℕ) (tokens : List Token) (first : ℕ) (target : List ℕ) : Type 0 where
-  pub begins : has_target (kind_of tokens first) ≡ true
+  pub begins : is_assigning (kind_of tokens first) ≡ true
   pub end : ℕ
   pub ends : IsTargetEnd tokens first end
   pub is : target ≡ slice_range text (start_of text tokens (min (first + 1) (2 ^ 64 - 1))) (start_of text tokens end)
 
 -- it has none
 pub record HasNoTarget (tokens : List Token) (first : ℕ) (target : List ℕ) : Type 0 where
-  pub begins : has_target (kind_of tokens first) ≡ false
+  pub begins : is_assigning (kind_of tokens first) ≡ false
   pub none : target ≡ []
 
 abbrev pub IsTarget : List ℕ → List Token → ℕ → List ℕ → Type 0

@@ -2,10 +2,10 @@
 
 ghost use Rattle.std.specs.Prelude.{◌≡◌, ◌≤◌, ℕ, IfOk, All};
 ghost use Rattle.pr_lens_source.specs.Tokens.{first_of};
-ghost use Rattle.pr_lens_fits.specs.Targets.{IsShort, IsTarget, IsTargetEnd, IsWithOutput, ends_target, has_target};
+ghost use Rattle.pr_lens_fits.specs.Targets.{IsShort, IsTarget, IsTargetEnd, IsWithOutput, ends_target};
 
-use pr_lang::{Keyword, Kind, Symbol};
-use pr_lens_source::Source;
+use pr_lang::{Kind, Symbol};
+use pr_lens_source::{Source, is_assigning};
 use std::alloc::{AllocError, Global};
 
 /// The bytes of the longest token of a text.
@@ -18,13 +18,6 @@ fn longest_token(source: &Source) -> usize
         longest = longest.max((token.end as usize).saturating_sub(token.start as usize));
     }
     longest
-}
-
-/// Whether an item that begins with this token assigns a target: an assignment or a recurrence.
-fn has_target(kind: Kind) -> bool
-    ensures { result ≡ has_target kind }
-{
-    matches!(kind, Kind::Word(Keyword::Let) | Kind::Word(Keyword::Rec))
 }
 
 /// Whether a target ends before this token.
@@ -54,7 +47,7 @@ fn target_of<'a>(source: &Source<'a>, item: usize) -> &'a [u8]
         IsTarget source.text.now source.tokens.now (first_of source.tokens.now source.spans.now item) result.now }
 {
     let first = source.first(item);
-    if !has_target(source.kind(first)) {
+    if !is_assigning(source.kind(first)) {
         return &[];
     }
     let from = source.start(first.saturating_add(1));

@@ -11,10 +11,11 @@ use Rattle.pr_lang.specs.declared.tokens.Kind.TheVariants.{Mark, End}
 use Rattle.pr_lang.specs.declared.tokens.Symbol.TheVariants.{OpenRound, OpenSquare, OpenCurly, CloseRound, CloseSquare, CloseCurly, Comma}
 use Rattle.pr_lang.specs.declared.tokens.Token.{Token}
 use Rattle.pr_lens_source.specs.Depths.{depth_after}
+use Rattle.pr_lens_source.specs.Kinds.{is_close_square, is_closing, is_comma, is_open_square, is_opening, is_semi}
 use Rattle.pr_lens_source.specs.Ranges.{count_between, first_between, last_below, one_where}
 use Rattle.pr_lens_source.specs.Tokens.{kind_of, start_of, end_of, bytes_of}
-use Rattle.pr_lens_source.proofs.RangeLemmas.{count_none, count_over, count_last, count_first, first_none, first_here, first_later, last_none, last_here, last_before}
-use Rattle.pr_lens_names.specs.Brackets.{is_opening, is_closing, is_open_square, is_close_square, is_comma, is_semi, opened, closed, is_even_with, closing_of, is_between_parts, parts_before, parts_up_to, parts_in, is_open_from, is_around, square_at, square_around}
+use Rattle.pr_lens_source.proofs.RangeLemmas.{count_none, count_over, count_last, count_first, first_none, first_here, first_later, last_none, last_here, last_before, one_at_most}
+use Rattle.pr_lens_names.specs.Brackets.{opened, closed, is_even_with, closing_of, is_between_parts, parts_before, parts_up_to, parts_in, is_open_from, is_around, square_at, square_around}
 
 -- behind the last token is the end
 pub kind_past : (tokens : List Token) (at : ℕ) → length tokens ≤ at → kind_of tokens at ≡ End
@@ -41,10 +42,6 @@ depth_moves depth (Mark CloseSquare) less = omega arith
 depth_moves depth (Mark CloseCurly) less = omega arith
 depth_moves depth (Mark _) less = omega arith
 depth_moves depth _ less = omega arith
-
-one_at_most : (b : Bool) → one_where b ≤ 1
-one_at_most true = omega arith
-one_at_most false = omega arith
 
 -- a comma opens nothing
 comma_alone : (k : Kind) (b : Bool) → one_where (is_comma k && b) + one_where (is_opening k) ≤ 1

@@ -5,10 +5,11 @@ use Rattle.std.specs.List.{flat_map, range_with_len}
 use Rattle.std.proofs.lemmas.Bool.Decides.{nat_tests}
 use Rattle.std.proofs.lemmas.List.{append-nil}
 use Rattle.pr_lang.specs.declared.tokens.Token.{Token}
+use Rattle.pr_lens_source.specs.Kinds.{is_semi}
 use Rattle.pr_lens_source.specs.Ranges.{first_between, last_below}
 use Rattle.pr_lens_source.specs.Tokens.{kind_of, bytes_of}
 use Rattle.pr_lens_source.proofs.RangeLemmas.{first_none, first_here, first_later, last_none, last_here, last_before}
-use Rattle.pr_lens_names.specs.Brackets.{is_semi, last_of}
+use Rattle.pr_lens_names.specs.Brackets.{last_of}
 use Rattle.pr_lens_names.specs.Instances.{differs_behind, is_about_target, is_same_instance, is_target, is_target_word, may_assign, may_be_assigned, target_around, target_behind, tokens_text}
 
 -- ---- tokens

@@ -1,40 +1,9 @@
 -- Brackets of a text, and what stands in them.
-use Rattle.std.specs.Prelude.{ℕ, ◌+◌, ◌==◌, ◌&&◌, ◌||◌, Bool, true, false, List, Option, None, Some, length, nat_le, nat_lt, unwrap_or, if◌then◌else◌}
-use Rattle.pr_lang.specs.declared.tokens.Kind.{Kind}
-use Rattle.pr_lang.specs.declared.tokens.Kind.TheVariants.{Mark}
-use Rattle.pr_lang.specs.declared.tokens.Symbol.TheVariants.{OpenRound, OpenSquare, OpenCurly, CloseRound, CloseSquare, CloseCurly, Comma, Semi}
+use Rattle.std.specs.Prelude.{ℕ, ◌+◌, ◌==◌, ◌&&◌, ◌||◌, Bool, List, Option, None, Some, length, nat_le, nat_lt, unwrap_or, if◌then◌else◌}
 use Rattle.pr_lang.specs.declared.tokens.Token.{Token}
+use Rattle.pr_lens_source.specs.Kinds.{is_closing, is_close_square, is_comma, is_open_square, is_opening, is_semi}
 use Rattle.pr_lens_source.specs.Ranges.{count_between, first_between, last_below}
 use Rattle.pr_lens_source.specs.Tokens.{kind_of}
-
--- ---- kinds of tokens
-abbrev pub is_opening : Kind → Bool
-is_opening (Mark OpenRound) = true
-is_opening (Mark OpenSquare) = true
-is_opening (Mark OpenCurly) = true
-is_opening _ = false
-
-abbrev pub is_closing : Kind → Bool
-is_closing (Mark CloseRound) = true
-is_closing (Mark CloseSquare) = true
-is_closing (Mark CloseCurly) = true
-is_closing _ = false
-
-abbrev pub is_open_square : Kind → Bool
-is_open_square (Mark OpenSquare) = true
-is_open_square _ = false
-
-abbrev pub is_close_square : Kind → Bool
-is_close_square (Mark CloseSquare) = true
-is_close_square _ = false
-
-abbrev pub is_comma : Kind → Bool
-is_comma (Mark Comma) = true
-is_comma _ = false
-
-abbrev pub is_semi : Kind → Bool
-is_semi (Mark Semi) = true
-is_semi _ = false
 
 -- ---- brackets that open from a token on
 -- how many brackets the tokens from one up to another open, and how many they close

@@ -9,11 +9,12 @@ use Rattle.pr_lang.specs.declared.tokens.Symbol.TheVariants.{CloseSquare, Dots, 
 use Rattle.pr_lang.specs.declared.tokens.Token.{Token}
 use Rattle.pr_lens_source.specs.declared.sources.Span.{Span}
 use Rattle.pr_lens_source.specs.Introduced.{introduced_before}
+use Rattle.pr_lens_source.specs.Kinds.{is_assigning, is_open_square, is_semi}
 use Rattle.pr_lens_source.specs.Ranges.{first_between, last_below}
 use Rattle.pr_lens_source.specs.Tokens.{kind_of, bytes_of}
 use Rattle.pr_lens_names.specs.declared.names.Sort.{Sort}
 use Rattle.pr_lens_names.specs.declared.names.Sort.TheVariants.{Index}
-use Rattle.pr_lens_names.specs.Brackets.{is_open_square, is_semi, last_of}
+use Rattle.pr_lens_names.specs.Brackets.{last_of}
 use Rattle.pr_lens_names.specs.Names.{sort_at}
 use Rattle.pr_lens_names.specs.Pieces.{quoted}
 
@@ -41,11 +42,6 @@ is_target_word (Word keyword.Let) = true
 is_target_word (Word keyword.Rec) = true
 is_target_word (Word keyword.Output) = true
 is_target_word _ = false
-
-abbrev pub is_assigning : Kind → Bool
-is_assigning (Word keyword.Let) = true
-is_assigning (Word keyword.Rec) = true
-is_assigning _ = false
 
 -- a word with its target behind it, or the end of a statement
 abbrev pub is_about_target : List Token → ℕ → Bool

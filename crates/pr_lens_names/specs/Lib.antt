@@ -1,4 +1,5 @@
 pub mod Brackets
+pub mod Constants
 pub mod Instances
 pub mod Names
 pub mod Pieces

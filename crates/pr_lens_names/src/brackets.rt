@@ -1,11 +1,14 @@
 //! Brackets, and what stands in them.
 
 ghost use Rattle.std.specs.Prelude.{◌≡◌, ◌+◌, ◌<◌, ◌≤◌, ◌==◌, ◌^◌, ◌&&◌, IsTrue, cond, if◌then◌else◌, length, nat_le};
+ghost use Rattle.pr_lens_source.specs.Kinds.{is_close_square, is_comma, is_open_square, is_semi};
 ghost use Rattle.pr_lens_source.specs.Tokens.{bytes_of, kind_of};
-ghost use Rattle.pr_lens_names.specs.Brackets.{closing_of, is_close_square, is_comma, is_open_square, is_semi, last_of, parts_in, square_around};
+ghost use Rattle.pr_lens_names.specs.Brackets.{closing_of, last_of, parts_in, square_around};
 
-use pr_lang::{Kind, Symbol};
-use pr_lens_source::{Source, counted, depth_after};
+use pr_lang::Kind;
+use pr_lens_source::{
+    Source, counted, depth_after, is_close_square, is_comma, is_open_square, is_semi,
+};
 
 /// The kind of the token so many behind another one, and End behind the last.
 pub fn kind_behind(source: &Source, token: usize, by: usize) -> Kind
@@ -27,27 +30,6 @@ pub fn bytes_behind<'s>(source: &'s Source, token: usize, by: usize) -> &'s [u8]
         return &[];
     }
     source.bytes(token + by)
-}
-
-/// Whether a square bracket opens with a token.
-pub fn is_open_square(kind: Kind) -> bool
-    ensures { result ≡ is_open_square kind }
-{
-    matches!(kind, Kind::Mark(Symbol::OpenSquare))
-}
-
-/// Whether a token is a semicolon.
-pub fn is_semi(kind: Kind) -> bool
-    ensures { result ≡ is_semi kind }
-{
-    matches!(kind, Kind::Mark(Symbol::Semi))
-}
-
-/// Whether a token is a comma.
-fn is_comma(kind: Kind) -> bool
-    ensures { result ≡ is_comma kind }
-{
-    matches!(kind, Kind::Mark(Symbol::Comma))
 }
 
 /// 1 for a comma between the parts of brackets that are open so deep, else 0.
@@ -134,13 +116,6 @@ pub fn last_of(source: &Source, name: usize) -> usize
         return name;
     }
     closing_of(source, name + 1).unwrap_or(name)
-}
-
-/// Whether a square bracket closes with a token.
-fn is_close_square(kind: Kind) -> bool
-    ensures { result ≡ is_close_square kind }
-{
-    matches!(kind, Kind::Mark(Symbol::CloseSquare))
 }
 
 /// The square bracket in which a token stands.

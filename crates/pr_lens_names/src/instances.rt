@@ -1,12 +1,12 @@
 //! Names with their indices.
 
 ghost use Rattle.std.specs.Prelude.{◌≡◌, ◌++◌, ◌+◌, ◌<◌, OnOk};
-ghost use Rattle.pr_lens_names.specs.Instances.{differs_behind, first_index, first_place, first_turn_text, has_place, instance_text, is_assigned_at, is_assigning, is_index, is_same_instance, is_target, is_target_word, last_number, less_of, low_before, low_of, may_assign, may_be_assigned, more_of, number_before, place_by, target_around, tokens_text, turn_text};
+ghost use Rattle.pr_lens_names.specs.Instances.{differs_behind, first_index, first_place, first_turn_text, has_place, instance_text, is_assigned_at, is_index, is_same_instance, is_target, is_target_word, last_number, less_of, low_before, low_of, may_assign, may_be_assigned, more_of, number_before, place_by, target_around, tokens_text, turn_text};
 
-use crate::brackets::{bytes_behind, has_index, is_semi, kind_behind, last_of};
+use crate::brackets::{bytes_behind, has_index, kind_behind, last_of};
 use crate::names::{Sort, sort_at};
 use pr_lang::{Keyword, Kind, Symbol};
-use pr_lens_source::{Source, introduced_before};
+use pr_lens_source::{Source, introduced_before, is_assigning, is_semi};
 use pr_lens_text::{put, put_counted};
 use std::alloc::AllocError;
 
@@ -87,13 +87,6 @@ pub fn target_around(source: &Source, token: usize) -> Option<usize>
         }
     }
     None
-}
-
-/// Whether a name behind this word may have an index.
-fn is_assigning(kind: Kind) -> bool
-    ensures { result ≡ is_assigning kind }
-{
-    matches!(kind, Kind::Word(Keyword::Let) | Kind::Word(Keyword::Rec))
 }
 
 /// Whether a name is introduced at this token by `let` or `rec`, and so may have an index.

@@ -8,7 +8,7 @@ use Rattle.pr_lang.specs.declared.tokens.Token.{Token}
 use Rattle.pr_lang.specs.declared.trees.Program.{Program}
 use Rattle.pr_lang.specs.Spelling.{is_line_feed}
 use Rattle.pr_lang.specs.Tokens.{tokens_of}
-use Rattle.pr_lens_source.specs.Introduced.{is_name}
+use Rattle.pr_lens_source.specs.Kinds.{is_name}
 use Rattle.pr_lens_source.specs.Tokens.{end_of, kind_of, start_of}
 use Rattle.pr_lens_origins.specs.declared.spots.Cursor.{Cursor}
 use Rattle.pr_lens_origins.specs.declared.spots.Spot.{Spot}

@@ -1,11 +1,11 @@
 //! The names of streams in a text.
 
 ghost use Rattle.std.specs.Prelude.{◌≡◌, ◌++◌, ◌∷◌, [], IfOk, OnOk, if◌then◌else◌};
-ghost use Rattle.pr_lens_source.specs.Introduced.{is_name};
+ghost use Rattle.pr_lens_source.specs.Kinds.{is_name};
 ghost use Rattle.pr_lens_origins.specs.Spots.{is_stream_name, name_tokens, names_stream};
 
 use pr_lang::{Keyword, Kind};
-use pr_lens_source::Source;
+use pr_lens_source::{Source, is_name};
 use std::alloc::{AllocError, Global};
 
 /// Whether the name behind this word is that of a stream.
@@ -19,12 +19,6 @@ fn names_stream(kind: Kind) -> bool
         },
         _ => false,
     }
-}
-
-fn is_name(kind: Kind) -> bool
-    ensures { result ≡ is_name kind }
-{
-    matches!(kind, Kind::Name)
 }
 
 /// Whether a token is the name of a stream, where that is introduced.

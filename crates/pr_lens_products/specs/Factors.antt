@@ -4,13 +4,11 @@ use Rattle.pr_lang.specs.declared.tokens.Kind.{Kind}
 use Rattle.pr_lang.specs.declared.tokens.Kind.TheVariants.{Number}
 use Rattle.pr_lang.specs.declared.tokens.Token.{Token}
 use Rattle.pr_lens_source.specs.declared.sources.Span.{Span}
-use Rattle.pr_lens_source.specs.Introduced.{introduced_before, is_fn}
-use Rattle.pr_lens_source.specs.Items.{is_semi}
+use Rattle.pr_lens_source.specs.Introduced.{introduced_before}
+use Rattle.pr_lens_source.specs.Kinds.{is_assign, is_at, is_colon, is_fn, is_semi, is_star}
 use Rattle.pr_lens_source.specs.Spans.{item_of}
 use Rattle.pr_lens_source.specs.Tokens.{first_of, kind_of}
-use Rattle.pr_lens_tokens.specs.Kinds.{is_assign, is_colon}
-use Rattle.pr_lens_rules.specs.Uses.{is_at}
-use Rattle.pr_lens_products.specs.Kinds.{goes_further, is_bare, is_held, is_star, joins, opens, shuts}
+use Rattle.pr_lens_products.specs.Kinds.{goes_further, is_bare, is_held, joins, opens, shuts}
 
 -- ---- factors: `x@1 * 5` has the tokens `x`, `@`, `1`, `*` and `5`
 -- the first token of the factor before the sign of a product

@@ -5,10 +5,7 @@ use Rattle.pr_lang.specs.declared.tokens.Kind.{Kind}
 use Rattle.pr_lang.specs.declared.tokens.Kind.TheVariants.{Name, Word, Mark}
 use Rattle.pr_lang.specs.declared.tokens.Symbol.{Symbol}
 use Rattle.pr_lang.specs.declared.tokens.Symbol.TheVariants as symbol
-
-abbrev pub is_star : Kind → Bool
-is_star (Mark symbol.Star) = true
-is_star _ = false
+use Rattle.pr_lens_source.specs.Kinds.{is_star}
 
 -- the name behind this word stands for an unsigned stream whose declared width follows
 abbrev pub is_held : Kind → Bool

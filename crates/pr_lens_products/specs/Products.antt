@@ -3,7 +3,7 @@ use Rattle.std.specs.Prelude.{ℕ, ◌+◌, Bool, true, false, List, Option, Non
 use Rattle.std.specs.Option.{option_and_then, option_or}
 use Rattle.pr_lang.specs.declared.tokens.Token.{Token}
 use Rattle.pr_lens_source.specs.declared.sources.Span.{Span}
-use Rattle.pr_lens_tokens.specs.Constants.{constant_at}
+use Rattle.pr_lens_names.specs.Constants.{constant_at}
 use Rattle.pr_lens_products.specs.declared.products.CheapProduct.{CheapProduct}
 use Rattle.pr_lens_products.specs.declared.products.Part.{Part}
 use Rattle.pr_lens_products.specs.declared.units.Cheaper.{Cheaper}

@@ -3,10 +3,11 @@
 ghost use Rattle.std.specs.Prelude.{◌≡◌, ◌<◌, ◌≤◌, ◌+◌, IfSome, length};
 ghost use Rattle.pr_lens_products.specs.Factors.{is_all, is_between, is_first, is_operand, is_in_no_function, is_product, left_of, right_of, width_at, width_in, width_named};
 
-use crate::kinds::{goes_further, is_at, is_bare, is_held, is_star, joins, opens, shuts};
+use crate::kinds::{goes_further, is_bare, is_held, joins, opens, shuts};
 use pr_lang::Kind;
-use pr_lens_source::{Source, introduced_before};
-use pr_lens_tokens::{is_assign, is_colon, is_fn, is_semi};
+use pr_lens_source::{
+    Source, introduced_before, is_assign, is_at, is_colon, is_fn, is_semi, is_star,
+};
 
 /// The first token of the factor before the sign of a product.
 pub fn left_of(source: &Source, at: usize) -> usize

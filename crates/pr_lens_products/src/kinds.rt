@@ -1,24 +1,11 @@
 //! Kinds of tokens around products.
 
 ghost use Rattle.std.specs.Prelude.{◌≡◌};
-ghost use Rattle.pr_lens_rules.specs.Uses.{is_at};
-ghost use Rattle.pr_lens_products.specs.Kinds.{goes_further, is_bare, is_held, is_star, joins, joins_with, opens, shuts};
+ghost use Rattle.pr_lens_source.specs.Kinds.{is_star};
+ghost use Rattle.pr_lens_products.specs.Kinds.{goes_further, is_bare, is_held, joins, joins_with, opens, shuts};
 
 use pr_lang::{Keyword, Kind, Symbol};
-
-/// Whether this is the sign of a product.
-pub fn is_star(kind: Kind) -> bool
-    ensures { result ≡ is_star kind }
-{
-    matches!(kind, Kind::Mark(Symbol::Star))
-}
-
-/// Whether a delay stands behind this token.
-pub fn is_at(kind: Kind) -> bool
-    ensures { result ≡ is_at kind }
-{
-    matches!(kind, Kind::Mark(Symbol::At))
-}
+use pr_lens_source::is_star;
 
 /// Whether the name behind this word stands for an unsigned stream whose declared width follows.
 pub fn is_held(kind: Kind) -> bool

@@ -7,8 +7,8 @@ ghost use Rattle.pr_lens_products.specs.Units.{cheaper_of};
 
 use crate::factors::{left_of, right_of, width_at};
 use crate::units::{Cheaper, Product, cheaper_product};
+use pr_lens_names::constant_at;
 use pr_lens_source::Source;
-use pr_lens_tokens::constant_at;
 
 /// Tokens beside one another.
 #[derive(Clone, Copy, PartialEq, Eq, Debug)]

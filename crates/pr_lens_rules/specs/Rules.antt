@@ -1,13 +1,12 @@
 -- What is told of a broken rule of scope.
 use Rattle.std.specs.Prelude.{ℕ, ◌+◌, ◌-◌, ◌==◌, ◌&&◌, Bool, true, false, List, [], ◌++◌, Option, None, Some, codes, decimal, is_some, nat_le, if◌then◌else◌}
 use Rattle.std.specs.List.{list_any}
-use Rattle.pr_lang.specs.declared.tokens.Keyword.TheVariants as keyword
 use Rattle.pr_lang.specs.declared.tokens.Kind.{Kind}
-use Rattle.pr_lang.specs.declared.tokens.Kind.TheVariants.{Word, Mark}
-use Rattle.pr_lang.specs.declared.tokens.Symbol.TheVariants.{Minus, OpenCurly, At, ShiftLeft, ShiftRight}
+use Rattle.pr_lang.specs.declared.tokens.Kind.TheVariants.{Mark}
+use Rattle.pr_lang.specs.declared.tokens.Symbol.TheVariants.{OpenCurly, At, ShiftLeft, ShiftRight}
 use Rattle.pr_lang.specs.declared.tokens.Token.{Token}
 use Rattle.pr_lens_source.specs.declared.sources.Span.{Span}
-use Rattle.pr_lens_source.specs.Introduced.{is_name, is_open_round}
+use Rattle.pr_lens_source.specs.Kinds.{is_input, is_minus, is_name, is_open_round}
 use Rattle.pr_lens_source.specs.Tokens.{kind_of}
 use Rattle.pr_lens_names.specs.declared.names.Introduction.{Introduction}
 use Rattle.pr_lens_names.specs.Brackets.{parts_in}
@@ -53,10 +52,6 @@ unfoldable pub call_text : List ℕ → List Token → List Span → ℕ → Lis
 call_text text tokens spans token = call_by text tokens token (parts_in tokens (token + 1)) (introduction_of text tokens spans token)
 
 -- ---- constants
-abbrev pub is_minus : Kind → Bool
-is_minus (Mark Minus) = true
-is_minus _ = false
-
 abbrev pub below_text : Bool → List ℕ
 below_text true = codes "Constants are never below 0: write a negative one modulo a power of two, as in `256 - 2`, which is -2 in 8 bits.\n"
 below_text false = codes "Multiply or add in a stream of a greater width, or split the constant.\n"
@@ -115,10 +110,6 @@ recurrence_text text tokens spans token =
     if is_call tokens token then introduced_text text tokens token (introduction_of text tokens spans token) ++ past_text else initial_text
 
 -- ---- inputs and outputs
-abbrev pub is_input : Kind → Bool
-is_input (Word keyword.Input) = true
-is_input _ = false
-
 -- the program has an input
 unfoldable pub has_input : List Token → List Span → Bool
 has_input tokens spans = list_any (λ (s : Span). is_input (kind_of tokens s.first)) spans

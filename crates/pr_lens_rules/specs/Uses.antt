@@ -7,7 +7,7 @@ use Rattle.pr_lang.specs.declared.tokens.Kind.TheVariants.{Word, Mark}
 use Rattle.pr_lang.specs.declared.tokens.Symbol.TheVariants.{OpenRound, At}
 use Rattle.pr_lang.specs.declared.tokens.Token.{Token}
 use Rattle.pr_lens_source.specs.declared.sources.Span.{Span}
-use Rattle.pr_lens_source.specs.Introduced.{is_fn, is_for}
+use Rattle.pr_lens_source.specs.Kinds.{is_at, is_by, is_fn, is_for, is_rec}
 use Rattle.pr_lens_source.specs.Ranges.{first_between}
 use Rattle.pr_lens_source.specs.Spans.{item_of}
 use Rattle.pr_lens_source.specs.Tokens.{kind_of, bytes_of, first_of}
@@ -67,14 +67,6 @@ unfoldable pub assign_text : List ℕ
 assign_text = codes "Assign it in an item before this one, or see whether another name is meant.\n"
 
 -- ---- recurrences that read each other
-abbrev pub is_rec : Kind → Bool
-is_rec (Word keyword.Rec) = true
-is_rec _ = false
-
-abbrev pub is_at : Kind → Bool
-is_at (Mark At) = true
-is_at _ = false
-
 -- one of two tokens stands in a function, and the other outside
 unfoldable pub is_apart : List Token → List Span → ℕ → ℕ → Bool
 is_apart tokens spans one other = is_outside tokens spans one other || is_outside tokens spans other one
@@ -87,10 +79,6 @@ is_recurrence_of text tokens spans token first =
 -- the first such recurrence behind the token
 unfoldable pub recurrence_behind : List ℕ → List Token → List Span → ℕ → Option ℕ
 recurrence_behind text tokens spans token = first_between (is_recurrence_of text tokens spans token) token (length tokens)
-
-abbrev pub is_by : Kind → Bool
-is_by (Word keyword.By) = true
-is_by _ = false
 
 -- a token is one of those that are looked for: a loop begins with it, a body stands behind it, or it is a name that is
 -- written as another one, with its index, in the statement with a target

@@ -1,37 +1,11 @@
 //! Recurrences that read each other.
 
 ghost use Rattle.std.specs.Prelude.{◌≡◌, ◌<◌, length};
-ghost use Rattle.pr_lens_source.specs.Introduced.{is_for};
-ghost use Rattle.pr_lens_rules.specs.Uses.{body_reads, first_sought, is_at, is_by, is_crossed, is_mutual, is_rec, is_sought};
+ghost use Rattle.pr_lens_source.specs.Kinds.{is_at, is_by, is_for, is_rec};
+ghost use Rattle.pr_lens_rules.specs.Uses.{body_reads, first_sought, is_crossed, is_mutual, is_sought};
 
-use pr_lang::{Keyword, Kind, Symbol};
 use pr_lens_names::{is_same_instance, is_target, kind_behind, target_around};
-use pr_lens_source::Source;
-
-/// Whether a recurrence begins with this token.
-pub fn is_rec(kind: Kind) -> bool
-    ensures { result ≡ is_rec kind }
-{
-    matches!(kind, Kind::Word(Keyword::Rec))
-}
-
-fn is_at(kind: Kind) -> bool
-    ensures { result ≡ is_at kind }
-{
-    matches!(kind, Kind::Mark(Symbol::At))
-}
-
-fn is_by(kind: Kind) -> bool
-    ensures { result ≡ is_by kind }
-{
-    matches!(kind, Kind::Word(Keyword::By))
-}
-
-fn is_for(kind: Kind) -> bool
-    ensures { result ≡ is_for kind }
-{
-    matches!(kind, Kind::Word(Keyword::For))
-}
+use pr_lens_source::{Source, is_at, is_by, is_for, is_rec};
 
 /// What is looked for among tokens.
 #[derive(Clone, Copy)]

@@ -1,16 +1,16 @@
 //! Broken rules of scope.
 
 ghost use Rattle.std.specs.Prelude.{◌≡◌, ◌++◌, OnOk};
-ghost use Rattle.pr_lens_source.specs.Introduced.{is_open_round};
-ghost use Rattle.pr_lens_rules.specs.Rules.{below_text, bounds_text, broken_text, call_by, call_text, counts_text, divisor_text, ends_text, entries_text, entry_text, has_input, initial_text, is_call, is_input, is_minus, last_turn_text, number_text, offence_text, parameter_text, params_text, past_text, recurrence_text, rule_text, step_text, table_text};
+ghost use Rattle.pr_lens_source.specs.Kinds.{is_input, is_minus, is_open_round};
+ghost use Rattle.pr_lens_rules.specs.Rules.{below_text, bounds_text, broken_text, call_by, call_text, counts_text, divisor_text, ends_text, entries_text, entry_text, has_input, initial_text, is_call, last_turn_text, number_text, offence_text, parameter_text, params_text, past_text, recurrence_text, rule_text, step_text, table_text};
 
 use crate::uses::{introduced_again, of_another_kind, used_too_early};
-use pr_lang::{Keyword, Kind, Symbol};
+use pr_lang::{Kind, Symbol};
 use pr_lens_names::{
     Introduction, introduction_of, kind_behind, last_number, parts_behind, put_instance,
     put_introduced, put_introduction, put_quoted,
 };
-use pr_lens_source::Source;
+use pr_lens_source::{Source, is_input, is_minus, is_open_round};
 use pr_lens_text::{put, put_counted};
 use std::alloc::AllocError;
 
@@ -108,12 +108,6 @@ fn wrong_call(message: &mut Vec<u8>, source: &Source, token: usize) -> Result<()
         given,
         introduction_of(source, token),
     )
-}
-
-fn is_minus(kind: Kind) -> bool
-    ensures { result ≡ is_minus kind }
-{
-    matches!(kind, Kind::Mark(Symbol::Minus))
 }
 
 fn below_text(minus: bool) -> &'static str
@@ -217,13 +211,6 @@ fn bounds_text(kind: Kind) -> &'static str
     }
 }
 
-/// Whether a round bracket opens with this token.
-fn is_open_round(kind: Kind) -> bool
-    ensures { result ≡ is_open_round kind }
-{
-    matches!(kind, Kind::Mark(Symbol::OpenRound))
-}
-
 /// Whether a function is called at a token.
 fn is_call(source: &Source, token: usize) -> bool
     ensures { result ≡ is_call source.now.tokens.now token }
@@ -262,12 +249,6 @@ fn wrong_recurrence(message: &mut Vec<u8>, source: &Source, token: usize) -> Res
     }
     put_introduced(message, source, token, introduction_of(source, token))?;
     put(message, past_text())
-}
-
-fn is_input(kind: Kind) -> bool
-    ensures { result ≡ is_input kind }
-{
-    matches!(kind, Kind::Word(Keyword::Input))
 }
 
 /// Whether the program has an input.

@@ -1,17 +1,17 @@
 //! Names that are introduced again, used before they are assigned, or stand for something else.
 
 ghost use Rattle.std.specs.Prelude.{◌≡◌, ◌<◌, ◌++◌, IfSome, OnOk, length};
-ghost use Rattle.pr_lens_source.specs.Introduced.{is_fn};
+ghost use Rattle.pr_lens_source.specs.Kinds.{is_fn};
 ghost use Rattle.pr_lens_rules.specs.Uses.{again_behind, again_text, alone_text, another_kind_text, apart_text, assign_text, behind_text, called_text, early_behind, early_text, halves_text, indexed_sort, instance_of_own_text, is_apart, is_outside, is_recurrence_of, is_signed, known_text, other_text, outside_text, own_text, recurrence_behind, sort_in, stream_text, unassigned_by, unassigned_text, unknown_by, unknown_text, usage_before, usage_text};
 
-use crate::crossed::{is_crossed, is_rec};
+use crate::crossed::is_crossed;
 use pr_lang::{Keyword, Kind, Symbol};
 use pr_lens_names::{
     Introduction, Sort, introduction_of, is_assigned_at, is_same_instance, is_target, kind_behind,
     put_first_turn, put_instance, put_introduction, put_place, put_quoted, square_around,
     target_around,
 };
-use pr_lens_source::Source;
+use pr_lens_source::{Source, is_fn, is_rec};
 use pr_lens_text::put;
 use std::alloc::AllocError;
 
@@ -92,13 +92,6 @@ fn own_text(word: Kind) -> &'static str
         _ =>
             "An `output` does not see itself: for feedback write a `rec` before it, as in `rec s:8 = 0 by s@1 + x`.\n",
     }
-}
-
-/// Whether a function begins with this token.
-fn is_fn(kind: Kind) -> bool
-    ensures { result ≡ is_fn kind }
-{
-    matches!(kind, Kind::Word(Keyword::Fn))
 }
 
 /// Whether a token stands in a function, and another one before it outside.

@@ -6,14 +6,11 @@ use Rattle.pr_lang.specs.declared.tokens.Kind.{Kind}
 use Rattle.pr_lang.specs.declared.tokens.Kind.TheVariants.{Mark}
 use Rattle.pr_lang.specs.declared.tokens.Symbol.TheVariants.{OpenCurly}
 use Rattle.pr_lang.specs.declared.tokens.Token.{Token}
-use Rattle.pr_lens_source.specs.Introduced.{is_open_curly, is_close_curly, opened_curly, closed_curly, closes_block, is_closed, is_parameter, is_of_parameters, opens_parameters}
+use Rattle.pr_lens_source.specs.Introduced.{opened_curly, closed_curly, closes_block, is_closed, is_parameter, opens_parameters}
+use Rattle.pr_lens_source.specs.Kinds.{is_close_curly, is_of_parameters, is_open_curly}
 use Rattle.pr_lens_source.specs.Ranges.{first_between, last_below, one_where}
 use Rattle.pr_lens_source.specs.Tokens.{kind_of}
-use Rattle.pr_lens_source.proofs.RangeLemmas.{count_none, count_last, first_none, first_here, first_later, last_none, last_here, last_before}
-
-one_at_most : (b : Bool) → one_where b ≤ 1
-one_at_most true = omega arith
-one_at_most false = omega arith
+use Rattle.pr_lens_source.proofs.RangeLemmas.{count_none, count_last, first_none, first_here, first_later, last_none, last_here, last_before, one_at_most}
 
 not_both : (k : Kind) → is_close_curly k ≡ true → one_where (is_open_curly k) ≡ 0
 not_both (Mark OpenCurly) closes = absurd (cc)

@@ -3,7 +3,11 @@ use Rattle.std.proofs.Common.{◌≡◌, ◌∙◌, ◌+◌, ◌-◌, ◌<◌, �
 use Rattle.std.specs.Prelude.{find}
 use Rattle.std.specs.List.{count_by, range_with_len}
 use Rattle.std.proofs.lemmas.List.Sums.{sum_by-cons, sum_by_push}
-use Rattle.pr_lens_source.specs.Ranges.{count_between, first_between, last_below}
+use Rattle.pr_lens_source.specs.Ranges.{count_between, first_between, last_below, one_where}
+
+pub one_at_most : (b : Bool) → one_where b ≤ 1
+one_at_most true = omega arith
+one_at_most false = omega arith
 
 pub range_more : (a n : ℕ) → range_with_len a (suc n) ≡ range_with_len a n ++ (a + n) ∷ []
 range_more a zero = let same : a ≡ a + 0 = omega arith in ap (λ (k : ℕ). k ∷ []) same

@@ -1,59 +1,12 @@
 -- Where names are introduced, and how long they are visible.
-use Rattle.std.specs.Prelude.{ℕ, ◌+◌, ◌-◌, ◌==◌, ◌&&◌, ◌||◌, Bool, true, false, not, List, Option, None, Some, is_some, nat_eq, nat_le, if◌then◌else◌}
+use Rattle.std.specs.Prelude.{ℕ, ◌+◌, ◌-◌, ◌==◌, ◌&&◌, ◌||◌, Bool, false, not, List, Option, None, Some, is_some, nat_eq, nat_le, if◌then◌else◌}
 use Rattle.std.specs.Cmp.Lexicographic.{pointwise}
-use Rattle.pr_lang.specs.declared.tokens.Keyword.TheVariants as keyword
-use Rattle.pr_lang.specs.declared.tokens.Kind.{Kind}
-use Rattle.pr_lang.specs.declared.tokens.Kind.TheVariants.{Name, Number, Word, Mark}
-use Rattle.pr_lang.specs.declared.tokens.Symbol.TheVariants.{Comma, Colon, OpenRound, OpenCurly, CloseCurly}
 use Rattle.pr_lang.specs.declared.tokens.Token.{Token}
 use Rattle.pr_lens_source.specs.declared.sources.Span.{Span}
+use Rattle.pr_lens_source.specs.Kinds.{introduces, is_close_curly, is_fn, is_for, is_name, is_of_parameters, is_open_curly, is_open_round}
 use Rattle.pr_lens_source.specs.Ranges.{count_between, first_between, last_below}
 use Rattle.pr_lens_source.specs.Spans.{item_of}
 use Rattle.pr_lens_source.specs.Tokens.{kind_of, bytes_of, first_of}
-
--- ---- kinds of tokens
--- a word that introduces the name behind it
-abbrev pub introduces : Kind → Bool
-introduces (Word keyword.Input) = true
-introduces (Word keyword.Output) = true
-introduces (Word keyword.Const) = true
-introduces (Word keyword.Fn) = true
-introduces (Word keyword.Let) = true
-introduces (Word keyword.Rec) = true
-introduces (Word keyword.For) = true
-introduces _ = false
-
--- what can stand among the parameters of a function: names, commas, and declared widths
-abbrev pub is_of_parameters : Kind → Bool
-is_of_parameters Name = true
-is_of_parameters (Number number) = true
-is_of_parameters (Mark Comma) = true
-is_of_parameters (Mark Colon) = true
-is_of_parameters _ = false
-
-abbrev pub is_name : Kind → Bool
-is_name Name = true
-is_name _ = false
-
-abbrev pub is_fn : Kind → Bool
-is_fn (Word keyword.Fn) = true
-is_fn _ = false
-
-abbrev pub is_for : Kind → Bool
-is_for (Word keyword.For) = true
-is_for _ = false
-
-abbrev pub is_open_round : Kind → Bool
-is_open_round (Mark OpenRound) = true
-is_open_round _ = false
-
-abbrev pub is_open_curly : Kind → Bool
-is_open_curly (Mark OpenCurly) = true
-is_open_curly _ = false
-
-abbrev pub is_close_curly : Kind → Bool
-is_close_curly (Mark CloseCurly) = true
-is_close_curly _ = false
 
 -- ---- introductions
 -- the bracket of a function's parameters opens at a token, two behind the word `fn`

@@ -3,12 +3,11 @@ use Rattle.std.specs.Prelude.{ℕ, ◌≡◌, ◌+◌, ◌-◌, ◌==◌, ◌&&�
 use Rattle.std.specs.List.{range_with_len}
 use Rattle.pr_lang.specs.declared.tokens.Keyword.TheVariants as keyword
 use Rattle.pr_lang.specs.declared.tokens.Kind.{Kind}
-use Rattle.pr_lang.specs.declared.tokens.Kind.TheVariants.{Word, Mark}
-use Rattle.pr_lang.specs.declared.tokens.Symbol.TheVariants.{Semi}
+use Rattle.pr_lang.specs.declared.tokens.Kind.TheVariants.{Word}
 use Rattle.pr_lang.specs.declared.tokens.Token.{Token}
 use Rattle.pr_lens_source.specs.declared.sources.Span.{Span}
 use Rattle.pr_lens_source.specs.Depths.{depth_after}
-use Rattle.pr_lens_source.specs.Introduced.{is_close_curly}
+use Rattle.pr_lens_source.specs.Kinds.{is_close_curly, is_semi}
 use Rattle.pr_lens_source.specs.Ranges.{first_between}
 use Rattle.pr_lens_source.specs.Tokens.{kind_of}
 
@@ -17,10 +16,6 @@ abbrev pub has_body : Kind → Bool
 has_body (Word keyword.Fn) = true
 has_body (Word keyword.For) = true
 has_body _ = false
-
-abbrev pub is_semi : Kind → Bool
-is_semi (Mark Semi) = true
-is_semi _ = false
 
 -- with the second token an item can end that begins with the first
 abbrev pub ends_item : Kind → Kind → Bool

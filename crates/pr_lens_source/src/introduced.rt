@@ -1,48 +1,15 @@
 //! Where names are introduced.
 
 ghost use Rattle.std.specs.Prelude.{◌≡◌, ◌&&◌, ◌-◌, ◌==◌, IfSome, IsTrue, not};
+ghost use Rattle.pr_lens_source.specs.Kinds.{introduces, is_close_curly, is_fn, is_for, is_of_parameters, is_open_curly, is_open_round};
 ghost use Rattle.pr_lens_source.specs.Names.{IsEarlierName, SameName};
 ghost use Rattle.pr_lens_source.specs.Spans.{item_of};
 ghost use Rattle.pr_lens_source.specs.Tokens.{first_of, kind_of};
-ghost use Rattle.pr_lens_source.specs.Introduced.{introduced_before, introduces, is_close_curly, is_closed, is_fn, is_for, is_introduced_at, is_introduction, is_of_parameters, is_open_curly, is_open_round, is_over, is_parameter, is_same_name};
+ghost use Rattle.pr_lens_source.specs.Introduced.{introduced_before, is_closed, is_introduced_at, is_introduction, is_over, is_parameter, is_same_name};
 
+use crate::kinds::{introduces, is_close_curly, is_fn, is_for, is_of_parameters, is_open_curly};
 use crate::sources::{Source, counted};
-use pr_lang::{Keyword, Kind, Symbol};
-
-/// Whether a word introduces the name behind it.
-fn introduces(kind: Kind) -> bool
-    ensures { result ≡ introduces kind }
-{
-    match kind {
-        Kind::Word(keyword) => match keyword {
-            Keyword::Input | Keyword::Output | Keyword::Const | Keyword::Fn => true,
-            Keyword::Let | Keyword::Rec | Keyword::For => true,
-            Keyword::Return | Keyword::By | Keyword::Within | Keyword::Cat => false,
-        },
-        _ => false,
-    }
-}
-
-/// Whether a token can stand among the parameters of a function.
-fn is_of_parameters(kind: Kind) -> bool
-    ensures { result ≡ is_of_parameters kind }
-{
-    match kind {
-        Kind::Name | Kind::Number(_) => true,
-        Kind::Mark(symbol) => match symbol {
-            Symbol::Comma | Symbol::Colon => true,
-            _ => false,
-        },
-        _ => false,
-    }
-}
-
-/// Whether a function begins with this token.
-fn is_fn(kind: Kind) -> bool
-    ensures { result ≡ is_fn kind }
-{
-    matches!(kind, Kind::Word(Keyword::Fn))
-}
+use pr_lang::{Kind, Symbol};
 
 /// Whether the bracket of a function's parameters opens at a token.
 fn opens_parameters(source: &Source, at: usize) -> bool
@@ -81,20 +48,6 @@ fn is_introduction(source: &Source, at: usize) -> bool
     introduces(source.kind(at.saturating_sub(1))) || is_parameter(source, at)
 }
 
-/// Whether a block is opened with this token.
-fn is_open_curly(kind: Kind) -> bool
-    ensures { result ≡ is_open_curly kind }
-{
-    matches!(kind, Kind::Mark(Symbol::OpenCurly))
-}
-
-/// Whether a block is closed with this token.
-fn is_close_curly(kind: Kind) -> bool
-    ensures { result ≡ is_close_curly kind }
-{
-    matches!(kind, Kind::Mark(Symbol::CloseCurly))
-}
-
 /// Whether the block that opens first from a token on is closed before another one.
 fn is_closed(source: &Source, from: usize, at: usize) -> bool
     ensures { result ≡ is_closed source.now.tokens.now from at }
@@ -109,13 +62,6 @@ fn is_closed(source: &Source, from: usize, at: usize) -> bool
         depth = counted(depth, is_open_curly(kind), closes);
     }
     false
-}
-
-/// Whether a loop begins with this token.
-fn is_for(kind: Kind) -> bool
-    ensures { result ≡ is_for kind }
-{
-    matches!(kind, Kind::Word(Keyword::For))
 }
 
 /// Whether a token stands in a function, and another one not.

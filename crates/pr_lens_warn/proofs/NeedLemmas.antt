@@ -6,9 +6,9 @@ use Rattle.std.proofs.lemmas.List.{length-map, take-append-le, take_all}
 use Rattle.std.proofs.lemmas.List.Sums.{sum_by-set}
 use Rattle.pr_lang.specs.declared.tokens.Token.{Token}
 use Rattle.pr_lens_source.specs.declared.sources.Span.{Span}
+use Rattle.pr_lens_source.specs.Kinds.{yields}
 use Rattle.pr_lens_source.specs.Ranges.{one_where}
 use Rattle.pr_lens_source.specs.Tokens.{kind_of}
-use Rattle.pr_lens_tokens.specs.Kinds.{yields}
 use Rattle.pr_lens_warn.specs.Needs.{AreNeeded, AreSettled, AreSound, IsNeeded, IsSettled, IsUnusedBetween, IsUsed, Yields, Serves, is_assigned, is_marked, unmarked}
 
 -- a mark that is set is one less that is not

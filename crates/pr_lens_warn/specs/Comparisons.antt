@@ -6,13 +6,13 @@ use Rattle.pr_lang.specs.declared.trees.Program.{Program}
 use Rattle.pr_lang.specs.Shape.{program_shape}
 use Rattle.pr_lang.specs.Syntax.{IsProgram, refusal_of}
 use Rattle.pr_lens_source.specs.declared.sources.Span.{Span}
-use Rattle.pr_lens_source.specs.Introduced.{introduced_before, is_fn, is_name, is_open_round}
+use Rattle.pr_lens_source.specs.Introduced.{introduced_before}
+use Rattle.pr_lens_source.specs.Kinds.{is_assign, is_colon, is_comparison, is_fn, is_name, is_number, is_open_round}
 use Rattle.pr_lens_source.specs.Tokens.{kind_of}
 use Rattle.pr_lens_extents.specs.declared.verdicts.Verdict.{Verdict}
 use Rattle.pr_lens_extents.specs.declared.verdicts.Verdict.TheVariants.{Unseen, Always, Varies, Cut, Negative}
 use Rattle.pr_lens_extents.specs.Programs.{program_verdicts}
 use Rattle.pr_lens_rules.specs.Uses.{is_signed}
-use Rattle.pr_lens_tokens.specs.Kinds.{is_assign, is_colon, is_comparison, is_number}
 use Rattle.pr_lens_warn.specs.declared.remarks.Remark.{Remark}
 use Rattle.pr_lens_warn.specs.declared.remarks.Remark.TheVariants.{Settled, Narrow, Argument}
 

@@ -2,10 +2,9 @@
 use Rattle.std.specs.Prelude.{ℕ, ◌+◌, ◌-◌, ◌^◌, ◌==◌, ◌&&◌, Bool, not, List, Option, None, Some, nat_lt, if◌then◌else◌}
 use Rattle.pr_lang.specs.declared.tokens.Token.{Token}
 use Rattle.pr_flat.specs.Forms.{number_width}
-use Rattle.pr_lens_source.specs.Introduced.{is_open_round}
+use Rattle.pr_lens_source.specs.Kinds.{begins_sum, binds_closer, is_close_round, is_minus, is_open_round}
 use Rattle.pr_lens_source.specs.Tokens.{kind_of}
 use Rattle.pr_lens_rules.specs.Uses.{is_signed}
-use Rattle.pr_lens_tokens.specs.Kinds.{is_close_round, is_minus, begins_sum, binds_closer}
 use Rattle.pr_lens_warn.specs.declared.remarks.Remark.{Remark}
 use Rattle.pr_lens_warn.specs.declared.remarks.Remark.TheVariants.{Negative, Wrapping}
 

@@ -2,11 +2,10 @@
 use Rattle.std.specs.Prelude.{ℕ, ◌≡◌, ◌-◌, ◌<◌, ◌≤◌, ◌==◌, ◌&&◌, Bool, true, false, not, List, length, count_by, slice_index_or, if◌then◌else◌}
 use Rattle.pr_lang.specs.declared.tokens.Token.{Token}
 use Rattle.pr_lens_source.specs.declared.sources.Span.{Span}
-use Rattle.pr_lens_source.specs.Introduced.{is_fn, is_name, is_same_name}
-use Rattle.pr_lens_source.specs.Items.{is_semi}
+use Rattle.pr_lens_source.specs.Introduced.{is_same_name}
+use Rattle.pr_lens_source.specs.Kinds.{assigns, is_fn, is_name, is_semi, yields}
 use Rattle.pr_lens_source.specs.Spans.{item_of}
 use Rattle.pr_lens_source.specs.Tokens.{kind_of, first_of}
-use Rattle.pr_lens_tokens.specs.Kinds.{assigns, yields}
 
 -- a statement is named by one of its tokens: the word before a result, or a name that is assigned
 abbrev pub is_result : List Token → ℕ → Bool

@@ -2,11 +2,11 @@
 use Rattle.std.specs.Prelude.{ℕ, ◌+◌, ◌-◌, ◌&&◌, Bool, not, List, Option, option_map}
 use Rattle.pr_lang.specs.declared.tokens.Token.{Token}
 use Rattle.pr_lens_source.specs.declared.sources.Span.{Span}
-use Rattle.pr_lens_source.specs.Introduced.{introduced_before, is_name}
+use Rattle.pr_lens_source.specs.Introduced.{introduced_before}
+use Rattle.pr_lens_source.specs.Kinds.{goes_on, is_name, is_shift}
 use Rattle.pr_lens_source.specs.Tokens.{kind_of}
-use Rattle.pr_lens_tokens.specs.declared.constants.Named.{Named}
-use Rattle.pr_lens_tokens.specs.Constants.{number_by}
-use Rattle.pr_lens_tokens.specs.Kinds.{goes_on, is_shift}
+use Rattle.pr_lens_names.specs.declared.constants.Named.{Named}
+use Rattle.pr_lens_names.specs.Constants.{number_by}
 use Rattle.pr_lens_warn.specs.declared.remarks.Remark.{Remark}
 use Rattle.pr_lens_warn.specs.declared.remarks.Remark.TheVariants.{Amount}
 

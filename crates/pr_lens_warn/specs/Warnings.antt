@@ -10,7 +10,7 @@ use Rattle.pr_lens_extents.specs.declared.verdicts.Verdict.{Verdict}
 use Rattle.pr_lens_extents.specs.declared.verdicts.Verdict.TheVariants.{Unseen}
 use Rattle.pr_lens_waste.specs.declared.lines.Tail.{Tail}
 use Rattle.pr_lens_waste.specs.Lines.{Tails}
-use Rattle.pr_lens_tokens.specs.Constants.{constant_at}
+use Rattle.pr_lens_names.specs.Constants.{constant_at}
 use Rattle.pr_lens_warn.specs.declared.remarks.Remark.{Remark}
 use Rattle.pr_lens_warn.specs.declared.remarks.Remark.TheVariants.{Product, Unneeded}
 use Rattle.pr_lens_warn.specs.declared.remarks.Warning.{Warning}

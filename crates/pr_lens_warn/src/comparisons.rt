@@ -10,9 +10,9 @@ use crate::remarks::Remark;
 use pr_lang::Token;
 use pr_lens_extents::{Verdict, verdicts_of};
 use pr_lens_rules::is_signed;
-use pr_lens_source::{Source, introduced_before};
-use pr_lens_tokens::{
-    is_assign, is_colon, is_comparison, is_fn, is_name, is_number, is_open_round,
+use pr_lens_source::{
+    Source, introduced_before, is_assign, is_colon, is_comparison, is_fn, is_name, is_number,
+    is_open_round,
 };
 use pr_parse::{ParseFault, parse};
 use std::alloc::{AllocError, Global};

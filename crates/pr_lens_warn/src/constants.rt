@@ -7,8 +7,7 @@ ghost use Rattle.pr_lens_warn.specs.Constants.{is_difference, is_signed_token, n
 use crate::remarks::Remark;
 use pr_base::bits_of;
 use pr_lens_rules::is_signed;
-use pr_lens_source::Source;
-use pr_lens_tokens::{begins_sum, binds_closer, is_close_round, is_minus, is_open_round};
+use pr_lens_source::{Source, begins_sum, binds_closer, is_close_round, is_minus, is_open_round};
 
 /// The least number of bits that hold a number.
 fn width_of(value: u64) -> u8

@@ -2,13 +2,12 @@
 
 ghost use Rattle.std.specs.Prelude.{◌≡◌, ◌+◌, ◌<◌, ◌≤◌, ℕ, true, false, length, map, IfOk, IsFalse, IsTrue};
 ghost use Rattle.pr_lens_source.specs.Introduced.{is_same_name};
+ghost use Rattle.pr_lens_source.specs.Kinds.{yields};
 ghost use Rattle.pr_lens_source.specs.Ranges.{one_where};
-ghost use Rattle.pr_lens_tokens.specs.Kinds.{yields};
 ghost use Rattle.pr_lens_warn.specs.Needs.{AreNeeded, AreSettled, AreSound, IsSettled, IsUnusedBetween, IsUsed, Uses, is_assigned, is_marked, is_use, scope_of, unmarked};
 
 use pr_lang::Token;
-use pr_lens_source::Source;
-use pr_lens_tokens::{assigns, is_fn, is_name, is_semi, yields};
+use pr_lens_source::{Source, assigns, is_fn, is_name, is_semi, yields};
 use std::alloc::{AllocError, Global};
 
 /// Whether a name is assigned at this token, or read from a sample.

@@ -4,8 +4,8 @@ ghost use Rattle.std.specs.Prelude.{◌≡◌, ◌<◌, length};
 ghost use Rattle.pr_lens_warn.specs.Shifts.{amount_remark, is_amount};
 
 use crate::remarks::Remark;
-use pr_lens_source::Source;
-use pr_lens_tokens::{Named, goes_on, is_name, is_shift, number_of_name};
+use pr_lens_names::{Named, number_of_name};
+use pr_lens_source::{Source, goes_on, is_name, is_shift};
 
 /// Whether this token is a name that a shift has for its amount.
 #[tactic(auto, unfolding(crate::specs::Shifts::is_amount))]

@@ -12,9 +12,9 @@ use crate::needs::{is_assigned, needed};
 use crate::remarks::{Remark, Warning};
 use crate::shifts::{amount_remark, is_amount};
 use pr_lens_extents::Verdict;
+use pr_lens_names::constant_at;
 use pr_lens_products::{cheap_product, is_product};
 use pr_lens_source::Source;
-use pr_lens_tokens::constant_at;
 use pr_lens_waste::{Lines, Tail};
 use std::alloc::{AllocError, Global};
 

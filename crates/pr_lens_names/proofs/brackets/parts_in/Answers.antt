@@ -1,8 +1,8 @@
 use Rattle.std.proofs.Common.{◌∙◌, ◌&&◌, ◌==◌, sym, ap, arith}
 use Rattle.pr_lang.specs.declared.tokens.Kind.{Kind}
 use Rattle.pr_lens_source.specs.Depths.{depth_after}
+use Rattle.pr_lens_source.specs.Kinds.{is_comma}
 use Rattle.pr_lens_source.specs.Ranges.{one_where}
-use Rattle.pr_lens_names.specs.Brackets.{is_comma}
 use Rattle.pr_lens_names.proofs.BracketLemmas.{deep_closes, parts_first, parts_step, parts_closed, parts_open}
 use Rattle.pr_lens_names.proofs.brackets.parts_in.Goals as goal
 

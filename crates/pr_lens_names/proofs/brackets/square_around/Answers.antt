@@ -1,5 +1,5 @@
 use Rattle.std.proofs.Common.{◌∙◌, ◌-◌, refl, sym, ap}
-use Rattle.pr_lens_names.specs.Brackets.{is_close_square, is_open_square, is_semi}
+use Rattle.pr_lens_source.specs.Kinds.{is_close_square, is_open_square, is_semi}
 use Rattle.pr_lens_names.proofs.BracketLemmas.{past_first, past_none, past_semi, past_opens, past_more}
 use Rattle.pr_lens_names.proofs.brackets.square_around.Goals as goal
 use Rattle.pr_lens_names.proofs.brackets.square_around.Goals.{else-closed-eq0-via-then-closed-eq0+else-opens, else-closed-eq0-via-else-closed-eq0}

@@ -1,5 +1,5 @@
 use Rattle.std.proofs.Common.{◌∙◌, sym, ap, arith}
-use Rattle.pr_lens_names.specs.Brackets.{is_semi}
+use Rattle.pr_lens_source.specs.Kinds.{is_semi}
 use Rattle.pr_lens_names.specs.Instances.{is_target_word}
 use Rattle.pr_lens_names.proofs.InstanceLemmas.{target_ends, target_here, target_before, target_none}
 use Rattle.pr_lens_names.proofs.instances.target_around.Goals as goal

@@ -1,8 +1,8 @@
 use Rattle.std.proofs.Common.{◌≡◌, ◌∙◌, ◌+◌, Bool, cond, max, sym, ap, subst, arith}
-use Rattle.pr_lens_source.specs.Introduced.{is_close_curly, is_open_curly}
 use Rattle.pr_lens_source.proofs.IntroducedLemmas.{block_first, block_none, block_closes, block_more}
 use Rattle.pr_lens_source.proofs.introduced.is_closed.Goals as goal
 use Rattle.pr_lens_source.proofs.introduced.is_closed.Goals.{else-depth-le1-via-then-depth-le1+else-closes, else-depth-le1-via-else-depth-le1}
+use Rattle.pr_lens_source.specs.Kinds.{is_close_curly, is_open_curly}
 
 pub loop-token-init : goal.loop-token-init
 loop-token-init c = block_first c.args.source.now.tokens.now c.args.from c.args.at

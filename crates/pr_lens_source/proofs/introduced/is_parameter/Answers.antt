@@ -1,7 +1,7 @@
 use Rattle.std.proofs.Common.{◌∙◌, sym, ap}
-use Rattle.pr_lens_source.specs.Introduced.{is_of_parameters}
 use Rattle.pr_lens_source.proofs.IntroducedLemmas.{parameter_here, parameter_before, parameter_none}
 use Rattle.pr_lens_source.proofs.introduced.is_parameter.Goals as goal
+use Rattle.pr_lens_source.specs.Kinds.{is_of_parameters}
 
 pub returns-then-not-is_of_parameters : goal.returns-then-not-is_of_parameters
 returns-then-not-is_of_parameters c =

@@ -1,5 +1,5 @@
 use Rattle.std.proofs.Common.{◌≡◌, ◌<◌, ℕ, true, false}
-use Rattle.pr_lens_source.specs.Items.{is_semi}
+use Rattle.pr_lens_source.specs.Kinds.{is_semi}
 use Rattle.pr_lens_source.specs.Tokens.{kind_of}
 use Rattle.pr_lens_warn.specs.Needs.{is_use}
 use Rattle.pr_lens_warn.proofs.needs.uses.Given as goal

@@ -5,10 +5,9 @@ use Rattle.pr_lang.specs.declared.tokens.Kind.TheVariants.{Name, Number}
 use Rattle.pr_lang.specs.declared.tokens.Token.{Token}
 use Rattle.pr_lens_source.specs.declared.sources.Span.{Span}
 use Rattle.pr_lens_source.specs.Introduced.{introduced_before}
-use Rattle.pr_lens_source.specs.Items.{is_semi}
+use Rattle.pr_lens_source.specs.Kinds.{is_colon, is_const, is_let, is_semi}
 use Rattle.pr_lens_source.specs.Tokens.{kind_of}
-use Rattle.pr_lens_tokens.specs.declared.constants.Named.{Named}
-use Rattle.pr_lens_tokens.specs.Kinds.{is_colon, is_const, is_let}
+use Rattle.pr_lens_names.specs.declared.constants.Named.{Named}
 
 -- a number that a semicolon follows
 abbrev pub sole_number : Kind → Kind → Option ℕ

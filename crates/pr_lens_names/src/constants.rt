@@ -2,11 +2,10 @@
 
 ghost use Rattle.std.specs.Prelude.{◌≡◌, ◌+◌, ◌<◌, ◌≤◌, length};
 ghost use Rattle.pr_lens_source.specs.Introduced.{introduced_before};
-ghost use Rattle.pr_lens_tokens.specs.Constants.{constant_at, is_word_of, kept_number, low_bits, number_behind, number_by, number_named, sole_number};
+ghost use Rattle.pr_lens_names.specs.Constants.{constant_at, is_word_of, kept_number, low_bits, number_behind, number_by, number_named, sole_number};
 
-use crate::kinds::{is_colon, is_const, is_let, is_semi};
 use pr_lang::Kind;
-use pr_lens_source::{Source, introduced_before};
+use pr_lens_source::{Source, introduced_before, is_colon, is_const, is_let, is_semi};
 
 /// A number that a semicolon follows.
 fn sole_number(kind: Kind, behind: Kind) -> Option<u64>
