@@ -7,6 +7,9 @@ use Rattle.std.proofs.lemmas.Option.{slice_get-get_or, slice_get-map}
 use Rattle.pr_lang.specs.declared.tokens.Token.{Token}
 use Rattle.pr_lang.specs.declared.trees.Item.{Item}
 use Rattle.pr_lang.specs.declared.trees.Program.{Program}
+use Rattle.pr_scope_names.specs.declared.rules.Rule.{Rule}
+use Rattle.pr_scope_names.specs.declared.rules.Rule.TheVariants.{Introduced, Bounds, Recurrences}
+use Rattle.pr_scope_names.specs.Outcomes.{number_of}
 use Rattle.pr_scope.specs.Walk.{broken, offence}
 use Rattle.pr_compile_front.specs.Refusals.{IsRead}
 use Rattle.pr_lens_items.specs.declared.cuts.Cut.{Cut}
@@ -54,7 +57,7 @@ both_ok {X} {E} P Q R (Ok x) h p q = h x p q
 both_ok {X} {E} P Q R (Err e) h p q = tt
 
 -- ---- an item that is cut off
-pub breach : (spot : Spot) (rule : ℕ) (cut : Cut) (program : Program) (seen : Seen) → IsCutFront spot cut program → IsSeen program seen → seen ≡ Broken rule spot.number → Breaks spot rule cut
+pub breach : (spot : Spot) (rule : Rule) (cut : Cut) (program : Program) (seen : Seen) → IsCutFront spot cut program → IsSeen program seen → seen ≡ Broken (number_of rule) spot.number → Breaks spot rule cut
 breach spot rule cut program seen cut_off is same = record { program = program; cut_off = cut_off; holds = subst (λ (s : Seen). IsSeen program s) same is }
 
 other_breach : (rule number : ℕ) (program : Program) (seen : Seen) → IsSeen program seen → (seen ≡ Broken rule number → ⊥) → offence program ≢ Some (broken rule number)
@@ -62,15 +65,15 @@ other_breach rule number program Kept is not = λ e. (let both = sym is ∙ e in
 other_breach rule number program (Broken r i) is not = λ e. (let both = sym is ∙ e in not (cc))
 other_breach rule number program TooLong is not = λ e. (let both = sym is ∙ e in cc)
 
-pub no_breach : (spot : Spot) (rule : ℕ) (cut : Cut) (program : Program) (seen : Seen) → IsCutFront spot cut program → IsSeen program seen → (test : Bool) → (IsTrue test ↔ (seen ≡ Broken rule spot.number)) → IsFalse test → BreaksNot spot rule cut
-no_breach spot rule cut program seen cut_off is test tells untrue = inr (record { program = program; cut_off = cut_off; holds = other_breach rule spot.number program seen is (iff_false tells untrue) })
+pub no_breach : (spot : Spot) (rule : Rule) (cut : Cut) (program : Program) (seen : Seen) → IsCutFront spot cut program → IsSeen program seen → (test : Bool) → (IsTrue test ↔ (seen ≡ Broken (number_of rule) spot.number)) → IsFalse test → BreaksNot spot rule cut
+no_breach spot rule cut program seen cut_off is test tells untrue = inr (record { program = program; cut_off = cut_off; holds = other_breach (number_of rule) spot.number program seen is (iff_false tells untrue) })
 
 -- where the text before an item is read once, it always is
-keeps_read : (spot : Spot) (rule : ℕ) (cut less : Cut) → Breaks spot rule cut → BreaksNot spot rule less → Keeps spot rule less
+keeps_read : (spot : Spot) (rule : Rule) (cut less : Cut) → Breaks spot rule cut → BreaksNot spot rule less → Keeps spot rule less
 keeps_read spot rule cut less breaks (inl unread) = absurd (unread breaks.cut_off.read.good)
 keeps_read spot rule cut less breaks (inr keeps) = keeps
 
-module _ (spot : Spot) (rule : ℕ) where
+module _ (spot : Spot) (rule : Rule) where
   abbrev No : By → ℕ → Type 0
   No what = λ count. BreaksNot spot rule (cut_by what count)
 
@@ -104,17 +107,17 @@ module _ (spot : Spot) (rule : ℕ) where
   constant_found number entry count None of is up = absurd (point_there entry.fixeds count up.turns.some up.within is)
   constant_found number entry count (Some token) of is up = Constant count of (sym is) up.turns
 
-  pub name_found : (number : ℕ) (entry : Entry) (o : Option ℕ) → rule ≡ 1 → MatchOption o (entry.names ≡ []) (IsAgain spot.text spot.tokens spot.spans entry.names)
+  pub name_found : (number : ℕ) (entry : Entry) (o : Option ℕ) → rule ≡ Introduced → MatchOption o (entry.names ≡ []) (IsAgain spot.text spot.tokens spot.spans entry.names)
       → MatchOption o (HasNoneOfFrame spot rule number entry) (IsOfFrame spot rule number entry)
   name_found number entry None is told = NoName is told
   name_found number entry (Some token) is told = Again is told
 
-  pub width_found : (number : ℕ) (entry : Entry) (o : Option ℕ) → rule ≡ 8 → IfSome o (IsFirstWrong spot.tokens entry.widths) → IfNone o (HasNoWrong spot.tokens entry.widths)
+  pub width_found : (number : ℕ) (entry : Entry) (o : Option ℕ) → rule ≡ Bounds → IfSome o (IsFirstWrong spot.tokens entry.widths) → IfNone o (HasNoWrong spot.tokens entry.widths)
       → MatchOption o (HasNoneOfFrame spot rule number entry) (IsOfFrame spot rule number entry)
   width_found number entry None is first none = NoWrong is none
   width_found number entry (Some token) is first none = WrongWidth is first
 
-  pub initial_found : (number : ℕ) (entry : Entry) (o : Option ℕ) → rule ≡ 9 → o ≡ slice_get entry.fixeds (length entry.fixeds - 1)
+  pub initial_found : (number : ℕ) (entry : Entry) (o : Option ℕ) → rule ≡ Recurrences → o ≡ slice_get entry.fixeds (length entry.fixeds - 1)
       → MatchOption o (HasNoneOfFrame spot rule number entry) (IsOfFrame spot rule number entry)
   initial_found number entry None is there = NoInitial is (last_there entry.fixeds None there)
   initial_found number entry (Some token) is there = Initial is (sym there)
@@ -140,14 +143,14 @@ module _ (spot : Spot) (rule : ℕ) where
   none_unframed values frames none None is = Unframed none is
   none_unframed values frames none (Some token) is = is
 
-pub found_in : (text : List ℕ) (tokens : List Token) (spans : List Span) (rule number : ℕ) (item : Item) → IsItemOf text tokens spans number item → (o : Option ℕ)
+pub found_in : (text : List ℕ) (tokens : List Token) (spans : List Span) (rule : Rule) (number : ℕ) (item : Item) → IsItemOf text tokens spans number item → (o : Option ℕ)
     → MatchOption o (HasNoneOfTree (record { text = text; tokens = tokens; spans = spans; number = number; item = item }) rule)
     (IsOfTree (record { text = text; tokens = tokens; spans = spans; number = number; item = item }) rule)
     → MatchOption o (IsNowhere text tokens spans rule number) (IsFoundIn text tokens spans rule number)
 found_in text tokens spans rule number item is None none = Untold (record { item = item; is = is; none = none })
 found_in text tokens spans rule number item is (Some token) tells = record { item = item; is = is; tells = tells }
 
-pub held_told : (text : List ℕ) (tokens : List Token) (spans : List Span) (rule number token : ℕ) (found : Option ℕ)
+pub held_told : (text : List ℕ) (tokens : List Token) (spans : List Span) (rule : Rule) (number token : ℕ) (found : Option ℕ)
     → MatchOption found (IsNowhere text tokens spans rule number) (IsFoundIn text tokens spans rule number) → (token ≡ first_of tokens spans number) ⊎ (found ≡ Some token)
     → ((t : ℕ) → found ≡ Some t → (token ≡ t) ⊎ (StandsIn tokens spans number t → ⊥)) → IsTold text tokens spans rule number token
 held_told text tokens spans rule number token None is (inl first) left = inr (record { first = first; why = inl is })

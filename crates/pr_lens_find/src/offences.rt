@@ -5,6 +5,7 @@ ghost use Rattle.pr_lens_find.specs.Fronts.{spot_of};
 ghost use Rattle.pr_lens_source.specs.Spans.{StandsIn};
 ghost use Rattle.pr_lens_find.specs.Offences.{IsWrongWidth, IsFirstWrong, HasNoWrong, StandsBefore, IsAgain, Breaks, BreaksNot, TurnsUpTo, TurnsNot, IsValue, IsFirstFrame, HasNoFrame, IsOfConstants, IsOfFrame, HasNoneOfFrame, IsOfItem, HasNoneAt, HasNoneOfItem, IsOfTree, HasNoneOfTree, IsFoundIn, IsNowhere, IsTold, cut_by, is_again};
 ghost use Rattle.pr_lens_items.specs.Steps.{entry_of, entries_of};
+ghost use Rattle.pr_scope_names.specs.Outcomes.{number_of};
 
 use crate::counts::{numbered, short};
 use crate::fronts::{Part, Seen, cut_front, item_of, see};
@@ -12,21 +13,22 @@ use crate::halves::{Question, turn_above, turn_between};
 use pr_lang::{Item, Kind};
 use pr_lens_items::{Cut, Frame, Points, points_of};
 use pr_lens_source::{Source, introduced_before};
+use pr_scope_names::Rule;
 use std::alloc::{AllocError, Global};
 
 /// A rule that is broken by an item.
 #[derive(Clone, Copy)]
 pub struct Broken<'a> {
-    pub rule: u8,
+    pub rule: Rule,
     pub part: Part<'a>,
 }
 
 /// Whether what is said of a program is that an item breaks the rule.
-fn is_breach(seen: Seen, wanted: u8, number: usize) -> bool
-    ensures { IsTrue result ↔ (seen ≡ Seen.Broken wanted number) }
+fn is_breach(seen: Seen, wanted: Rule, number: usize) -> bool
+    ensures { IsTrue result ↔ (seen ≡ Seen.Broken (number_of wanted) number) }
 {
     match seen {
-        Seen::Broken { rule, item } => rule == wanted && item as usize == number,
+        Seen::Broken { rule, item } => rule == wanted.number() && item as usize == number,
         Seen::Kept | Seen::TooLong => false,
     }
 }
@@ -221,13 +223,13 @@ fn in_frame(
         (IsOfFrame spot broken.now.rule number entry)) }
 {
     match broken.rule {
-        1 => {
+        Rule::Introduced => {
             return Ok(name_again(&broken.part.source, &frame.names));
         }
-        8 => {
+        Rule::Bounds => {
             return Ok(wrong_width(&broken.part.source, &frame.widths));
         }
-        9 => {
+        Rule::Recurrences => {
             return Ok(numbered(&frame.fixeds, frame.fixeds.len()));
         }
         _ => {
@@ -361,7 +363,7 @@ fn token_of(alloc: Global, broken: &Broken) -> Result<Option<usize>, AllocError>
 fn offending(
     alloc: Global,
     source: &Source,
-    rule: u8,
+    rule: Rule,
     number: usize,
 ) -> Result<Option<usize>, AllocError>
     requires { length source.now.text.now ≤ 1048576 }
@@ -392,7 +394,7 @@ fn offending(
 pub fn find_offence(
     alloc: Global,
     source: &Source,
-    rule: u8,
+    rule: Rule,
     number: usize,
 ) -> Result<usize, AllocError>
     requires { length source.now.text.now ≤ 1048576 }

@@ -5,6 +5,9 @@ use Rattle.pr_lang.specs.declared.tokens.Kind.{Kind}
 use Rattle.pr_lang.specs.declared.tokens.Kind.TheVariants.{Mark}
 use Rattle.pr_lang.specs.declared.tokens.Symbol.TheVariants.{OpenCurly, At, ShiftLeft, ShiftRight}
 use Rattle.pr_lang.specs.declared.tokens.Token.{Token}
+use Rattle.pr_scope_names.specs.declared.rules.Rule.{Rule}
+use Rattle.pr_scope_names.specs.declared.rules.Rule.TheVariants as rule
+use Rattle.pr_scope_names.specs.Outcomes.{number_of}
 use Rattle.pr_lens_source.specs.declared.sources.Span.{Span}
 use Rattle.pr_lens_source.specs.Kinds.{is_input, is_minus, is_name, is_open_round}
 use Rattle.pr_lens_source.specs.Tokens.{kind_of}
@@ -15,19 +18,18 @@ use Rattle.pr_lens_names.specs.Names.{introduced_text, introduction_of, introduc
 use Rattle.pr_lens_names.specs.Pieces.{token_text}
 use Rattle.pr_lens_rules.specs.Uses.{again_text, another_kind_text, early_text}
 
--- the rule of this number in words
-unfoldable pub rule_text : ℕ → List ℕ
-rule_text rule =
-    if rule == 1 then codes "while a name is visible it has one kind, and each instance of it is introduced once"
-    else (if rule == 2 then codes "an instance of a stream is assigned before it is used; in the body of a `rec` its own instance stands only before `@`"
-    else (if rule == 3 then codes "a constant, table, index or function that is used is visible and has that kind; a table has an index behind it, the others have none; a constant expression uses no stream; a visible name before `@` is a stream"
-    else (if rule == 4 then codes "a call gives as many arguments as the function has parameters, and functions call one another at most 32 deep"
-    else (if rule == 5 then codes "each step of a constant expression is a number from 0 to 18446744073709551615"
-    else (if rule == 6 then codes "a constant expression divides by nothing that is 0"
-    else (if rule == 7 then codes "the index of a table is below its length"
-    else (if rule == 8 then codes "a declared width is 1 to 128; in `a{h..l}` h is not below l; a delay is at most 256, and at least 1 on the own name of a `rec`; a constant shift is by at most 128"
-    else (if rule == 9 then codes "the initial value of a `rec` fits its declared width, and its body calls no function that has `@` or `rec` in it or in what it calls"
-    else codes "there is at least one input and at least one output"))))))))
+-- the rule in words
+unfoldable pub rule_text : Rule → List ℕ
+rule_text rule.Introduced = codes "while a name is visible it has one kind, and each instance of it is introduced once"
+rule_text rule.Assigned = codes "an instance of a stream is assigned before it is used; in the body of a `rec` its own instance stands only before `@`"
+rule_text rule.Kinds = codes "a constant, table, index or function that is used is visible and has that kind; a table has an index behind it, the others have none; a constant expression uses no stream; a visible name before `@` is a stream"
+rule_text rule.Calls = codes "a call gives as many arguments as the function has parameters, and functions call one another at most 32 deep"
+rule_text rule.Steps = codes "each step of a constant expression is a number from 0 to 18446744073709551615"
+rule_text rule.Divisors = codes "a constant expression divides by nothing that is 0"
+rule_text rule.Entries = codes "the index of a table is below its length"
+rule_text rule.Bounds = codes "a declared width is 1 to 128; in `a{h..l}` h is not below l; a delay is at most 256, and at least 1 on the own name of a `rec`; a constant shift is by at most 128"
+rule_text rule.Recurrences = codes "the initial value of a `rec` fits its declared width, and its body calls no function that has `@` or `rec` in it or in what it calls"
+rule_text rule.Ends = codes "there is at least one input and at least one output"
 
 -- ---- calls
 unfoldable pub deep_text : List ℕ
@@ -120,22 +122,21 @@ ends_text false = codes "The program has no input.\nSay what is read, as in `inp
 
 -- ---- the whole
 -- what is wrong at a token where this rule is broken, and what to do
-unfoldable pub broken_text : List ℕ → List Token → List Span → ℕ → ℕ → List ℕ
-broken_text text tokens spans rule token =
-    if rule == 1 then again_text text tokens spans token
-    else (if rule == 2 then early_text text tokens spans token
-    else (if rule == 3 then another_kind_text text tokens spans token
-    else (if rule == 4 then call_text text tokens spans token
-    else (if rule == 5 then step_text text tokens token
-    else (if rule == 6 then divisor_text
-    else (if rule == 7 then entry_text text tokens spans token
-    else (if rule == 8 then bounds_text (kind_of tokens token)
-    else (if rule == 9 then recurrence_text text tokens spans token
-    else ends_text (has_input tokens spans)))))))))
+unfoldable pub broken_text : List ℕ → List Token → List Span → Rule → ℕ → List ℕ
+broken_text text tokens spans rule.Introduced token = again_text text tokens spans token
+broken_text text tokens spans rule.Assigned token = early_text text tokens spans token
+broken_text text tokens spans rule.Kinds token = another_kind_text text tokens spans token
+broken_text text tokens spans rule.Calls token = call_text text tokens spans token
+broken_text text tokens spans rule.Steps token = step_text text tokens token
+broken_text text tokens spans rule.Divisors token = divisor_text
+broken_text text tokens spans rule.Entries token = entry_text text tokens spans token
+broken_text text tokens spans rule.Bounds token = bounds_text (kind_of tokens token)
+broken_text text tokens spans rule.Recurrences token = recurrence_text text tokens spans token
+broken_text text tokens spans rule.Ends token = ends_text (has_input tokens spans)
 
-unfoldable pub number_text : ℕ → List ℕ
-number_text rule = codes "Rule " ++ decimal rule ++ codes ": " ++ rule_text rule ++ codes ".\n"
+unfoldable pub number_text : Rule → List ℕ
+number_text broken = codes "Rule " ++ decimal (number_of broken) ++ codes ": " ++ rule_text broken ++ codes ".\n"
 
 -- with the rule in words behind it
-unfoldable pub offence_text : List ℕ → List Token → List Span → ℕ → ℕ → List ℕ
-offence_text text tokens spans rule token = broken_text text tokens spans rule token ++ number_text rule
+unfoldable pub offence_text : List ℕ → List Token → List Span → Rule → ℕ → List ℕ
+offence_text text tokens spans broken token = broken_text text tokens spans broken token ++ number_text broken

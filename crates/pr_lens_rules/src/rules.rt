@@ -12,29 +12,32 @@ use pr_lens_names::{
 };
 use pr_lens_source::{Source, is_input, is_minus, is_open_round};
 use pr_lens_text::{put, put_counted};
+use pr_scope_names::Rule;
 use std::alloc::AllocError;
 
-/// The rule of this number in words.
+/// A rule in words.
 #[tactic(auto, unfolding(crate::specs::Rules::rule_text))]
-fn rule_text(rule: u8) -> &'static str
+fn rule_text(rule: Rule) -> &'static str
     ensures { result.now ≡ rule_text rule }
 {
     match rule {
-        1 => "while a name is visible it has one kind, and each instance of it is introduced once",
-        2 =>
+        Rule::Introduced =>
+            "while a name is visible it has one kind, and each instance of it is introduced once",
+        Rule::Assigned =>
             "an instance of a stream is assigned before it is used; in the body of a `rec` its own instance stands only before `@`",
-        3 =>
+        Rule::Kinds =>
             "a constant, table, index or function that is used is visible and has that kind; a table has an index behind it, the others have none; a constant expression uses no stream; a visible name before `@` is a stream",
-        4 =>
+        Rule::Calls =>
             "a call gives as many arguments as the function has parameters, and functions call one another at most 32 deep",
-        5 => "each step of a constant expression is a number from 0 to 18446744073709551615",
-        6 => "a constant expression divides by nothing that is 0",
-        7 => "the index of a table is below its length",
-        8 =>
+        Rule::Steps =>
+            "each step of a constant expression is a number from 0 to 18446744073709551615",
+        Rule::Divisors => "a constant expression divides by nothing that is 0",
+        Rule::Entries => "the index of a table is below its length",
+        Rule::Bounds =>
             "a declared width is 1 to 128; in `a{h..l}` h is not below l; a delay is at most 256, and at least 1 on the own name of a `rec`; a constant shift is by at most 128",
-        9 =>
+        Rule::Recurrences =>
             "the initial value of a `rec` fits its declared width, and its body calls no function that has `@` or `rec` in it or in what it calls",
-        _ => "there is at least one input and at least one output",
+        Rule::Ends => "there is at least one input and at least one output",
     }
 }
 
@@ -278,31 +281,31 @@ fn ends_text(input: bool) -> &'static str
 fn tell_broken(
     message: &mut Vec<u8>,
     source: &Source,
-    rule: u8,
+    rule: Rule,
     token: usize,
 ) -> Result<(), AllocError>
     ensures { OnOk result (message.new.items ≡ message.old.items
         ++ broken_text source.now.text.now source.now.tokens.now source.now.spans.now rule token) }
 {
     match rule {
-        1 => introduced_again(message, source, token),
-        2 => used_too_early(message, source, token),
-        3 => of_another_kind(message, source, token),
-        4 => wrong_call(message, source, token),
-        5 => wrong_step(message, source, token),
-        6 => wrong_divisor(message),
-        7 => wrong_entry(message, source, token),
-        8 => put(message, bounds_text(source.kind(token))),
-        9 => wrong_recurrence(message, source, token),
-        _ => put(message, ends_text(has_input(source))),
+        Rule::Introduced => introduced_again(message, source, token),
+        Rule::Assigned => used_too_early(message, source, token),
+        Rule::Kinds => of_another_kind(message, source, token),
+        Rule::Calls => wrong_call(message, source, token),
+        Rule::Steps => wrong_step(message, source, token),
+        Rule::Divisors => wrong_divisor(message),
+        Rule::Entries => wrong_entry(message, source, token),
+        Rule::Bounds => put(message, bounds_text(source.kind(token))),
+        Rule::Recurrences => wrong_recurrence(message, source, token),
+        Rule::Ends => put(message, ends_text(has_input(source))),
     }
 }
 
 #[tactic(auto, unfolding(crate::specs::Rules::number_text))]
-fn tell_number(message: &mut Vec<u8>, rule: u8) -> Result<(), AllocError>
+fn tell_number(message: &mut Vec<u8>, rule: Rule) -> Result<(), AllocError>
     ensures { OnOk result (message.new.items ≡ message.old.items ++ number_text rule) }
 {
-    put_counted(message, "Rule ", usize::from(rule))?;
+    put_counted(message, "Rule ", usize::from(rule.number()))?;
     put(message, ": ")?;
     put(message, rule_text(rule))?;
     put(message, ".\n")
@@ -313,7 +316,7 @@ fn tell_number(message: &mut Vec<u8>, rule: u8) -> Result<(), AllocError>
 pub fn tell(
     message: &mut Vec<u8>,
     source: &Source,
-    rule: u8,
+    rule: Rule,
     token: usize,
 ) -> Result<(), AllocError>
     ensures { OnOk result (message.new.items ≡ message.old.items

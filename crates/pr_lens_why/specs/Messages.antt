@@ -1,9 +1,11 @@
 -- What is told of a refusal, added to a message.
-use Rattle.std.specs.Prelude.{ℕ, ◌≡◌, ◌⊎◌, ◌<◌, ◌≤◌, Bool, true, false, List, ◌++◌, None, Some, codes, ⊤}
+use Rattle.std.specs.Prelude.{ℕ, ◌≡◌, ◌⊎◌, ◌<◌, ◌≤◌, ◌==◌, Bool, true, false, List, ◌++◌, None, Some, codes, if◌then◌else◌, ⊤}
 use Rattle.pr_base.specs.declared.caps.Cap.{Cap}
 use Rattle.pr_base.specs.declared.caps.Cap.TheVariants.{InputBytes, Units}
 use Rattle.pr_conf.specs.Shape.{Shape}
 use Rattle.pr_lang.specs.declared.tokens.Token.{Token}
+use Rattle.pr_scope_names.specs.declared.rules.Rule.{Rule}
+use Rattle.pr_scope_names.specs.declared.rules.Rule.TheVariants.{Introduced, Assigned, Kinds, Calls, Steps, Divisors, Entries, Bounds, Recurrences, Ends}
 use Rattle.pr_compile.specs.Configured.{IsCompiled}
 use Rattle.pr_compile.specs.Refusals.{IsRefused}
 use Rattle.pr_compile.specs.declared.faults.CompileFault.{CompileFault}
@@ -60,8 +62,22 @@ pub record TellsSyntax (text : List ℕ) (tokens : List Token) (token : ℕ) (ol
   pub is : IsExpected (text_before text tokens token) token expected
   pub message : new ≡ old ++ syntax_text text tokens expected token
 
+-- the rule of a number; the compiler names its rules by the numbers 1 to 10
+abbrev pub rule_of : ℕ → Rule
+rule_of number =
+    if number == 1 then Introduced
+    else (if number == 2 then Assigned
+    else (if number == 3 then Kinds
+    else (if number == 4 then Calls
+    else (if number == 5 then Steps
+    else (if number == 6 then Divisors
+    else (if number == 7 then Entries
+    else (if number == 8 then Bounds
+    else (if number == 9 then Recurrences
+    else Ends))))))))
+
 -- a broken rule: the token that is told of it
-pub record TellsRule (text : List ℕ) (tokens : List Token) (spans : List Span) (rule item token : ℕ) (old new : List ℕ) : Type 0 where
+pub record TellsRule (text : List ℕ) (tokens : List Token) (spans : List Span) (rule : Rule) (item token : ℕ) (old new : List ℕ) : Type 0 where
   pub told : IsTold text tokens spans rule item token
   pub message : new ≡ old ++ offence_text text tokens spans rule token
 
@@ -103,7 +119,7 @@ pub record TellsLimit (N P : ℕ) (narrowed : Bool) (text : List ℕ) (tokens : 
 
 abbrev pub Tells : ℕ → ℕ → Bool → List ℕ → List Token → List Span → CompileFault → ℕ → List ℕ → List ℕ → Type 0
 Tells N P narrowed text tokens spans (Syntax wrong) token old new = TellsSyntax text tokens wrong old new
-Tells N P narrowed text tokens spans (Scope rule item) token old new = TellsRule text tokens spans rule item token old new
+Tells N P narrowed text tokens spans (Scope rule item) token old new = TellsRule text tokens spans (rule_of rule) item token old new
 Tells N P narrowed text tokens spans (NoWidth equation) token old new = TellsWidth text tokens spans equation token old new
 Tells N P narrowed text tokens spans (NoFit unit) token old new = TellsFit N P narrowed text tokens spans unit token old new
 Tells N P narrowed text tokens spans (Limit which) token old new = TellsLimit N P narrowed text tokens spans which token old new

@@ -2,7 +2,7 @@
 
 ghost use Rattle.std.specs.Prelude.{◌≡◌, ◌≤◌, ◌++◌, false, length, IfOk, IsFalse, IsTrue, OnOk};
 ghost use Rattle.pr_compile.specs.Refusals.{IsCompileAnswer};
-ghost use Rattle.pr_lens_why.specs.Messages.{HasConfiguration, HasRefusal, Tells, TellsFit, TellsHelp, TellsLimit, TellsNarrow, TellsRule, TellsSyntax, TellsUnfit, TellsWide, TellsWidth};
+ghost use Rattle.pr_lens_why.specs.Messages.{HasConfiguration, HasRefusal, Tells, TellsFit, TellsHelp, TellsLimit, TellsNarrow, TellsRule, TellsSyntax, TellsUnfit, TellsWide, TellsWidth, rule_of};
 ghost use Rattle.pr_lens_why.specs.Places.{IsLimitItem, IsLimitToken};
 ghost use Rattle.pr_lens_why.specs.Verdicts.{PointsRight};
 
@@ -16,6 +16,7 @@ use pr_lens_needs::{find_needs, tell_columns};
 use pr_lens_source::Source;
 use pr_lens_text::put;
 use pr_parse_lex::first_deep;
+use pr_scope_names::Rule;
 use std::alloc::{AllocError, Global};
 
 /// That the program of a text does not fit, as this answer says; want of memory is none.
@@ -246,12 +247,30 @@ fn tell_syntax(
     Ok(wrong)
 }
 
+/// The rule of this number. The compiler names its rules by the numbers 1 to 10.
+fn rule_of(number: u8) -> Rule
+    ensures { result ≡ rule_of number }
+{
+    match number {
+        1 => Rule::Introduced,
+        2 => Rule::Assigned,
+        3 => Rule::Kinds,
+        4 => Rule::Calls,
+        5 => Rule::Steps,
+        6 => Rule::Divisors,
+        7 => Rule::Entries,
+        8 => Rule::Bounds,
+        9 => Rule::Recurrences,
+        _ => Rule::Ends,
+    }
+}
+
 /// Tells which rule of scope an item breaks; the token to look at.
 fn tell_scope(
     alloc: Global,
     message: &mut Vec<u8>,
     source: &Source,
-    rule: u8,
+    rule: Rule,
     item: usize,
 ) -> Result<usize, AllocError>
     requires { length source.now.text.now ≤ 1048576 }
@@ -302,7 +321,7 @@ pub fn tell<const N: usize, const P: usize>(
     match fault {
         CompileFault::Syntax { token } => { tell_syntax(alloc, message, source, *token as usize) }
         CompileFault::Scope { rule, item } => {
-            tell_scope(alloc, message, source, *rule, *item as usize)
+            tell_scope(alloc, message, source, rule_of(*rule), *item as usize)
         }
         CompileFault::NoWidth { equation } => {
             tell_width(alloc, message, source, *equation as usize)
