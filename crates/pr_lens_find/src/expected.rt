@@ -1,6 +1,6 @@
 //! What could have stood in the place of a wrong token.
 
-ghost use Rattle.std.specs.Prelude.{◌≡◌, ◌≤◌, ◌++◌, ◌∷◌, [], filter, length, if◌then◌else◌, IfOk, OnOk};
+ghost use Rattle.std.specs.Prelude.{ℕ, ◌≡◌, ◌≤◌, ◌++◌, ◌∷◌, [], List, filter, length, if◌then◌else◌, IfOk, OnOk};
 ghost use Rattle.pr_lang.specs.Spelling.{keyword_text, symbol_text};
 ghost use Rattle.pr_lang.specs.Syntax.{refusal_of};
 ghost use Rattle.pr_lens_source.specs.Tokens.{text_before};
@@ -119,90 +119,64 @@ fn could_stand(alloc: Global, source: &Source, at: usize, bytes: &[u8]) -> Resul
     is_taken(alloc, &text, at)
 }
 
-/// Adds a word where it could stand.
-fn add_keyword(
+/// What is always written in the same way: a word, or a symbol.
+trait Spelled: Copy {
+    ghost spelling: { Self → List ℕ };
+
+    /// Its bytes.
+    fn bytes(self) -> &'static [u8]
+        ensures { result.now ≡ spelling self };
+}
+
+impl Spelled for Keyword {
+    ghost spelling = { keyword_text };
+
+    fn bytes(self) -> &'static [u8] {
+        self.as_str().as_bytes()
+    }
+}
+
+impl Spelled for Symbol {
+    ghost spelling = { symbol_text };
+
+    fn bytes(self) -> &'static [u8] {
+        self.as_str().as_bytes()
+    }
+}
+
+/// Adds a word or a symbol where it could stand.
+fn add_possible<T: Spelled>(
     alloc: Global,
     source: &Source,
     at: usize,
-    keyword: Keyword,
-    all: &mut Vec<Keyword>,
+    one: T,
+    all: &mut Vec<T>,
 ) -> Result<(), AllocError>
     ensures { let front = text_before source.now.text.now source.now.tokens.now at in OnOk result
-        (all.new.items ≡ all.old.items ++ (if can_stand front at keyword_text keyword then keyword ∷ [] else [])) }
+        (all.new.items ≡ all.old.items ++ (if can_stand front at T.spelling one then one ∷ [] else [])) }
 {
-    if !could_stand(alloc, source, at, keyword.as_str().as_bytes())? {
+    if !could_stand(alloc, source, at, one.bytes())? {
         return Ok(());
     }
-    all.push(keyword)?;
+    all.push(one)?;
     Ok(())
 }
 
-/// Those of these words that could stand there.
-fn keywords_among(
+/// Those of these words or symbols that could stand there.
+fn possible_among<T: Spelled>(
     alloc: Global,
     source: &Source,
     at: usize,
-    keywords: &[Keyword],
-) -> Result<Vec<Keyword>, AllocError>
+    told: &[T],
+) -> Result<Vec<T>, AllocError>
     ensures { let front = text_before source.now.text.now source.now.tokens.now at in
-        IfOk result (λ all. all.items ≡ filter (can_stand front at keyword_text) keywords.now) }
+        IfOk result (λ all. all.items ≡ filter (can_stand front at T.spelling) told.now) }
 {
     let mut all = Vec::new(alloc);
-    for keyword in keywords {
-        add_keyword(alloc, source, at, *keyword, &mut all)?;
+    for one in told {
+        add_possible(alloc, source, at, *one, &mut all)?;
     }
     Ok(all)
-}
-
-fn keywords_at(alloc: Global, source: &Source, at: usize) -> Result<Vec<Keyword>, AllocError>
-    ensures { let front = text_before source.now.text.now source.now.tokens.now at in
-        IfOk result (λ all. all.items ≡ filter (can_stand front at keyword_text) told_keywords) }
-{
-    let keywords = told_keywords();
-    keywords_among(alloc, source, at, &keywords)
-}
-
-/// Adds a symbol where it could stand.
-fn add_symbol(
-    alloc: Global,
-    source: &Source,
-    at: usize,
-    symbol: Symbol,
-    all: &mut Vec<Symbol>,
-) -> Result<(), AllocError>
-    ensures { let front = text_before source.now.text.now source.now.tokens.now at in OnOk result
-        (all.new.items ≡ all.old.items ++ (if can_stand front at symbol_text symbol then symbol ∷ [] else [])) }
-{
-    if !could_stand(alloc, source, at, symbol.as_str().as_bytes())? {
-        return Ok(());
-    }
-    all.push(symbol)?;
-    Ok(())
-}
-
-/// Those of these symbols that could stand there.
-fn symbols_among(
-    alloc: Global,
-    source: &Source,
-    at: usize,
-    symbols: &[Symbol],
-) -> Result<Vec<Symbol>, AllocError>
-    ensures { let front = text_before source.now.text.now source.now.tokens.now at in
-        IfOk result (λ all. all.items ≡ filter (can_stand front at symbol_text) symbols.now) }
-{
-    let mut all = Vec::new(alloc);
-    for symbol in symbols {
-        add_symbol(alloc, source, at, *symbol, &mut all)?;
-    }
-    Ok(all)
-}
-
-fn symbols_at(alloc: Global, source: &Source, at: usize) -> Result<Vec<Symbol>, AllocError>
-    ensures { let front = text_before source.now.text.now source.now.tokens.now at in
-        IfOk result (λ all. all.items ≡ filter (can_stand front at symbol_text) told_symbols) }
-{
-    let symbols = told_symbols();
-    symbols_among(alloc, source, at, &symbols)
 }
 
 /// Whether the text could end before a token.
@@ -230,7 +204,7 @@ pub fn expected_at(alloc: Global, source: &Source, at: usize) -> Result<Expected
         name: could_stand(alloc, source, at, b"name")?,
         number: could_stand(alloc, source, at, b"1")?,
         end: could_end(alloc, source, at)?,
-        keywords: keywords_at(alloc, source, at)?,
-        symbols: symbols_at(alloc, source, at)?,
+        keywords: possible_among(alloc, source, at, &told_keywords())?,
+        symbols: possible_among(alloc, source, at, &told_symbols())?,
     })
 }
