@@ -8,8 +8,8 @@ ghost use Rattle.pr_lens_origins.specs.Numbers.{item_numbers, item_size, numbers
 
 use crate::walks::{later, number_stmt, size_of, sizes_of, with_number};
 use pr_lang::{Item, Program};
-use pr_probe::{callee, entries_of, value_of};
-use pr_scope_names::{Static, Statics, Table};
+use pr_probe::know_item;
+use pr_scope_names::Statics;
 use std::alloc::{AllocError, Global};
 
 /// How many names of streams an item has.
@@ -58,25 +58,8 @@ fn number_item(
             width: _,
             value: _,
         } => with_number(listed, at),
-        Item::Const { name, value } => {
-            let amount = value_of(statics, value);
-            statics.set(alloc, name, number, Static::Constant(amount))?;
-            Ok(listed)
-        }
-        Item::Table { name, values } => {
-            let entries = entries_of(alloc, statics, values)?;
-            statics.set(alloc, name, number, Static::Table(Table::new(entries)))?;
-            Ok(listed)
-        }
-        Item::Function {
-            name,
-            params,
-            width: _,
-            body: _,
-            result: _,
-        } => {
-            let what = Static::Function(callee(number, params));
-            statics.set(alloc, name, number, what)?;
+        Item::Const { .. } | Item::Table { .. } | Item::Function { .. } => {
+            know_item(alloc, statics, number, item)?;
             Ok(listed)
         }
         Item::Step(stmt) => {

@@ -21,7 +21,7 @@ ghost use Rattle.pr_probe.specs.Operands.{made_world, operand_at};
 ghost use Rattle.pr_probe.specs.Probes.{AreSignals, CanProbe, CanShow, IsProbed, Probe, numbers_at, probes_of};
 
 pub use lists::{list_stmt, list_stmts, value_of};
-pub use programs::{callee, entries_of, instances};
+pub use programs::{instances, know_item};
 
 /// The probed program keeps the rules of scope, makes the same equations, and has widths if the program has. Its outputs
 /// give what the program's outputs give, and then the operands that the instances stand for.

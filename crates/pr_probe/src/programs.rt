@@ -14,11 +14,7 @@ use pr_scope_names::{Callee, Instance, Static, Statics, Table};
 use std::alloc::{AllocError, Global};
 
 /// The entries of a table.
-pub fn entries_of(
-    alloc: Global,
-    statics: &Statics,
-    values: &[Fixed],
-) -> Result<Vec<u64>, AllocError>
+fn entries_of(alloc: Global, statics: &Statics, values: &[Fixed]) -> Result<Vec<u64>, AllocError>
     ensures { IfOk result (λ v. v.items ≡ map (λ f. constant f (known_in statics.now)) values.now) }
 {
     let mut entries = Vec::new(alloc);
@@ -29,7 +25,7 @@ pub fn entries_of(
 }
 
 /// What callers see of a function of so many parameters.
-pub fn callee(number: u32, params: &[Param]) -> Callee
+fn callee(number: u32, params: &[Param]) -> Callee
     ensures { static.Function result ≡ function_at number params.now }
 {
     Callee {
@@ -38,6 +34,41 @@ pub fn callee(number: u32, params: &[Param]) -> Callee
         turns: 0,
         depth: 0,
         past: false,
+    }
+}
+
+/// Adds what an item is for those behind it: a constant, a table or a function.
+pub fn know_item(
+    alloc: Global,
+    statics: &mut Statics,
+    number: u32,
+    item: &Item,
+) -> Result<(), AllocError>
+    requires outside { IsOutside statics.old }
+    requires free { IsFree item.now (known_in statics.old) }
+    ensures known { OnOk result (known_in statics.new ≡ known_after number item.now (known_in statics.old)) }
+    ensures outside { OnOk result (IsOutside statics.new) }
+{
+    match item {
+        Item::Const { name, value } => {
+            let amount = value_of(statics, value);
+            statics.set(alloc, name, number, Static::Constant(amount))
+        }
+        Item::Table { name, values } => {
+            let entries = entries_of(alloc, statics, values)?;
+            statics.set(alloc, name, number, Static::Table(Table::new(entries)))
+        }
+        Item::Function {
+            name,
+            params,
+            width: _,
+            body: _,
+            result: _,
+        } => {
+            let what = Static::Function(callee(number, params));
+            statics.set(alloc, name, number, what)
+        }
+        Item::Input { .. } | Item::Output { .. } | Item::Step(_) => Ok(()),
     }
 }
 
@@ -72,25 +103,8 @@ fn list_item(
             width: _,
             value: _,
         } => list_name(alloc, listed, name),
-        Item::Const { name, value } => {
-            let amount = value_of(statics, value);
-            statics.set(alloc, name, number, Static::Constant(amount))?;
-            Ok(listed)
-        }
-        Item::Table { name, values } => {
-            let entries = entries_of(alloc, statics, values)?;
-            statics.set(alloc, name, number, Static::Table(Table::new(entries)))?;
-            Ok(listed)
-        }
-        Item::Function {
-            name,
-            params,
-            width: _,
-            body: _,
-            result: _,
-        } => {
-            let what = Static::Function(callee(number, params));
-            statics.set(alloc, name, number, what)?;
+        Item::Const { .. } | Item::Table { .. } | Item::Function { .. } => {
+            know_item(alloc, statics, number, item)?;
             Ok(listed)
         }
         Item::Step(stmt) => {
