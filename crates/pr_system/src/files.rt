@@ -5,7 +5,7 @@ ghost use Rattle.pr_edge.specs.Files.{OfFile, IsMissing, IsPart, HasReadCause, r
 ghost use Rattle.pr_system.specs.Files.{untold, unreached};
 ghost use Rattle.pr_system.specs.Slots.{IsReadOn, IsSlotFor, IsInTurn, IsTurn};
 
-use crate::gathering::{Gathering, hand_on};
+use crate::gathering::Gathering;
 use crate::slots::{Slot, find, put_back, take_out};
 use pr_edge::{Failed, Shelf};
 use std::alloc::{AllocError, Global};

@@ -1,8 +1,8 @@
 //! Results on their way to a stream, gathered to pieces.
-ghost use Rattle.std.specs.Prelude.{◌≡◌, ◌≤◌, [], length, true, false, None, IfOk, IfSome, IsErr, is_some};
+ghost use Rattle.std.specs.Prelude.{◌≡◌, ◌≤◌, [], length, true, false, None, IfOk, IfSome, IsErr, is_some, not};
 ghost use Rattle.std.specs.Io.Buffered.{writer_contents, writer_inner, writer_buffer};
 ghost use Rattle.std.specs.Io.KnownBytes.{Keeps, WriteAppends};
-ghost use Rattle.pr_system.specs.Gathering.{are_through};
+ghost use Rattle.pr_system.specs.Gathering.{are_through, IsHandedOn};
 
 use crate::streams::flush_once;
 use std::alloc::Global;
@@ -48,21 +48,18 @@ impl<W: Write + Drop> Gathering<W> {
         self.stream.write(bytes)
     }
 
-    /// Hands on what is gathered. Where that fails, the next results are refused.
-    fn hand_on(&mut self) -> HandedOn
+    /// Hands on what is gathered, and says whether it went through. Where it did not, the next results are refused.
+    pub fn hand_on(&mut self) -> bool
         ensures bytes { Keeps (writer_contents W.contents self.old.stream)
             (writer_contents W.contents self.new.stream) }
         ensures broken { self.old.is_broken ≡ true → self.new.is_broken ≡ true }
-        ensures held { result.held ≡ length (writer_buffer self.new.stream) }
-        ensures told { result.is_broken ≡ self.new.is_broken }
+        ensures handed { IsHandedOn self.new }
+        ensures told { result ≡ not self.new.is_broken }
     {
         if !flush_once(&mut self.stream) || !self.stream.buffer().is_empty() {
             self.is_broken = true;
         }
-        HandedOn {
-            held: self.stream.buffer().len(),
-            is_broken: self.is_broken,
-        }
+        !self.is_broken
     }
 
     /// Hands on what is gathered for the last time, and gives the stream back if all went through.
@@ -71,21 +68,13 @@ impl<W: Write + Drop> Gathering<W> {
             (λ stream. Keeps (writer_contents W.contents self.stream) (W.contents stream)) }
         ensures broken { self.is_broken ≡ true → result.stream ≡ None }
     {
-        if self.hand_on().is_broken {
+        if !self.hand_on() {
             return Finished { stream: None };
         }
         Finished {
             stream: self.stream.into_inner().ok(),
         }
     }
-}
-
-/// What a gathering holds after it was asked to hand on its results: none, or it is broken.
-#[derive(Clone, Copy, Drop)]
-pub struct HandedOn {
-    held: usize,
-    is_broken: bool,
-    ghost through: { is_broken ≡ false → held ≡ 0 },
 }
 
 /// What became of the last results of a gathering. Only `finish` makes one.
@@ -114,17 +103,6 @@ pub fn are_through<W>(last: &Option<Finished<W>>) -> bool
     }
 }
 
-/// Hands on what is gathered, before the program waits.
-///
-/// It fails only while the gathering is lent, which is never so while a file is read. No clause can say what a cell holds; so
-/// what the gathering holds then is told by a value that this file alone makes.
-pub fn hand_on<W: Write + Drop>(results: &RefCell<Gathering<W>>) -> io::Result<HandedOn> {
-    match results.try_borrow_mut() {
-        Ok(mut gathering) => Ok(gathering.hand_on()),
-        Err(_) => Err(io::Error::from(ErrorKind::ResourceBusy)),
-    }
-}
-
 /// The way to what gathers results, as a stream.
 #[derive(Drop)]
 pub struct Gathered<'a, W: Write + Drop> {
@@ -141,9 +119,15 @@ impl<'a, W: Write + Drop> Write for Gathered<'a, W> {
     }
 
     fn flush(&mut self) -> io::Result<()> {
-        if hand_on(self.results)?.is_broken {
-            return Err(io::Error::from(ErrorKind::BrokenPipe));
+        match self.results.try_borrow_mut() {
+            Ok(mut gathering) => {
+                if gathering.hand_on() {
+                    Ok(())
+                } else {
+                    Err(io::Error::from(ErrorKind::BrokenPipe))
+                }
+            }
+            Err(_) => Err(io::Error::from(ErrorKind::ResourceBusy)),
         }
-        Ok(())
     }
 }

@@ -1,8 +1,9 @@
 //! The files that a shelf keeps open, each under its name.
-ghost use Rattle.std.specs.Prelude.{slice_set, vec_len, ◌<◌, ◌≡◌, ◌↔◌, ℕ, ◌+◌, ◌-◌, ◌^◌, ◌≤◌, [], length, take, None, IfOk, OnOk, IsSome, IfSome, IfNone, IsTrue, string_bytes, min, option_map};
+ghost use Rattle.std.specs.Prelude.{slice_set, vec_len, ◌<◌, ◌≡◌, ◌↔◌, ℕ, ◌+◌, ◌-◌, ◌^◌, ◌≤◌, [], length, take, None, IfOk, OnOk, IfSome, IfNone, IsTrue, string_bytes, min, option_map};
+ghost use Rattle.pr_system.specs.Gathering.{IsHandedOn};
 ghost use Rattle.pr_system.specs.Slots.{IsFirst, NoneBefore, IsOpenAt, MayWait, IsAt, GaveFrom, IsRead, IsTakenOut};
 
-use crate::gathering::{Gathering, HandedOn, hand_on};
+use crate::gathering::Gathering;
 use crate::opened::{Opened, open_at};
 use std::alloc::{AllocError, Global};
 use std::cell::RefCell;
@@ -42,7 +43,9 @@ impl<F: Read + Drop> Slot<F> {
     }
 
     /// What stands in the place of a slot that was taken out.
-    pub fn absent(alloc: Global) -> Self {
+    pub fn absent(alloc: Global) -> Self
+        ensures { (string_bytes result.name ≡ []) × (result.opened ≡ None) }
+    {
         Slot {
             name: String::new(alloc),
             opened: None,
@@ -83,9 +86,13 @@ impl<F: Read + Drop> Slot<F> {
         Ok(())
     }
 
-    /// Reads on where its file stands. A read that may wait is told what the results came to that were handed on before.
-    fn read_on(&mut self, _before: Option<HandedOn>, buf: &mut [u8]) -> io::Result<usize>
-        requires { MayWait self.old → IsSome _before }
+    /// Reads on where its file stands. Before a read that may wait, the results were handed on.
+    fn read_on<W: Write + Drop>(
+        &mut self,
+        _results: &Gathering<W>,
+        buf: &mut [u8],
+    ) -> io::Result<usize>
+        requires { MayWait self.old → IsHandedOn _results.now }
         ensures bound { IfOk result (λ k. k ≤ length buf.new) }
         ensures name { self.new.name ≡ self.old.name }
         ensures kind { option_map (λ o. o.kind) self.new.opened ≡ option_map (λ o. o.kind) self.old.opened }
@@ -113,11 +120,15 @@ impl<F: Read + Drop> Slot<F> {
         ensures read { IfOk result (λ k. IsRead F.remaining self.old self.new name.now place k (take k buf.new)) }
     {
         self.open(rt, name, place)?;
-        if self.may_wait() {
-            let handed = hand_on(results)?;
-            return self.read_on(Some(handed), buf);
+        match results.try_borrow_mut() {
+            Ok(mut gathering) => {
+                if self.may_wait() {
+                    gathering.hand_on();
+                }
+                self.read_on(&gathering, buf)
+            }
+            Err(_) => Err(io::Error::from(ErrorKind::ResourceBusy)),
         }
-        self.read_on(None, buf)
     }
 
     /// Reads the file of this name from this place on, and gives the slot back.
