@@ -1,5 +1,5 @@
 //! Samples that are read one after the other from a file of any size.
-ghost use Rattle.std.specs.Prelude.{◌≡◌, ◌≢◌, ◌↔◌, ℕ, ◌+◌, ◌-◌, ◌*◌, ◌^◌, ◌<◌, ◌≤◌, ◌⊎◌, ◌++◌, List, All, false, take, length, nat_lt, vec_len, Option, Some, None, IfOk, IfSome, IfNone, IsErr, IsTrue, OnErr, OnOk, string_bytes};
+ghost use Rattle.std.specs.Prelude.{◌≡◌, ◌≢◌, ◌↔◌, ℕ, ◌+◌, ◌-◌, ◌*◌, ◌^◌, ◌<◌, ◌≤◌, ◌⊎◌, ◌++◌, List, All, false, take, length, nat_lt, vec_len, vec_capacity, Option, Some, None, IfOk, IfSome, IfNone, IsErr, IsTrue, OnErr, OnOk, string_bytes};
 ghost use Rattle.pr_edge.specs.Files.{IsMissing, HasReadCause, IsPart};
 ghost use Rattle.pr_samples.specs.declared.tails.Tail.{Tail};
 ghost use Rattle.pr_samples.specs.declared.scan.Met.{Met};
@@ -9,6 +9,7 @@ ghost use Rattle.pr_samples.specs.Scan.{Found, fresh, scan_of, first_line, begun
 ghost use Rattle.pr_samples.specs.Got.{is_sample, given_by};
 
 use crate::items::front_line;
+use crate::rooms::filled;
 use crate::scan::{Cursor, Met, Phase, START, met_cut, met_whole, read_lines};
 use crate::tails::Tail;
 use pr_base::{Cap, Num};
@@ -34,7 +35,8 @@ pub enum Got {
     Limit(Cap),
 }
 
-/// A file of samples that is read from its beginning, with a buffer of a fixed size.
+/// A file of samples that is read from its beginning, with a buffer of a fixed size. By its type the buffer and the lists
+/// for numbers have room for what they hold and no more, so no call lets one grow.
 #[derive(Drop)]
 pub struct Feed {
     name: String,
@@ -55,13 +57,16 @@ pub struct Feed {
     ghost one_each: { vec_len numbers ≡ vec_len widths },
     ghost front_each: { vec_len front ≡ vec_len widths },
     ghost size: { vec_len buffer ≡ 65536 },
+    ghost numbers_room: { vec_capacity numbers ≡ vec_len numbers },
+    ghost front_room: { vec_capacity front ≡ vec_len front },
+    ghost buffer_room: { vec_capacity buffer ≡ vec_len buffer },
     ghost window: { start ≤ end },
     ghost within: { end ≤ vec_len buffer },
     ghost lines: { passed + (end - start) ≤ place },
     ghost far: { place ≤ limit + 65536 },
     ghost low: { limit ≤ 2 ^ 44 },
     ghost few: { given ≤ most },
-    ghost open: { tail ≡ Tail.Open → place ≤ limit },
+    ghost unended: { tail ≡ Tail.Open → place ≤ limit },
     ghost cut: { tail ≡ Tail.Cut → limit < place },
 }
 
@@ -141,9 +146,9 @@ impl Feed {
     {
         let name = String::from_str(alloc, name)?;
         let kept = Vec::from_slice(alloc, widths)?;
-        let numbers = vec![in alloc; 0; widths.len()]?;
-        let front = vec![in alloc; 0; widths.len()]?;
-        let buffer = vec![in alloc; 0; BUFFER]?;
+        let numbers = filled(alloc, 0, widths.len())?;
+        let front = filled(alloc, 0, widths.len())?;
+        let buffer = filled(alloc, 0, BUFFER)?;
         Ok(Feed {
             name,
             widths: kept,
