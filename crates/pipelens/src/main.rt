@@ -128,8 +128,8 @@ fn reply_to<R: Files + Print + AllocGlobal>(rt: &R, words: &[String]) -> Reply
 /// Writes the line of a call, and says with which status to end. Nobody can be told of a line that is not written.
 fn report<E: Sink>(reply: &Reply, stderr: &mut E) -> u8
     ensures status { result ≡ status_of reply.now.outcome }
-    ensures note { GainsNote (E.told stderr.old) (E.told stderr.new) (E.faults stderr.old) (E.faults stderr.new)
-        (line_of reply.now) }
+    ensures note { GainsNote (E.view stderr.old).told (E.view stderr.new).told (E.view stderr.old).faults
+        (E.view stderr.new).faults (line_of reply.now) }
 {
     reply.put_note(stderr);
     reply.outcome.status()
@@ -159,8 +159,8 @@ fn replied<R: Files + Print + AllocGlobal>(rt: &R, given: Result<Vec<String>, Wo
 
 /// Calls the companion with the words that the system gives, writes its line, and ends with the status of its outcome.
 fn ended<R: Env + Files + Print + AllocGlobal, E: Sink>(rt: &R, stderr: &mut E) -> ExitCode
-    ensures { IsEnded (E.told stderr.old) (E.told stderr.new) (E.faults stderr.old) (E.faults stderr.new)
-        (exit_status result) }
+    ensures { IsEnded (E.view stderr.old).told (E.view stderr.new).told (E.view stderr.old).faults
+        (E.view stderr.new).faults (exit_status result) }
 {
     let reply = replied(rt, words_of(rt));
     ExitCode::from(report(&reply, stderr))

@@ -22,8 +22,8 @@ use std::rt::{Env, Files};
 
 /// Writes the line that was held back, where the last results went through, and else that of a write fault.
 fn put_held<E: Sink>(held: &[u8], through: bool, stderr: &mut E)
-    ensures { GainsNote (E.told stderr.old) (E.told stderr.new) (E.faults stderr.old) (E.faults stderr.new)
-        (line_after held.now through) }
+    ensures { GainsNote (E.view stderr.old).told (E.view stderr.new).told (E.view stderr.old).faults
+        (E.view stderr.new).faults (line_after held.now through) }
 {
     if !through {
         put_note(stderr, &Bounds::BASE, &Answer::WriteFault);
@@ -39,8 +39,8 @@ fn put_held<E: Sink>(held: &[u8], through: bool, stderr: &mut E)
 /// Writes the note of a call, and says with which answer to end.
 fn report<W, E: Sink>(called: &Called<W>, stderr: &mut E) -> Answer
     ensures answer { result ≡ settled called.now.told (are_through called.now.last) }
-    ensures note { GainsNote (E.told stderr.old) (E.told stderr.new) (E.faults stderr.old) (E.faults stderr.new)
-        (line_after (bytes_of called.now.note) (are_through called.now.last)) }
+    ensures note { GainsNote (E.view stderr.old).told (E.view stderr.new).told (E.view stderr.old).faults
+        (E.view stderr.new).faults (line_after (bytes_of called.now.note) (are_through called.now.last)) }
 {
     let through = are_through(&called.last);
     put_held(called.note.bytes(), through, stderr);
@@ -50,8 +50,8 @@ fn report<W, E: Sink>(called: &Called<W>, stderr: &mut E) -> Answer
 /// Writes the note of an answer that came before the tool was asked.
 fn refuse<E: Sink>(answer: Answer, stderr: &mut E) -> Answer
     ensures answer { result ≡ answer }
-    ensures note { GainsNote (E.told stderr.old) (E.told stderr.new) (E.faults stderr.old) (E.faults stderr.new)
-        (note_of (bounds_in None) answer) }
+    ensures note { GainsNote (E.view stderr.old).told (E.view stderr.new).told (E.view stderr.old).faults
+        (E.view stderr.new).faults (note_of (bounds_in None) answer) }
 {
     put_note(stderr, &Bounds::BASE, &answer);
     answer
@@ -69,8 +69,8 @@ fn answer_to<R: Files + Print + AllocGlobal, E: Sink>(
         → (result ≡ Answer.Usage) ⊎ ((result ≡ Answer.Memory) ⊎ (result ≡ Answer.WriteFault)) }
 
     // The note is the line of the answer, up to a write that fails.
-    ensures note { GainsNote (E.told stderr.old) (E.told stderr.new) (E.faults stderr.old) (E.faults stderr.new)
-        (note_of (bounds_in (asked_by words.now)) result) }
+    ensures note { GainsNote (E.view stderr.old).told (E.view stderr.new).told (E.view stderr.old).faults
+        (E.view stderr.new).faults (note_of (bounds_in (asked_by words.now)) result) }
 {
     match call(rt, words) {
         Ok(called) => report(&called, stderr),
@@ -98,8 +98,8 @@ fn answered<R: Files + Print + AllocGlobal, E: Sink>(
     ensures usage { result ≡ Answer.Usage → asked_in given ≡ None }
     ensures wrong { asked_in given ≡ None
         → (result ≡ Answer.Usage) ⊎ ((result ≡ Answer.Memory) ⊎ (result ≡ Answer.WriteFault)) }
-    ensures note { GainsNote (E.told stderr.old) (E.told stderr.new) (E.faults stderr.old) (E.faults stderr.new)
-        (note_of (bounds_in (asked_in given)) result) }
+    ensures note { GainsNote (E.view stderr.old).told (E.view stderr.new).told (E.view stderr.old).faults
+        (E.view stderr.new).faults (note_of (bounds_in (asked_in given)) result) }
 {
     match given {
         Ok(words) => answer_to(rt, &words, stderr),
@@ -109,8 +109,8 @@ fn answered<R: Files + Print + AllocGlobal, E: Sink>(
 
 /// Answers the words that the system gives, writes the note, and ends with the status of the answer.
 fn ended<R: Env + Files + Print + AllocGlobal, E: Sink>(rt: &R, stderr: &mut E) -> ExitCode
-    ensures { IsEnded (E.told stderr.old) (E.told stderr.new) (E.faults stderr.old) (E.faults stderr.new)
-        (exit_status result) }
+    ensures { IsEnded (E.view stderr.old).told (E.view stderr.new).told (E.view stderr.old).faults
+        (E.view stderr.new).faults (exit_status result) }
 {
     ExitCode::from(answered(rt, words_of(rt), stderr).status())
 }

@@ -6,6 +6,12 @@ use Rattle.pr_edge.specs.Count.{Rose}
 abbrev pub Told : Type 0
 Told = Option (List ℕ → Option (List ℕ))
 
+-- what a shelf shows: what it tells of its files, how far it says that each was read in order, and its count of faults
+pub record View : Type 0 where
+  pub told : Told
+  pub reach : List ℕ → Option ℕ
+  pub faults : ℕ
+
 -- a fact of the bytes of a file, where they are told
 abbrev pub OfFile : Told → List ℕ → (List ℕ → Type 0) → Type 0
 OfFile None name P = ⊤

@@ -2,7 +2,7 @@
 use Rattle.std.specs.Prelude.{ℕ, ◌==◌, Bool, List, Option, Some, None, length, drop, min, is_none, option_map, if◌then◌else◌}
 use Rattle.std.specs.List.{list_any}
 use Rattle.pr_edge.specs.Count.{next_count}
-use Rattle.pr_edge.specs.Files.{Told}
+use Rattle.pr_edge.specs.Files.{Told, View}
 use Rattle.pr_edge.specs.Named.{Named, file_in, reach_in}
 use Rattle.pr_edge.specs.declared.mem_shelf.MemShelf.{MemShelf}
 
@@ -40,3 +40,6 @@ answer_of s name place size =
 abbrev pub faults_after : MemShelf → List ℕ → ℕ
 faults_after s name =
     if is_none (file_in s.files.items name) then s.faults else (if fails_next s then next_count s.faults else s.faults)
+
+abbrev pub view_of : MemShelf → View
+view_of s = record { told = told_of s; reach = reach_of s; faults = faults_of s }

@@ -2,7 +2,7 @@
 use Rattle.std.specs.Prelude.{ℕ, ◌+◌, ◌==◌, Bool, List, Some, length, nat_lt, ◌||◌, ◌&&◌, not, if◌then◌else◌}
 use Rattle.std.specs.List.{list_any}
 use Rattle.pr_edge.specs.Count.{next_count}
-use Rattle.pr_edge.specs.Tape.{Tape}
+use Rattle.pr_edge.specs.Tape.{Tape, Written}
 use Rattle.pr_edge.specs.declared.mem_sink.MemSink.{MemSink}
 
 -- the bytes that it keeps, which are all that were written
@@ -36,3 +36,6 @@ refuses_next s piece =
 -- the count of faults after the next call
 abbrev pub faults_after : MemSink → List ℕ → ℕ
 faults_after s piece = if refuses_next s piece then next_count s.faults else s.faults
+
+abbrev pub view_of : MemSink → Written
+view_of s = record { told = told_of s; faults = faults_of s }

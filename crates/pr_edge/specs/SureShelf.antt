@@ -1,6 +1,6 @@
 -- What a shelf in memory that never fails holds.
 use Rattle.std.specs.Prelude.{ℕ, List, Option, Some, None}
-use Rattle.pr_edge.specs.Files.{Told}
+use Rattle.pr_edge.specs.Files.{Told, View}
 use Rattle.pr_edge.specs.Named.{Named, sure_file}
 use Rattle.pr_edge.specs.declared.sure_shelf.SureShelf.{SureShelf}
 
@@ -18,3 +18,6 @@ reach_of s name = None
 -- it never fails
 abbrev pub faults_of : SureShelf → ℕ
 faults_of s = 0
+
+abbrev pub view_of : SureShelf → View
+view_of s = record { told = told_of s; reach = reach_of s; faults = faults_of s }

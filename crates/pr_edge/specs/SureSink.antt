@@ -1,6 +1,6 @@
 -- What a sink in memory that never fails holds.
 use Rattle.std.specs.Prelude.{ℕ, Bool, List, Some, None, if◌then◌else◌}
-use Rattle.pr_edge.specs.Tape.{Tape}
+use Rattle.pr_edge.specs.Tape.{Tape, Written}
 use Rattle.pr_edge.specs.declared.sure_sink.SureSink.{SureSink}
 
 -- the bytes that it keeps
@@ -22,3 +22,6 @@ told_of s = record { bytes = if s.dropped then None else Some s.kept.items; keep
 -- it never fails
 abbrev pub faults_of : SureSink → ℕ
 faults_of s = 0
+
+abbrev pub view_of : SureSink → Written
+view_of s = record { told = told_of s; faults = faults_of s }

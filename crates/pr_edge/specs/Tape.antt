@@ -6,6 +6,15 @@ pub record Tape : Type 0 where
   pub bytes : Option (List ℕ)
   pub keeps : ℕ
 
+-- a sink that tells nothing
+abbrev pub untold : Tape
+untold = record { bytes = None; keeps = 0 }
+
+-- what a sink shows: what it tells of its bytes, and its count of faults
+pub record Written : Type 0 where
+  pub told : Tape
+  pub faults : ℕ
+
 -- where the bytes are told after, they were told before, and this piece was added at the end
 abbrev pub IsAppended : Option (List ℕ) → Option (List ℕ) → List ℕ → Type 0
 IsAppended old None piece = ⊤

@@ -50,13 +50,9 @@ impl MemShelf {
 }
 
 impl Shelf for MemShelf {
-    ghost use Rattle.pr_edge.specs.MemShelf.{told_of, reach_of, failing_of, calls_of, faults_of, answer_of, faults_after};
+    ghost use Rattle.pr_edge.specs.MemShelf.{view_of, told_of, reach_of, failing_of, calls_of, faults_of, answer_of, faults_after};
 
-    ghost told = { told_of };
-
-    ghost reach = { reach_of };
-
-    ghost faults = { faults_of };
+    ghost view = { view_of };
 
     ghost counted = { λ s. s.in_range };
 

@@ -52,11 +52,9 @@ impl MemSink {
 }
 
 impl Sink for MemSink {
-    ghost use Rattle.pr_edge.specs.MemSink.{told_of, failing_of, calls_of, faults_of, refuses_next, faults_after};
+    ghost use Rattle.pr_edge.specs.MemSink.{view_of, told_of, failing_of, calls_of, faults_of, refuses_next, faults_after};
 
-    ghost told = { told_of };
-
-    ghost faults = { faults_of };
+    ghost view = { view_of };
 
     ghost counted = { λ s. s.in_range };
 

@@ -26,13 +26,9 @@ impl SureShelf {
 
 impl Shelf for SureShelf {
     ghost use Rattle.pr_edge.specs.Named.{sure_file};
-    ghost use Rattle.pr_edge.specs.SureShelf.{files_of, told_of, reach_of, faults_of};
+    ghost use Rattle.pr_edge.specs.SureShelf.{files_of, view_of, told_of, reach_of, faults_of};
 
-    ghost told = { told_of };
-
-    ghost reach = { reach_of };
-
-    ghost faults = { faults_of };
+    ghost view = { view_of };
 
     ghost counted = { λ _. Prim.omega arith };
 

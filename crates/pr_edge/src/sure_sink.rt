@@ -44,11 +44,9 @@ impl SureSink {
 }
 
 impl Sink for SureSink {
-    ghost use Rattle.pr_edge.specs.SureSink.{bytes_of, room_of, has_dropped, told_of, faults_of};
+    ghost use Rattle.pr_edge.specs.SureSink.{bytes_of, room_of, has_dropped, view_of, told_of, faults_of};
 
-    ghost told = { told_of };
-
-    ghost faults = { faults_of };
+    ghost view = { view_of };
 
     ghost counted = { λ _. Prim.omega arith };
 

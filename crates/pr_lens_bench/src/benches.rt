@@ -41,23 +41,24 @@ fn lines_of<S: Shelf>(
     requires feed { IsLongFeed (inputs_of trial.now.front.scoped.program) feed.old }
     ensures lines { IfOk result
         (λ r. r.end ≢ Got.ReadFault
-        → HasLines (S.told shelf.old) trial.now.front.scoped.program trial.now.plan feed.old feed.new
+        → HasLines (S.view shelf.old).told trial.now.front.scoped.program trial.now.plan feed.old feed.new
         r.text.items r.count r.end) }
     ensures short { IfOk result (λ r. length r.text.items ≤ most_text_bytes) }
-    ensures there { IfOk result (λ r. r.end ≢ Got.ReadFault → IsMissing (S.told shelf.old) (name_of feed.old) → ⊥) }
+    ensures there { IfOk result
+        (λ r. r.end ≢ Got.ReadFault → IsMissing (S.view shelf.old).told (name_of feed.old) → ⊥) }
     ensures cause { IfOk result
         (λ r. r.end ≡ Got.ReadFault
-        → HasReadCause (S.told shelf.old) (name_of feed.old) (S.faults shelf.old) (S.faults shelf.new)) }
+        → HasReadCause (S.view shelf.old).told (name_of feed.old) (S.view shelf.old).faults (S.view shelf.new).faults) }
     ensures cut { IfErr result
-        (IsCut (S.told shelf.old) trial.now.front.scoped.program trial.now.plan feed.old feed.new) }
-    ensures steady { IfOk result (λ r. r.end ≢ Got.ReadFault → S.faults shelf.new ≡ S.faults shelf.old) }
-    ensures kept { OnErr result (S.faults shelf.new ≡ S.faults shelf.old) }
+        (IsCut (S.view shelf.old).told trial.now.front.scoped.program trial.now.plan feed.old feed.new) }
+    ensures steady { IfOk result (λ r. r.end ≢ Got.ReadFault → (S.view shelf.new).faults ≡ (S.view shelf.old).faults) }
+    ensures kept { OnErr result ((S.view shelf.new).faults ≡ (S.view shelf.old).faults) }
     ensures name { name_of feed.new ≡ name_of feed.old }
-    ensures later { S.faults shelf.old ≤ S.faults shelf.new }
-    ensures same { S.told shelf.new ≡ S.told shelf.old }
-    ensures reached { S.reach shelf.old (name_of feed.old) ≡ Some (place_of feed.old)
-        → S.reach shelf.new (name_of feed.old) ≡ Some (place_of feed.new) }
-    ensures others { (q : List ℕ) → q ≢ name_of feed.old → S.reach shelf.new q ≡ S.reach shelf.old q }
+    ensures later { (S.view shelf.old).faults ≤ (S.view shelf.new).faults }
+    ensures same { (S.view shelf.new).told ≡ (S.view shelf.old).told }
+    ensures reached { (S.view shelf.old).reach (name_of feed.old) ≡ Some (place_of feed.old)
+        → (S.view shelf.new).reach (name_of feed.old) ≡ Some (place_of feed.new) }
+    ensures others { (q : List ℕ) → q ≢ name_of feed.old → (S.view shelf.new).reach q ≡ (S.view shelf.old).reach q }
 {
     let mut sample = vec![in alloc; 0; trial.front.scoped.inputs.len()]?;
     let mut row = vec![in alloc; 0; trial.front.flat.outputs.len()]?;
@@ -87,20 +88,20 @@ pub fn bench<S: Shelf>(
 ) -> Result<Vec<u8>, NoBench>
     requires { IsFit trial.now }
     ensures made { IfOk result (λ text.
-        IsBench (S.told shelf.old) samples.now trial.now.front.scoped.program trial.now.plan text.items) }
+        IsBench (S.view shelf.old).told samples.now trial.now.front.scoped.program trial.now.plan text.items) }
     ensures refused { IfErr result
-        (IsUnbenched (S.told shelf.old) samples.now trial.now.front.scoped.program trial.now.plan
-        (S.faults shelf.old) (S.faults shelf.new)) }
+        (IsUnbenched (S.view shelf.old).told samples.now trial.now.front.scoped.program trial.now.plan
+        (S.view shelf.old).faults (S.view shelf.new).faults) }
 
     // A read that fails is not tried again: it ends with ReadFault.
-    ensures steady { IsErrOf result (Ended Answer.ReadFault) ⊎ S.faults shelf.new ≡ S.faults shelf.old }
+    ensures steady { IsErrOf result (Ended Answer.ReadFault) ⊎ (S.view shelf.new).faults ≡ (S.view shelf.old).faults }
 
-    ensures later { S.faults shelf.old ≤ S.faults shelf.new }
-    ensures same { S.told shelf.new ≡ S.told shelf.old }
+    ensures later { (S.view shelf.old).faults ≤ (S.view shelf.new).faults }
+    ensures same { (S.view shelf.new).told ≡ (S.view shelf.old).told }
 
     // The file is read in order, and no byte of it twice.
-    ensures once { IsInOrder (S.reach shelf.old samples.now) (S.reach shelf.new samples.now) }
-    ensures others { (q : List ℕ) → q ≢ samples.now → S.reach shelf.new q ≡ S.reach shelf.old q }
+    ensures once { IsInOrder ((S.view shelf.old).reach samples.now) ((S.view shelf.new).reach samples.now) }
+    ensures others { (q : List ℕ) → q ≢ samples.now → (S.view shelf.new).reach q ≡ (S.view shelf.old).reach q }
 {
     let mut feed = feed_of(alloc, trial, samples)?;
     let lines = lines_of(alloc, trial, &mut feed, shelf)?;

@@ -41,23 +41,24 @@ pub fn lines_in<S: Shelf>(
     requires row { length row.old ≡ vec_len trial.now.front.flat.outputs }
     ensures lines { IfOk result
         (λ r. r.end ≢ Got.ReadFault
-        → HasLines (S.told shelf.old) trial.now.front.scoped.program trial.now.plan feed.old feed.new
+        → HasLines (S.view shelf.old).told trial.now.front.scoped.program trial.now.plan feed.old feed.new
         r.text.items r.count r.end) }
     ensures short { IfOk result (λ r. length r.text.items ≤ most_text_bytes) }
-    ensures there { IfOk result (λ r. r.end ≢ Got.ReadFault → IsMissing (S.told shelf.old) (name_of feed.old) → ⊥) }
+    ensures there { IfOk result
+        (λ r. r.end ≢ Got.ReadFault → IsMissing (S.view shelf.old).told (name_of feed.old) → ⊥) }
     ensures cause { IfOk result
         (λ r. r.end ≡ Got.ReadFault
-        → HasReadCause (S.told shelf.old) (name_of feed.old) (S.faults shelf.old) (S.faults shelf.new)) }
+        → HasReadCause (S.view shelf.old).told (name_of feed.old) (S.view shelf.old).faults (S.view shelf.new).faults) }
     ensures cut { IfErr result
-        (IsCut (S.told shelf.old) trial.now.front.scoped.program trial.now.plan feed.old feed.new) }
-    ensures steady { IfOk result (λ r. r.end ≢ Got.ReadFault → S.faults shelf.new ≡ S.faults shelf.old) }
-    ensures kept { OnErr result (S.faults shelf.new ≡ S.faults shelf.old) }
+        (IsCut (S.view shelf.old).told trial.now.front.scoped.program trial.now.plan feed.old feed.new) }
+    ensures steady { IfOk result (λ r. r.end ≢ Got.ReadFault → (S.view shelf.new).faults ≡ (S.view shelf.old).faults) }
+    ensures kept { OnErr result ((S.view shelf.new).faults ≡ (S.view shelf.old).faults) }
     ensures file { SameFile feed.old feed.new }
-    ensures later { S.faults shelf.old ≤ S.faults shelf.new }
-    ensures same { S.told shelf.new ≡ S.told shelf.old }
-    ensures reached { S.reach shelf.old (name_of feed.old) ≡ Some (place_of feed.old)
-        → S.reach shelf.new (name_of feed.old) ≡ Some (place_of feed.new) }
-    ensures others { (q : List ℕ) → q ≢ name_of feed.old → S.reach shelf.new q ≡ S.reach shelf.old q }
+    ensures later { (S.view shelf.old).faults ≤ (S.view shelf.new).faults }
+    ensures same { (S.view shelf.new).told ≡ (S.view shelf.old).told }
+    ensures reached { (S.view shelf.old).reach (name_of feed.old) ≡ Some (place_of feed.old)
+        → (S.view shelf.new).reach (name_of feed.old) ≡ Some (place_of feed.new) }
+    ensures others { (q : List ℕ) → q ≢ name_of feed.old → (S.view shelf.new).reach q ≡ (S.view shelf.old).reach q }
 {
     let mut evaluator = Evaluator::new(alloc, &trial.front.flat)?;
     let mut text = Vec::new(alloc);

@@ -1,7 +1,7 @@
 -- What a call reads and writes.
 use Rattle.std.specs.Prelude.{ℕ}
-use Rattle.pr_edge.specs.Files.{Told}
-use Rattle.pr_edge.specs.Tape.{Tape}
+use Rattle.pr_edge.specs.Files.{Told, View}
+use Rattle.pr_edge.specs.Tape.{Tape, Written}
 
 -- the files that are told, the counts of faults of the shelf before and after, what the sink tells before and after, and the
 -- counts of faults of the sink
@@ -24,3 +24,7 @@ call told reads_before reads_now old new writes_before writes_now = record {
   writes_before = writes_before;
   writes_now = writes_now;
 }
+
+-- the same by what the shelf and the sink show before and after
+abbrev pub seen : View → View → Written → Written → Call
+seen before now old new = call before.told before.faults now.faults old.told new.told old.faults new.faults

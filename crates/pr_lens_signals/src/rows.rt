@@ -29,10 +29,10 @@ pub struct Work {
 
 /// Writes a text that is made whole.
 pub fn put_text<K: Sink>(out: &mut K, text: &[u8]) -> Result<(), Answer>
-    ensures all { OnOk result (Appends (K.told out.old) (K.told out.new) text.now) }
-    ensures front { OnErr result (AppendsFront (K.told out.old) (K.told out.new) text.now) }
-    ensures cause { IfErr result (IsWriteCause (K.faults out.old) (K.faults out.new)) }
-    ensures later { K.faults out.old ≤ K.faults out.new }
+    ensures all { OnOk result (Appends (K.view out.old).told (K.view out.new).told text.now) }
+    ensures front { OnErr result (AppendsFront (K.view out.old).told (K.view out.new).told text.now) }
+    ensures cause { IfErr result (IsWriteCause (K.view out.old).faults (K.view out.new).faults) }
+    ensures later { (K.view out.old).faults ≤ (K.view out.new).faults }
 {
     match write_all(out, text) {
         Ok(()) => Ok(()),
@@ -46,17 +46,17 @@ fn put_row<K: Sink>(pen: &mut Pen, row: &[Num], out: &mut K) -> Result<(), Answe
     requires before { vec_len pen.old.before ≡ length row.now }
     requires room { pen.old.count < 18446744073709551615 }
     ensures all { (rows : List (List ℕ)) → HasWritten rows pen.old → OnOk result (Appends
-        (K.told out.old) (K.told out.new) (text_behind pen.old.form pen.old.tracks.items rows row.now)) }
+        (K.view out.old).told (K.view out.new).told (text_behind pen.old.form pen.old.tracks.items rows row.now)) }
     ensures front { (rows : List (List ℕ)) → HasWritten rows pen.old → OnErr result (AppendsFront
-        (K.told out.old) (K.told out.new) (text_behind pen.old.form pen.old.tracks.items rows row.now)) }
+        (K.view out.old).told (K.view out.new).told (text_behind pen.old.form pen.old.tracks.items rows row.now)) }
     ensures written { (rows : List (List ℕ)) → HasWritten rows pen.old
         → OnOk result (HasWritten (rows ++ row.now ∷ []) pen.new) }
     ensures form { pen.new.form ≡ pen.old.form }
     ensures tracks { pen.new.tracks ≡ pen.old.tracks }
     ensures count { OnOk result (pen.new.count ≡ pen.old.count + 1) }
     ensures size { vec_len pen.new.before ≡ vec_len pen.old.before }
-    ensures cause { IfErr result (IsWriteCause (K.faults out.old) (K.faults out.new)) }
-    ensures later { K.faults out.old ≤ K.faults out.new }
+    ensures cause { IfErr result (IsWriteCause (K.view out.old).faults (K.view out.new).faults) }
+    ensures later { (K.view out.old).faults ≤ (K.view out.new).faults }
 {
     match pen.write(row) {
         Ok(()) => put_text(out, &pen.line),
@@ -83,33 +83,34 @@ pub fn put_rows<S: Shelf, K: Sink>(
     requires row { length row.old ≡ vec_len showing.now.probed.flat.outputs }
     ensures ended { IfOk result
         (λ end. end ≢ Got.ReadFault
-        → HasEnded (S.told shelf.old) showing.now
-        work.old.feed work.new.feed end (λ rows. Appends (K.told out.old) (K.told out.new)
+        → HasEnded (S.view shelf.old).told showing.now
+        work.old.feed work.new.feed end (λ rows. Appends (K.view out.old).told (K.view out.new).told
         (rows_text work.old.pen.form work.old.pen.tracks.items rows))) }
     ensures there { IfOk result
-        (λ end. end ≢ Got.ReadFault → IsMissing (S.told shelf.old) (name_of work.old.feed) → ⊥) }
+        (λ end. end ≢ Got.ReadFault → IsMissing (S.view shelf.old).told (name_of work.old.feed) → ⊥) }
     ensures read { IfOk result
         (λ end. end ≡ Got.ReadFault
-        → HasReadCause (S.told shelf.old) (name_of work.old.feed) (S.faults shelf.old) (S.faults shelf.new)) }
+        → HasReadCause (S.view shelf.old).told (name_of work.old.feed) (S.view shelf.old).faults
+        (S.view shelf.new).faults) }
     ensures begun { IfOk result
         (λ end. end ≡ Got.ReadFault
-        → HasBegun (S.told shelf.old) showing.now
-        work.old.feed work.new.feed (λ rows. Appends (K.told out.old) (K.told out.new)
+        → HasBegun (S.view shelf.old).told showing.now
+        work.old.feed work.new.feed (λ rows. Appends (K.view out.old).told (K.view out.new).told
         (rows_text work.old.pen.form work.old.pen.tracks.items rows))) }
-    ensures cut { OnErr result
-        (HasBegun (S.told shelf.old) showing.now
-        work.old.feed work.new.feed (λ rows. AppendsFront (K.told out.old) (K.told out.new)
+    ensures cut { OnErr result (HasBegun (S.view shelf.old).told showing.now
+        work.old.feed work.new.feed (λ rows. AppendsFront (K.view out.old).told (K.view out.new).told
         (rows_text work.old.pen.form work.old.pen.tracks.items rows))) }
-    ensures cause { IfErr result (IsWriteCause (K.faults out.old) (K.faults out.new)) }
-    ensures steady { IfOk result (λ end. end ≢ Got.ReadFault → S.faults shelf.new ≡ S.faults shelf.old) }
-    ensures kept { OnErr result (S.faults shelf.new ≡ S.faults shelf.old) }
+    ensures cause { IfErr result (IsWriteCause (K.view out.old).faults (K.view out.new).faults) }
+    ensures steady { IfOk result (λ end. end ≢ Got.ReadFault → (S.view shelf.new).faults ≡ (S.view shelf.old).faults) }
+    ensures kept { OnErr result ((S.view shelf.new).faults ≡ (S.view shelf.old).faults) }
     ensures file { SameFile work.old.feed work.new.feed }
-    ensures later { S.faults shelf.old ≤ S.faults shelf.new }
-    ensures same { S.told shelf.new ≡ S.told shelf.old }
-    ensures reached { S.reach shelf.old (name_of work.old.feed) ≡ Some (place_of work.old.feed)
-        → S.reach shelf.new (name_of work.old.feed) ≡ Some (place_of work.new.feed) }
-    ensures others { (q : List ℕ) → q ≢ name_of work.old.feed → S.reach shelf.new q ≡ S.reach shelf.old q }
-    ensures out_later { K.faults out.old ≤ K.faults out.new }
+    ensures later { (S.view shelf.old).faults ≤ (S.view shelf.new).faults }
+    ensures same { (S.view shelf.new).told ≡ (S.view shelf.old).told }
+    ensures reached { (S.view shelf.old).reach (name_of work.old.feed) ≡ Some (place_of work.old.feed)
+        → (S.view shelf.new).reach (name_of work.old.feed) ≡ Some (place_of work.new.feed) }
+    ensures others { (q : List ℕ) → q ≢ name_of work.old.feed → (S.view shelf.new).reach q
+        ≡ (S.view shelf.old).reach q }
+    ensures out_later { (K.view out.old).faults ≤ (K.view out.new).faults }
 {
     let front = showing.probed.flat.outputs.len() - showing.probed.instances.len();
     'samples: loop {

@@ -12,7 +12,7 @@ ghost use Rattle.pr_source.specs.Standing.{Stands};
 ghost use Rattle.pr_tool_modes.specs.Files.{IsInOrder, ShowsFault};
 ghost use Rattle.pr_tool_modes.specs.Programs.{inputs_of};
 ghost use Rattle.pr_lens_tracks.specs.Texts.{head_text};
-ghost use Rattle.pr_lens_signals.specs.Calls.{call};
+ghost use Rattle.pr_lens_signals.specs.Calls.{seen};
 ghost use Rattle.pr_lens_signals.specs.Manners.{AreKnown, IsForeign, IsUnknownOf, Manner, manner_of};
 ghost use Rattle.pr_lens_signals.specs.Reading.{IsLongFeed, IsPen, IsReady, IsSetUp, IsWriteCause};
 ghost use Rattle.pr_lens_signals.specs.Signals.{IsShown};
@@ -66,11 +66,11 @@ fn start_of(alloc: Global, showing: &Showing, pen: Pen, samples: &str) -> Result
 /// Writes all that stands before the first row.
 fn put_start<K: Sink>(alloc: Global, pen: &Pen, out: &mut K) -> Result<(), Answer>
     ensures all { OnOk result
-        (Appends (K.told out.old) (K.told out.new) (head_text pen.now.form pen.now.tracks.items)) }
+        (Appends (K.view out.old).told (K.view out.new).told (head_text pen.now.form pen.now.tracks.items)) }
     ensures front { OnErr result
-        (AppendsFront (K.told out.old) (K.told out.new) (head_text pen.now.form pen.now.tracks.items)) }
-    ensures cause { IfErr result (IsWriteCause (K.faults out.old) (K.faults out.new)) }
-    ensures later { K.faults out.old ≤ K.faults out.new }
+        (AppendsFront (K.view out.old).told (K.view out.new).told (head_text pen.now.form pen.now.tracks.items)) }
+    ensures cause { IfErr result (IsWriteCause (K.view out.old).faults (K.view out.new).faults) }
+    ensures later { (K.view out.old).faults ≤ (K.view out.new).faults }
 {
     let mut text = Vec::new(alloc);
     match put_head(&mut text, pen.form, &pen.tracks) {
@@ -91,15 +91,15 @@ fn show<S: Shelf, K: Sink>(
     requires ready { IsReady showing.now }
     requires pen { IsPen showing.now pen }
     ensures shown { (manner : Manner) → (program : Program) → offence program ≡ None
-        → IsSetUp manner program showing.now pen → IsShown manner samples.now program (call
-        (S.told shelf.old) (S.faults shelf.old) (S.faults shelf.new)
-        (K.told out.old) (K.told out.new) (K.faults out.old) (K.faults out.new)) result }
-    ensures fault { ShowsFault (S.faults shelf.old) (S.faults shelf.new) result }
-    ensures later { S.faults shelf.old ≤ S.faults shelf.new }
-    ensures same { S.told shelf.new ≡ S.told shelf.old }
-    ensures once { IsInOrder (S.reach shelf.old samples.now) (S.reach shelf.new samples.now) }
-    ensures others { (q : List ℕ) → q ≢ samples.now → S.reach shelf.new q ≡ S.reach shelf.old q }
-    ensures out_later { K.faults out.old ≤ K.faults out.new }
+        → IsSetUp manner program showing.now pen
+        → IsShown manner samples.now program
+        (seen (S.view shelf.old) (S.view shelf.new) (K.view out.old) (K.view out.new)) result }
+    ensures fault { ShowsFault (S.view shelf.old).faults (S.view shelf.new).faults result }
+    ensures later { (S.view shelf.old).faults ≤ (S.view shelf.new).faults }
+    ensures same { (S.view shelf.new).told ≡ (S.view shelf.old).told }
+    ensures once { IsInOrder ((S.view shelf.old).reach samples.now) ((S.view shelf.new).reach samples.now) }
+    ensures others { (q : List ℕ) → q ≢ samples.now → (S.view shelf.new).reach q ≡ (S.view shelf.old).reach q }
+    ensures out_later { (K.view out.old).faults ≤ (K.view out.new).faults }
 {
     let mut start = match start_of(alloc, showing, pen, samples) {
         Ok(start) => start,
@@ -148,21 +148,21 @@ pub fn signals<S: Shelf, K: Sink>(
     requires few { length (equations_of front.scoped.program).equations ≤ 16384 }
     requires widths { AreWidths (equations_of front.scoped.program).equations front.widths }
     // The text is that of the streams of the program's names on all samples of the file, or on the first of them.
-    ensures shown { IfOk result (λ answer. IsShown (manner_of style.now) samples.now front.scoped.program (call
-        (S.told shelf.old) (S.faults shelf.old) (S.faults shelf.new)
-        (K.told out.old) (K.told out.new) (K.faults out.old) (K.faults out.new)) answer) }
+    ensures shown { IfOk result
+        (λ answer. IsShown (manner_of style.now) samples.now front.scoped.program
+        (seen (S.view shelf.old) (S.view shelf.new) (K.view out.old) (K.view out.new)) answer) }
     // A read that fails is answered with ReadFault, and is not tried again.
-    ensures fault { IfOk result (ShowsFault (S.faults shelf.old) (S.faults shelf.new)) }
+    ensures fault { IfOk result (ShowsFault (S.view shelf.old).faults (S.view shelf.new).faults) }
     // A name that is to be shown as two's complement is that of no stream, and nothing is read or written.
     ensures foreign { IfErr result (λ e. IsForeign (manner_of style.now) front.scoped.program e.place) }
-    ensures unwritten { OnErr result (K.told out.new ≡ K.told out.old) }
-    ensures unread { OnErr result (S.faults shelf.new ≡ S.faults shelf.old) }
-    ensures later { S.faults shelf.old ≤ S.faults shelf.new }
-    ensures same { S.told shelf.new ≡ S.told shelf.old }
+    ensures unwritten { OnErr result ((K.view out.new).told ≡ (K.view out.old).told) }
+    ensures unread { OnErr result ((S.view shelf.new).faults ≡ (S.view shelf.old).faults) }
+    ensures later { (S.view shelf.old).faults ≤ (S.view shelf.new).faults }
+    ensures same { (S.view shelf.new).told ≡ (S.view shelf.old).told }
     // The file is read in order, and no byte of it twice.
-    ensures once { IsInOrder (S.reach shelf.old samples.now) (S.reach shelf.new samples.now) }
-    ensures others { (q : List ℕ) → q ≢ samples.now → S.reach shelf.new q ≡ S.reach shelf.old q }
-    ensures out_later { K.faults out.old ≤ K.faults out.new }
+    ensures once { IsInOrder ((S.view shelf.old).reach samples.now) ((S.view shelf.new).reach samples.now) }
+    ensures others { (q : List ℕ) → q ≢ samples.now → (S.view shelf.new).reach q ≡ (S.view shelf.old).reach q }
+    ensures out_later { (K.view out.old).faults ≤ (K.view out.new).faults }
 {
     let showing = match showing_of(alloc, front) {
         Ok(showing) => showing,

@@ -15,7 +15,8 @@ use Rattle.pr_machine.specs.Stands.{Stands, History, account_of}
 use Rattle.pr_run_script.specs.Script.{Held, script}
 use Rattle.pr_run_script.proofs.WholeLaws.{whole}
 use Rattle.pr_run.specs.declared.ending.RunEnd.{RunEnd}
-use Rattle.pr_run.specs.Setting.{Setting, View, IsSet, stages_of, pieces}
+use Rattle.pr_edge.specs.Files.{View}
+use Rattle.pr_run.specs.Setting.{Setting, IsSet, stages_of, pieces}
 use Rattle.pr_run.specs.Turns.{Going}
 use Rattle.pr_run.specs.Runs.{Ran, events_of}
 use Rattle.pr_move.specs.Still.{IsStill}

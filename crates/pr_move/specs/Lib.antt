@@ -1,2 +1,1 @@
-pub mod Untold
 pub mod Still

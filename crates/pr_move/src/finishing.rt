@@ -4,9 +4,9 @@ ghost use Rattle.pr_edge.specs.Files.{IsMissing, HasReadCause};
 ghost use Rattle.pr_samples.specs.Stall.{turns_left};
 ghost use Rattle.pr_samples.specs.Feed.{name_of, widths_of, given_of, most_of, place_of, SameFile, Tells};
 ghost use Rattle.pr_machine.specs.Stands.{Stands, conf_of, stripes_of};
-ghost use Rattle.pr_run.specs.Setting.{IsFresh, view, setting_of};
+ghost use Rattle.pr_run.specs.Setting.{IsFresh, setting_of};
 ghost use Rattle.pr_run.specs.Runs.{Ran, EndsRun, IsFault, IsCounted};
-ghost use Rattle.pr_move.specs.Untold.{untold};
+ghost use Rattle.pr_edge.specs.Tape.{untold};
 ghost use Rattle.pr_move.specs.Still.{IsStill};
 
 use crate::nowhere::Nowhere;
@@ -32,9 +32,8 @@ pub fn finish<const N: usize, const P: usize, S: Shelf>(
     requires turns { length (turns_left stall.old) ≤ 1048576 }
 
     // A run over a sink that tells nothing, which no write ends.
-    ensures ran { Ran (setting_of machine.old stall.old feed.old
-        (view (S.told shelf.old) (S.reach shelf.old) (S.faults shelf.old)) untold false)
-        machine.new feed.new (view (S.told shelf.new) (S.reach shelf.new) (S.faults shelf.new)) untold result }
+    ensures ran { Ran (setting_of machine.old stall.old feed.old (S.view shelf.old) untold false)
+        machine.new feed.new (S.view shelf.new) untold result }
     ensures writes { result ≢ RunEnd.WriteFault }
 
     // At the end nothing is under way, and as many samples have left as were fed.
@@ -43,12 +42,13 @@ pub fn finish<const N: usize, const P: usize, S: Shelf>(
     ensures most { given_of feed.new ≤ most_of feed.old }
 
     // How the file ends, where it is told.
-    ensures ends { (file : List ℕ) → Tells (S.told shelf.old) (name_of feed.old) file → EndsRun result feed.new file }
-    ensures missing { IsMissing (S.told shelf.old) (name_of feed.old) → IsFault result × (given_of feed.new ≡ 0) }
-    ensures reached { S.reach shelf.old (name_of feed.old) ≡ Some 0 →
-        S.reach shelf.new (name_of feed.old) ≡ Some (place_of feed.new) }
+    ensures ends { (file : List ℕ) → Tells (S.view shelf.old).told (name_of feed.old) file
+        → EndsRun result feed.new file }
+    ensures missing { IsMissing (S.view shelf.old).told (name_of feed.old) → IsFault result × (given_of feed.new ≡ 0) }
+    ensures reached { (S.view shelf.old).reach (name_of feed.old) ≡ Some 0 →
+        (S.view shelf.new).reach (name_of feed.old) ≡ Some (place_of feed.new) }
     ensures read_fault { result ≡ RunEnd.ReadFault →
-        HasReadCause (S.told shelf.old) (name_of feed.old) (S.faults shelf.old) (S.faults shelf.new) }
+        HasReadCause (S.view shelf.old).told (name_of feed.old) (S.view shelf.old).faults (S.view shelf.new).faults }
 
     // Without a stall text the numbers are exact.
     ensures counted { turns_left stall.old ≡ [] →
@@ -57,9 +57,9 @@ pub fn finish<const N: usize, const P: usize, S: Shelf>(
     ensures conf { machine.new.parts.conf ≡ machine.old.parts.conf }
     ensures stripes { stripes_of machine.new ≡ stripes_of machine.old }
     ensures file { SameFile feed.old feed.new }
-    ensures told { S.told shelf.new ≡ S.told shelf.old }
-    ensures others { (q : List ℕ) → q ≢ name_of feed.old → S.reach shelf.new q ≡ S.reach shelf.old q }
-    ensures shelf_later { S.faults shelf.old ≤ S.faults shelf.new }
+    ensures told { (S.view shelf.new).told ≡ (S.view shelf.old).told }
+    ensures others { (q : List ℕ) → q ≢ name_of feed.old → (S.view shelf.new).reach q ≡ (S.view shelf.old).reach q }
+    ensures shelf_later { (S.view shelf.old).faults ≤ (S.view shelf.new).faults }
 {
     let mut nowhere = Nowhere;
     run(machine, feed, shelf, stall, &mut nowhere, false, room)

@@ -2,7 +2,7 @@
 ghost use Rattle.std.proofs.Common.{arith};
 ghost use Rattle.std.specs.Prelude.{◌≡◌, ℕ, ◌^◌, ◌<◌, ◌≤◌, length, take, IfOk, IsOk, OnOk, OnErr};
 ghost use Rattle.pr_edge.specs.Count.{Rose};
-ghost use Rattle.pr_edge.specs.Tape.{Appends};
+ghost use Rattle.pr_edge.specs.Tape.{Appends, untold};
 
 use pr_edge::{Failed, Sink};
 
@@ -11,11 +11,7 @@ use pr_edge::{Failed, Sink};
 pub struct Nowhere;
 
 impl Sink for Nowhere {
-    ghost use Rattle.pr_move.specs.Untold.{untold};
-
-    ghost told = { λ _. untold };
-
-    ghost faults = { λ _. 0 };
+    ghost view = { λ _. record { told = untold; faults = 0 } };
 
     ghost counted = { λ _. Prim.omega arith };
 

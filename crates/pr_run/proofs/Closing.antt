@@ -14,7 +14,8 @@ use Rattle.pr_run_script.specs.Script.{Held, Run, waiting, read_next, reads, fed
 use Rattle.pr_run_script.specs.Counts.{IsPrefix}
 use Rattle.pr_run_script.proofs.RunLaws.{taken_account, offered_cycle, turned_going}
 use Rattle.pr_run_script.proofs.WholeLaws.{front_self, front_trans, closed_front}
-use Rattle.pr_run.specs.Setting.{Setting, View, IsSet, stages_of, pieces}
+use Rattle.pr_edge.specs.Files.{View}
+use Rattle.pr_run.specs.Setting.{Setting, IsSet, stages_of, pieces}
 use Rattle.pr_run.specs.Turns.{Going, HasDone, HasBegun, HasRead, MayFollow, run_at, drained, IsOn, IsDone, IsCut}
 use Rattle.pr_run.proofs.NextSamples.{follows_nil}
 

@@ -20,7 +20,8 @@ use Rattle.pr_run_script.proofs.TextLaws.{text-append, history_lines-append}
 use Rattle.pr_run_script.proofs.WholeLaws.{whole, front_self}
 use Rattle.pr_run.specs.declared.ending.RunEnd.{RunEnd}
 use Rattle.pr_run.specs.declared.ending.Finished.{Finished}
-use Rattle.pr_run.specs.Setting.{Setting, View, IsSet, stages_of, pieces}
+use Rattle.pr_edge.specs.Files.{View}
+use Rattle.pr_run.specs.Setting.{Setting, IsSet, stages_of, pieces}
 use Rattle.pr_run.specs.Turns.{Going, HasRead, IsCut}
 use Rattle.pr_run.specs.Runs.{script_run, IsFinished, events_of, lines_of, HasNumbers, IsWhole, IsAnswer, Ran}
 use Rattle.pr_run.proofs.Lines.{front_after, front_longer}

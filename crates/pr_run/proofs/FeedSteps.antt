@@ -12,7 +12,8 @@ use Rattle.pr_machine_account.specs.Account.{Account, Offer, account}
 use Rattle.pr_machine.specs.Stands.{Stands, History, waiting_samples}
 use Rattle.pr_run_script.specs.Script.{Held, Run, reads, read_next, fed}
 use Rattle.pr_run_script.proofs.RunLaws.{offered_account}
-use Rattle.pr_run.specs.Setting.{Setting, View, IsSet, stages_of, pieces}
+use Rattle.pr_edge.specs.Files.{View}
+use Rattle.pr_run.specs.Setting.{Setting, IsSet, stages_of, pieces}
 use Rattle.pr_run.specs.Turns.{Going, HasRead, run_at, IsOn}
 use Rattle.pr_run.proofs.Lines.{done_offer}
 use Rattle.pr_run.proofs.NextSamples.{IsNext, has_next, nothing_follows, rows_end}

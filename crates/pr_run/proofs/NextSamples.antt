@@ -2,13 +2,13 @@
 use Rattle.std.proofs.Common.{◌≡◌, ◌≢◌, ℕ, ◌+◌, ◌≤◌, true, false, List, [], ◌∷◌, ◌++◌, length, take, Some, refl, sym, ap, ◌∙◌, subst, arith, inl, inr, true≢false, slice_get}
 use Rattle.std.proofs.lemmas.List.{take_more, length-append}
 use Rattle.std.proofs.lemmas.Option.{get_or_from_slice_get, slice_get_within}
-use Rattle.pr_edge.specs.Files.{Told, IsMissing, HasReadCause}
+use Rattle.pr_edge.specs.Files.{Told, IsMissing, HasReadCause, View}
 use Rattle.pr_samples.specs.declared.feed.Feed.{Feed}
 use Rattle.pr_samples.specs.declared.feed.Got.{Got}
 use Rattle.pr_samples.specs.Fed.{Fed, fed_of}
 use Rattle.pr_samples.specs.Feed.{name_of, widths_of, given_of, place_of, reads_nothing, SameFile, Tells, fed, StandsFor, Gives}
 use Rattle.pr_samples.specs.Got.{is_sample, given_by}
-use Rattle.pr_run.specs.Setting.{Setting, View}
+use Rattle.pr_run.specs.Setting.{Setting}
 use Rattle.pr_run.specs.Turns.{IsRead, IsUnread, HasRead, MayFollow}
 
 -- what a feed answered, and what it and its shelf then are

@@ -4,7 +4,7 @@ use Rattle.std.proofs.lemmas.List.{length-map}
 use Rattle.pr_control.specs.Counts.{cycles_of}
 use Rattle.pr_base.specs.Rows.{row_bytes}
 use Rattle.pr_edge.specs.Tape.{Tape}
-use Rattle.pr_edge.specs.Files.{IsMissing, HasReadCause}
+use Rattle.pr_edge.specs.Files.{IsMissing, HasReadCause, View}
 use Rattle.pr_samples.specs.declared.feed.Feed.{Feed}
 use Rattle.pr_samples.specs.declared.feed.Got.{Got}
 use Rattle.pr_samples.specs.Feed.{name_of, widths_of, given_of, Tells}
@@ -14,7 +14,7 @@ use Rattle.pr_run_script.specs.Script.{Held, script}
 use Rattle.pr_run_script.specs.Counts.{cycles_in}
 use Rattle.pr_run_script.proofs.WholeLaws.{whole, counted}
 use Rattle.pr_run.specs.declared.ending.RunEnd.{RunEnd}
-use Rattle.pr_run.specs.Setting.{Setting, View, IsSet, stages_of, pieces}
+use Rattle.pr_run.specs.Setting.{Setting, IsSet, stages_of, pieces}
 use Rattle.pr_run.specs.Turns.{Going, EndsBy, IsUnread}
 use Rattle.pr_run.specs.Runs.{Ran, EndsRun, IsFault, IsCounted, HasNumbers, events_of}
 

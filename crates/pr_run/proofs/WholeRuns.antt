@@ -24,7 +24,8 @@ use Rattle.pr_run_script.proofs.RunLaws.{cycles-append, account_nil, turns_none,
 use Rattle.pr_run_script.proofs.EndLaws.{going_few, over_is_whole}
 use Rattle.pr_run_script.proofs.TextLaws.{history_lines_nil}
 use Rattle.pr_run_script.proofs.WholeLaws.{front_trans, turns_front, script_front}
-use Rattle.pr_run.specs.Setting.{Setting, View, IsFresh, IsSet, held_of, stages_of, pieces, setting_of}
+use Rattle.pr_edge.specs.Files.{View}
+use Rattle.pr_run.specs.Setting.{Setting, IsFresh, IsSet, held_of, stages_of, pieces, setting_of}
 use Rattle.pr_run.specs.Turns.{Going, IsOn, IsDone, IsCut}
 use Rattle.pr_run.specs.Runs.{IsFinished, script_run}
 use Rattle.pr_run.proofs.Lines.{nothing_appended}

@@ -4,7 +4,8 @@ use Rattle.pr_edge.specs.Tape.{Tape}
 use Rattle.pr_samples.specs.declared.feed.Feed.{Feed}
 use Rattle.pr_run_script.specs.Script.{Run}
 use Rattle.pr_run.specs.declared.turning.Turned.{Turned}
-use Rattle.pr_run.specs.Setting.{Setting, View}
+use Rattle.pr_edge.specs.Files.{View}
+use Rattle.pr_run.specs.Setting.{Setting}
 use Rattle.pr_run.specs.Turns.{Going, IsOn, IsDone, IsCut}
 
 -- after a turn that came to this, a run that was the first of these for each list of samples, and is the second, is so

@@ -15,7 +15,8 @@ use Rattle.pr_run_script.specs.Counts.{cycles_in, stalls_in, IsPrefix}
 use Rattle.pr_run_script.specs.Text.{history_lines, closing_lines, text_of, run_text}
 use Rattle.pr_run.specs.declared.ending.RunEnd.{RunEnd}
 use Rattle.pr_run.specs.declared.ending.Finished.{Finished}
-use Rattle.pr_run.specs.Setting.{Setting, View, stages_of, pieces}
+use Rattle.pr_edge.specs.Files.{View}
+use Rattle.pr_run.specs.Setting.{Setting, stages_of, pieces}
 use Rattle.pr_run.specs.Turns.{Going, HasDone, HasRead, MayFollow, IsCut}
 
 -- ---- before the last line

@@ -1,8 +1,8 @@
 -- What a run is given.
-use Rattle.std.specs.Prelude.{◌≡◌, ◌<◌, ◌≤◌, ◌^◌, ℕ, Bool, List, map, length, Option}
+use Rattle.std.specs.Prelude.{◌≡◌, ◌<◌, ◌≤◌, ◌^◌, ℕ, Bool, List, map, length}
 use Rattle.pr_base.specs.Limits.{most_stall_bytes}
 use Rattle.pr_base.specs.Rows.{row_bytes}
-use Rattle.pr_edge.specs.Files.{Told}
+use Rattle.pr_edge.specs.Files.{View}
 use Rattle.pr_edge.specs.Tape.{Tape}
 use Rattle.pr_samples.specs.declared.stall.Held.{Held as Sides}
 use Rattle.pr_samples.specs.declared.stall.Stall.{Stall}
@@ -23,15 +23,6 @@ held_of sides = record { input = sides.input; output = sides.output }
 -- the turns that a stall text has left
 abbrev pub stall_turns : Stall → List Held
 stall_turns stall = map held_of (turns_left stall)
-
--- what a shelf tells of its files, how far it says that each was read, and its count of faults
-pub record View : Type 0 where
-  pub told : Told
-  pub reach : List ℕ → Option ℕ
-  pub faults : ℕ
-
-abbrev pub view : Told → (List ℕ → Option ℕ) → ℕ → View
-view told reach faults = record { told = told; reach = reach; faults = faults }
 
 -- a configuration and its stripes, the turns of a stall text, a feed, what its shelf shows and what the sink tells, all
 -- as they are before the run, and whether the log is asked for

@@ -1,6 +1,6 @@
 -- What holds between the steps of a run's turns.
 use Rattle.std.specs.Prelude.{◌≡◌, ◌≢◌, ◌≤◌, ℕ, Bool, true, false, not, List, [], ◌++◌, length, take, replicate, ⊤, Some, if◌then◌else◌}
-use Rattle.pr_edge.specs.Files.{IsMissing, HasReadCause}
+use Rattle.pr_edge.specs.Files.{IsMissing, HasReadCause, View}
 use Rattle.pr_edge.specs.Tape.{Tape, Appends, AppendsFront}
 use Rattle.pr_log.specs.Lines.{end_line_of}
 use Rattle.pr_samples.specs.declared.feed.Feed.{Feed}
@@ -15,7 +15,7 @@ use Rattle.pr_machine.specs.Stands.{Stands, History}
 use Rattle.pr_run_script.specs.Script.{Run, waiting}
 use Rattle.pr_run_script.specs.Counts.{IsPrefix}
 use Rattle.pr_run_script.specs.Text.{history_lines, text_of}
-use Rattle.pr_run.specs.Setting.{Setting, View, stages_of, pieces}
+use Rattle.pr_run.specs.Setting.{Setting, stages_of, pieces}
 
 -- a running machine
 abbrev pub Going : ℕ → ℕ → Type 0

@@ -42,10 +42,11 @@ fn saved_row<const N: usize, const P: usize>(
 #[inline(never)]
 fn write_line<K: Sink>(out: &mut K, turn: &Turn, time: u64, state: &[u8]) -> Result<(), WriteFault>
     requires { length state.now ≤ 64 }
-    ensures all { OnOk result (Appends (K.told out.old) (K.told out.new) (line_of turn.now time state.now)) }
-    ensures front { OnErr result (AppendsFront (K.told out.old) (K.told out.new) (line_of turn.now time state.now)) }
-    ensures cause { OnErr result (Rose (K.faults out.old) (K.faults out.new)) }
-    ensures later { K.faults out.old ≤ K.faults out.new }
+    ensures all { OnOk result (Appends (K.view out.old).told (K.view out.new).told (line_of turn.now time state.now)) }
+    ensures front { OnErr result
+        (AppendsFront (K.view out.old).told (K.view out.new).told (line_of turn.now time state.now)) }
+    ensures cause { OnErr result (Rose (K.view out.old).faults (K.view out.new).faults) }
+    ensures later { (K.view out.old).faults ≤ (K.view out.new).faults }
 {
     let text = line(turn, time, state);
     write_all(out, text.as_bytes())
@@ -59,16 +60,16 @@ pub fn cycle_step<const N: usize, const P: usize, K: Sink, const LOG: bool>(
 ) -> Result<(), WriteFault>
     requires { time_of machine.old < 2 ^ 63 }
     ensures done { (s : Setting) (h : History) → IsSet s → (s.log ≡ LOG)
-        → HasDone s machine.old (K.told out.old) h
-        → OnOk result (HasDone s machine.new (K.told out.new) (h ++ Cycle ∷ [])) }
+        → HasDone s machine.old (K.view out.old).told h
+        → OnOk result (HasDone s machine.new (K.view out.new).told (h ++ Cycle ∷ [])) }
     ensures begun { (s : Setting) (h : History) → IsSet s → (s.log ≡ LOG)
-        → HasDone s machine.old (K.told out.old) h
-        → OnErr result (HasBegun s machine.new (K.told out.new) (h ++ Cycle ∷ [])) }
+        → HasDone s machine.old (K.view out.old).told h
+        → OnErr result (HasBegun s machine.new (K.view out.new).told (h ++ Cycle ∷ [])) }
     ensures conf { machine.new.parts.conf ≡ machine.old.parts.conf }
     ensures stripes { stripes_of machine.new ≡ stripes_of machine.old }
     ensures time { time_of machine.new ≤ time_of machine.old + 1 }
-    ensures cause { OnErr result (Rose (K.faults out.old) (K.faults out.new)) }
-    ensures later { K.faults out.old ≤ K.faults out.new }
+    ensures cause { OnErr result (Rose (K.view out.old).faults (K.view out.new).faults) }
+    ensures later { (K.view out.old).faults ≤ (K.view out.new).faults }
 {
     let time = machine.time();
     let turn = machine.cycle();

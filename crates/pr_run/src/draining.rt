@@ -41,15 +41,15 @@ fn write_one<const N: usize, const P: usize, K: Sink>(
     requires widths { widths.now ≡ output_widths (conf_of machine.old) }
     requires bytes { length bytes.old ≡ result_bytes_of machine.old }
     requires waiting { 0 < length (waiting_results machine.old) }
-    ensures done { (s : Setting) (h : History) → HasDone s machine.old (K.told out.old) h
-        → OnOk result (HasDone s machine.new (K.told out.new) (h ++ Take ∷ [])) }
-    ensures begun { (s : Setting) (h : History) → HasDone s machine.old (K.told out.old) h
-        → OnErr result (HasBegun s machine.new (K.told out.new) (h ++ Take ∷ [])) }
+    ensures done { (s : Setting) (h : History) → HasDone s machine.old (K.view out.old).told h
+        → OnOk result (HasDone s machine.new (K.view out.new).told (h ++ Take ∷ [])) }
+    ensures begun { (s : Setting) (h : History) → HasDone s machine.old (K.view out.old).told h
+        → OnErr result (HasBegun s machine.new (K.view out.new).told (h ++ Take ∷ [])) }
     ensures kept { IsKept machine.old machine.new }
     ensures fewer { length (waiting_results machine.new) + 1 ≡ length (waiting_results machine.old) }
     ensures length { length bytes.new ≡ length bytes.old }
-    ensures cause { OnErr result (Rose (K.faults out.old) (K.faults out.new)) }
-    ensures later { K.faults out.old ≤ K.faults out.new }
+    ensures cause { OnErr result (Rose (K.view out.old).faults (K.view out.new).faults) }
+    ensures later { (K.view out.old).faults ≤ (K.view out.new).faults }
 {
     machine.take(bytes).unwrap();
     put_result(out, widths, bytes)
@@ -65,13 +65,13 @@ fn drain<const N: usize, const P: usize, K: Sink>(
 ) -> Result<(), WriteFault>
     requires widths { widths.now ≡ output_widths (conf_of machine.old) }
     requires bytes { length bytes.old ≡ result_bytes_of machine.old }
-    ensures done { (s : Setting) (h : History) → HasDone s machine.old (K.told out.old) h
-        → OnOk result (HasDone s machine.new (K.told out.new) (all_taken s h)) }
-    ensures begun { (s : Setting) (h : History) → HasDone s machine.old (K.told out.old) h
-        → OnErr result (HasBegun s machine.new (K.told out.new) (all_taken s h)) }
+    ensures done { (s : Setting) (h : History) → HasDone s machine.old (K.view out.old).told h
+        → OnOk result (HasDone s machine.new (K.view out.new).told (all_taken s h)) }
+    ensures begun { (s : Setting) (h : History) → HasDone s machine.old (K.view out.old).told h
+        → OnErr result (HasBegun s machine.new (K.view out.new).told (all_taken s h)) }
     ensures kept { IsKept machine.old machine.new }
-    ensures cause { OnErr result (Rose (K.faults out.old) (K.faults out.new)) }
-    ensures later { K.faults out.old ≤ K.faults out.new }
+    ensures cause { OnErr result (Rose (K.view out.old).faults (K.view out.new).faults) }
+    ensures later { (K.view out.old).faults ≤ (K.view out.new).faults }
 {
     for _ in 0..machine.waiting_out() {
         match write_one(machine, out, widths, bytes) {
@@ -93,13 +93,13 @@ pub fn drain_step<const N: usize, const P: usize, K: Sink>(
 ) -> Result<(), WriteFault>
     requires widths { widths.now ≡ output_widths (conf_of machine.old) }
     requires bytes { length bytes.old ≡ 1024 }
-    ensures done { (s : Setting) (h : History) → HasDone s machine.old (K.told out.old) h
-        → OnOk result (HasDone s machine.new (K.told out.new) (drained held s h)) }
-    ensures begun { (s : Setting) (h : History) → HasDone s machine.old (K.told out.old) h
-        → OnErr result (HasBegun s machine.new (K.told out.new) (drained held s h)) }
+    ensures done { (s : Setting) (h : History) → HasDone s machine.old (K.view out.old).told h
+        → OnOk result (HasDone s machine.new (K.view out.new).told (drained held s h)) }
+    ensures begun { (s : Setting) (h : History) → HasDone s machine.old (K.view out.old).told h
+        → OnErr result (HasBegun s machine.new (K.view out.new).told (drained held s h)) }
     ensures kept { IsKept machine.old machine.new }
-    ensures cause { OnErr result (Rose (K.faults out.old) (K.faults out.new)) }
-    ensures later { K.faults out.old ≤ K.faults out.new }
+    ensures cause { OnErr result (Rose (K.view out.old).faults (K.view out.new).faults) }
+    ensures later { (K.view out.old).faults ≤ (K.view out.new).faults }
 {
     if held {
         return Ok(());

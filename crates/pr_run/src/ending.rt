@@ -5,7 +5,8 @@ ghost use Rattle.pr_edge.specs.Tape.{Appends, AppendsFront};
 ghost use Rattle.pr_samples.specs.declared.feed.Feed.{Feed};
 ghost use Rattle.pr_samples.specs.Got.{is_sample};
 ghost use Rattle.pr_machine.specs.Stands.{time_of};
-ghost use Rattle.pr_run.specs.Setting.{Setting, View, IsSet};
+ghost use Rattle.pr_edge.specs.Files.{View};
+ghost use Rattle.pr_run.specs.Setting.{Setting, IsSet};
 ghost use Rattle.pr_run.specs.Turns.{logged_end};
 ghost use Rattle.pr_run.specs.Runs.{IsEnded, IsFinished, Ran};
 
@@ -52,11 +53,12 @@ fn write_end<K: Sink>(
     stalls: u64,
     results: u64,
 ) -> Result<(), WriteFault>
-    ensures all { OnOk result (Appends (K.told out.old) (K.told out.new) (logged_end log cycles stalls results)) }
+    ensures all { OnOk result
+        (Appends (K.view out.old).told (K.view out.new).told (logged_end log cycles stalls results)) }
     ensures front { OnErr result
-        (AppendsFront (K.told out.old) (K.told out.new) (logged_end log cycles stalls results)) }
-    ensures cause { OnErr result (Rose (K.faults out.old) (K.faults out.new)) }
-    ensures later { K.faults out.old ≤ K.faults out.new }
+        (AppendsFront (K.view out.old).told (K.view out.new).told (logged_end log cycles stalls results)) }
+    ensures cause { OnErr result (Rose (K.view out.old).faults (K.view out.new).faults) }
+    ensures later { (K.view out.old).faults ≤ (K.view out.new).faults }
 {
     if !log {
         return Ok(());
@@ -74,10 +76,10 @@ fn close<const N: usize, const P: usize, K: Sink>(
 ) -> RunEnd
     requires { time_of machine.now ≤ asked }
     ensures ran { (s : Setting) (f : Feed) (now : View) → IsSet s → s.log ≡ log
-        → IsFinished s machine.now f now (K.told out.old) (record { last = Got.End; asked = asked })
-        → Ran s machine.now f now (K.told out.new) result }
-    ensures cause { result ≡ RunEnd.WriteFault → Rose (K.faults out.old) (K.faults out.new) }
-    ensures later { K.faults out.old ≤ K.faults out.new }
+        → IsFinished s machine.now f now (K.view out.old).told (record { last = Got.End; asked = asked })
+        → Ran s machine.now f now (K.view out.new).told result }
+    ensures cause { result ≡ RunEnd.WriteFault → Rose (K.view out.old).faults (K.view out.new).faults }
+    ensures later { (K.view out.old).faults ≤ (K.view out.new).faults }
 {
     let cycles = machine.time();
     let results = machine.left();
@@ -102,10 +104,10 @@ pub fn finish<const N: usize, const P: usize, K: Sink>(
     requires ended { IfOk end (λ e. is_sample e.last ≡ false) }
     requires asked { IfOk end (λ e. time_of machine.now ≤ e.asked) }
     ensures ran { (s : Setting) (f : Feed) (now : View) → IsSet s → s.log ≡ log
-        → IsEnded s machine.now f now (K.told out.old) end → Ran s machine.now f now (K.told out.new) result }
-    ensures cause { (before : ℕ) → before ≤ K.faults out.old → OnErr end (Rose before (K.faults out.old))
-        → result ≡ RunEnd.WriteFault → Rose before (K.faults out.new) }
-    ensures later { K.faults out.old ≤ K.faults out.new }
+        → IsEnded s machine.now f now (K.view out.old).told end → Ran s machine.now f now (K.view out.new).told result }
+    ensures cause { (before : ℕ) → before ≤ (K.view out.old).faults → OnErr end (Rose before (K.view out.old).faults)
+        → result ≡ RunEnd.WriteFault → Rose before (K.view out.new).faults }
+    ensures later { (K.view out.old).faults ≤ (K.view out.new).faults }
 {
     match end {
         Err(_) => RunEnd::WriteFault,

@@ -9,7 +9,7 @@ ghost use Rattle.pr_machine_account.specs.Account.{Offer};
 ghost use Rattle.pr_conf.specs.Shape.{Shape};
 ghost use Rattle.pr_machine.specs.Stands.{Stands, History, conf_of, waiting_samples, IsKept};
 ghost use Rattle.pr_run_script.specs.Script.{Held, Run, fed};
-ghost use Rattle.pr_run.specs.Setting.{Setting, IsSet, view, stages_of};
+ghost use Rattle.pr_run.specs.Setting.{Setting, IsSet, stages_of};
 ghost use Rattle.pr_run.specs.Turns.{IsOn};
 
 use crate::rooms::Room;
@@ -101,10 +101,8 @@ fn read_one<const N: usize, const P: usize, S: Shelf>(
     requires room { length (waiting_samples machine.old) < 16 }
     ensures on { (s : Setting) (runs : List (List ℕ) → Run (List ℕ)) (turn : Held) (t : Tape)
         → IsSet s → turn.input ≡ false
-        → IsOn s runs machine.old feed.old
-        (view (S.told shelf.old) (S.reach shelf.old) (S.faults shelf.old)) t Got.Sample
-        → IsOn s (λ xs. fed (stages_of s) s.stripes turn (runs xs)) machine.new feed.new
-        (view (S.told shelf.new) (S.reach shelf.new) (S.faults shelf.new)) t result }
+        → IsOn s runs machine.old feed.old (S.view shelf.old) t Got.Sample
+        → IsOn s (λ xs. fed (stages_of s) s.stripes turn (runs xs)) machine.new feed.new (S.view shelf.new) t result }
     ensures inputs { widths_of feed.new ≡ widths_of feed.old }
     ensures kept { IsKept machine.old machine.new }
     ensures bytes { length bytes.new ≡ 64 }
@@ -131,10 +129,8 @@ fn read_sample<const N: usize, const P: usize, S: Shelf>(
     requires room { length (waiting_samples machine.old) < 16 }
     ensures on { (s : Setting) (runs : List (List ℕ) → Run (List ℕ)) (turn : Held) (t : Tape)
         → IsSet s → turn.input ≡ false
-        → IsOn s runs machine.old feed.old
-        (view (S.told shelf.old) (S.reach shelf.old) (S.faults shelf.old)) t Got.Sample
-        → IsOn s (λ xs. fed (stages_of s) s.stripes turn (runs xs)) machine.new feed.new
-        (view (S.told shelf.new) (S.reach shelf.new) (S.faults shelf.new)) t result }
+        → IsOn s runs machine.old feed.old (S.view shelf.old) t Got.Sample
+        → IsOn s (λ xs. fed (stages_of s) s.stripes turn (runs xs)) machine.new feed.new (S.view shelf.new) t result }
     ensures inputs { widths_of feed.new ≡ widths_of feed.old }
     ensures kept { IsKept machine.old machine.new }
 {
@@ -157,9 +153,8 @@ pub fn feed_step<const N: usize, const P: usize, S: Shelf>(
     requires { widths_of feed.old ≡ (conf_of machine.old).inputs }
     ensures on { (s : Setting) (runs : List (List ℕ) → Run (List ℕ)) (turn : Held) (t : Tape)
         → IsSet s → turn.input ≡ held
-        → IsOn s runs machine.old feed.old (view (S.told shelf.old) (S.reach shelf.old) (S.faults shelf.old)) t last
-        → IsOn s (λ xs. fed (stages_of s) s.stripes turn (runs xs)) machine.new feed.new
-        (view (S.told shelf.new) (S.reach shelf.new) (S.faults shelf.new)) t result }
+        → IsOn s runs machine.old feed.old (S.view shelf.old) t last
+        → IsOn s (λ xs. fed (stages_of s) s.stripes turn (runs xs)) machine.new feed.new (S.view shelf.new) t result }
     ensures inputs { widths_of feed.new ≡ widths_of feed.old }
     ensures kept { IsKept machine.old machine.new }
 {

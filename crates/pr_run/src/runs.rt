@@ -8,7 +8,7 @@ ghost use Rattle.pr_samples.specs.Got.{is_sample};
 ghost use Rattle.pr_samples.specs.Feed.{name_of, widths_of, given_of, place_of, SameFile, Tells};
 ghost use Rattle.pr_conf.specs.Through.{output_widths};
 ghost use Rattle.pr_machine.specs.Stands.{Stands, conf_of, stripes_of, time_of};
-ghost use Rattle.pr_run.specs.Setting.{Setting, IsFresh, view, setting_of};
+ghost use Rattle.pr_run.specs.Setting.{Setting, IsFresh, setting_of};
 ghost use Rattle.pr_run.specs.Runs.{IsEnded, Ran, EndsRun, IsFault, IsCounted};
 
 use crate::draining::put_widths;
@@ -37,16 +37,14 @@ impl<'a> Walk<'a> {
         requires turns { length (turns_left stall.old) ≤ 1048576 }
         requires first { self.old.last ≡ Got.Sample }
         ensures ended { (s : Setting)
-            → s ≡ setting_of machine.old stall.old feed.old
-            (view (S.told shelf.old) (S.reach shelf.old) (S.faults shelf.old)) (K.told out.old) LOG
-            → IsEnded s machine.new feed.new
-            (view (S.told shelf.new) (S.reach shelf.new) (S.faults shelf.new)) (K.told out.new) result }
+            → s ≡ setting_of machine.old stall.old feed.old (S.view shelf.old) (K.view out.old).told LOG
+            → IsEnded s machine.new feed.new (S.view shelf.new) (K.view out.new).told result }
         ensures last { IfOk result (λ e. is_sample e.last ≡ false) }
         ensures asked { IfOk result (λ e. time_of machine.new ≤ e.asked) }
         ensures conf { machine.new.parts.conf ≡ machine.old.parts.conf }
         ensures stripes { stripes_of machine.new ≡ stripes_of machine.old }
-        ensures cause { OnErr result (Rose (K.faults out.old) (K.faults out.new)) }
-        ensures later { K.faults out.old ≤ K.faults out.new }
+        ensures cause { OnErr result (Rose (K.view out.old).faults (K.view out.new).faults) }
+        ensures later { (K.view out.old).faults ≤ (K.view out.new).faults }
     {
         let mut asked = 0;
         loop {
@@ -76,16 +74,14 @@ impl<'a> Walk<'a> {
         requires turns { length (turns_left stall.old) ≤ 1048576 }
         requires first { self.old.last ≡ Got.Sample }
         ensures ended { (s : Setting)
-            → s ≡ setting_of machine.old stall.old feed.old
-            (view (S.told shelf.old) (S.reach shelf.old) (S.faults shelf.old)) (K.told out.old) self.old.log
-            → IsEnded s machine.new feed.new
-            (view (S.told shelf.new) (S.reach shelf.new) (S.faults shelf.new)) (K.told out.new) result }
+            → s ≡ setting_of machine.old stall.old feed.old (S.view shelf.old) (K.view out.old).told self.old.log
+            → IsEnded s machine.new feed.new (S.view shelf.new) (K.view out.new).told result }
         ensures last { IfOk result (λ e. is_sample e.last ≡ false) }
         ensures asked { IfOk result (λ e. time_of machine.new ≤ e.asked) }
         ensures conf { machine.new.parts.conf ≡ machine.old.parts.conf }
         ensures stripes { stripes_of machine.new ≡ stripes_of machine.old }
-        ensures cause { OnErr result (Rose (K.faults out.old) (K.faults out.new)) }
-        ensures later { K.faults out.old ≤ K.faults out.new }
+        ensures cause { OnErr result (Rose (K.view out.old).faults (K.view out.new).faults) }
+        ensures later { (K.view out.old).faults ≤ (K.view out.new).faults }
     {
         if self.log {
             self.turn_until_over::<N, P, S, K, true>(machine, feed, shelf, stall, out)
@@ -123,20 +119,19 @@ pub fn run<const N: usize, const P: usize, S: Shelf, K: Sink>(
 
     // The machine, the text, the number of cycles and the answer, over the samples that the feed gave.
     ensures ran { Ran
-        (setting_of machine.old stall.old feed.old
-        (view (S.told shelf.old) (S.reach shelf.old) (S.faults shelf.old)) (K.told out.old) log)
-        machine.new feed.new
-        (view (S.told shelf.new) (S.reach shelf.new) (S.faults shelf.new)) (K.told out.new) result }
+        (setting_of machine.old stall.old feed.old (S.view shelf.old) (K.view out.old).told log) machine.new feed.new
+        (S.view shelf.new) (K.view out.new).told result }
 
     // How the file ends, where it is told.
-    ensures ends { (file : List ℕ) → Tells (S.told shelf.old) (name_of feed.old) file → EndsRun result feed.new file }
-    ensures missing { IsMissing (S.told shelf.old) (name_of feed.old) → IsFault result × (given_of feed.new ≡ 0) }
-    ensures reached { S.reach shelf.old (name_of feed.old) ≡ Some 0
-        → S.reach shelf.new (name_of feed.old) ≡ Some (place_of feed.new) }
+    ensures ends { (file : List ℕ) → Tells (S.view shelf.old).told (name_of feed.old) file
+        → EndsRun result feed.new file }
+    ensures missing { IsMissing (S.view shelf.old).told (name_of feed.old) → IsFault result × (given_of feed.new ≡ 0) }
+    ensures reached { (S.view shelf.old).reach (name_of feed.old) ≡ Some 0
+        → (S.view shelf.new).reach (name_of feed.old) ≡ Some (place_of feed.new) }
 
     ensures read_fault { result ≡ RunEnd.ReadFault
-        → HasReadCause (S.told shelf.old) (name_of feed.old) (S.faults shelf.old) (S.faults shelf.new) }
-    ensures write_fault { result ≡ RunEnd.WriteFault → Rose (K.faults out.old) (K.faults out.new) }
+        → HasReadCause (S.view shelf.old).told (name_of feed.old) (S.view shelf.old).faults (S.view shelf.new).faults }
+    ensures write_fault { result ≡ RunEnd.WriteFault → Rose (K.view out.old).faults (K.view out.new).faults }
 
     // Without a stall text the numbers are exact.
     ensures counted { turns_left stall.old ≡ []
@@ -145,10 +140,10 @@ pub fn run<const N: usize, const P: usize, S: Shelf, K: Sink>(
     ensures conf { machine.new.parts.conf ≡ machine.old.parts.conf }
     ensures stripes { stripes_of machine.new ≡ stripes_of machine.old }
     ensures file { SameFile feed.old feed.new }
-    ensures told { S.told shelf.new ≡ S.told shelf.old }
-    ensures others { (q : List ℕ) → q ≢ name_of feed.old → S.reach shelf.new q ≡ S.reach shelf.old q }
-    ensures shelf_later { S.faults shelf.old ≤ S.faults shelf.new }
-    ensures out_later { K.faults out.old ≤ K.faults out.new }
+    ensures told { (S.view shelf.new).told ≡ (S.view shelf.old).told }
+    ensures others { (q : List ℕ) → q ≢ name_of feed.old → (S.view shelf.new).reach q ≡ (S.view shelf.old).reach q }
+    ensures shelf_later { (S.view shelf.old).faults ≤ (S.view shelf.new).faults }
+    ensures out_later { (K.view out.old).faults ≤ (K.view out.new).faults }
 {
     let mut widths = [0; 64];
     let count = put_widths(&mut widths, machine.conf());

@@ -8,7 +8,8 @@ ghost use Rattle.pr_conf.specs.Shape.{Shape};
 ghost use Rattle.pr_conf.specs.Through.{output_widths};
 ghost use Rattle.pr_machine.specs.Stands.{Stands, History, account_of, conf_of, stripes_of, time_of};
 ghost use Rattle.pr_run_script.specs.Script.{Run, waiting, closed, turned};
-ghost use Rattle.pr_run.specs.Setting.{Setting, View, IsSet, view, stages_of, held_of};
+ghost use Rattle.pr_edge.specs.Files.{View};
+ghost use Rattle.pr_run.specs.Setting.{Setting, IsSet, stages_of, held_of};
 ghost use Rattle.pr_run.specs.Turns.{IsOn};
 ghost use Rattle.pr_run.specs.Outcomes.{IsTurned, has_failed, cycles_by};
 
@@ -58,13 +59,13 @@ fn close_turn<const N: usize, const P: usize, K: Sink, const LOG: bool>(
     ensures after { (s : Setting) (first runs next : List (List ℕ) → Run (List ℕ)) (now : View) → IsSet s → s.log ≡ LOG
         → ((xs : List (List ℕ)) → (runs xs).over ≡ false
         → ((first xs).over ≡ false) × (next xs ≡ closed (stages_of s) s.stripes (runs xs)))
-        → IsOn s runs machine.old feed.now now (K.told out.old) last
-        → IsTurned s first next machine.new feed.now now (K.told out.new) result }
+        → IsOn s runs machine.old feed.now now (K.view out.old).told last
+        → IsTurned s first next machine.new feed.now now (K.view out.new).told result }
     ensures conf { machine.new.parts.conf ≡ machine.old.parts.conf }
     ensures stripes { stripes_of machine.new ≡ stripes_of machine.old }
     ensures time { time_of machine.new ≤ time_of machine.old + cycles_by result }
-    ensures cause { has_failed result ≡ true → Rose (K.faults out.old) (K.faults out.new) }
-    ensures later { K.faults out.old ≤ K.faults out.new }
+    ensures cause { has_failed result ≡ true → Rose (K.view out.old).faults (K.view out.new).faults }
+    ensures later { (K.view out.old).faults ≤ (K.view out.new).faults }
 {
     if is_over(machine, feed, last) {
         return Turned::Over { last };
@@ -105,18 +106,16 @@ impl<'a> Walk<'a> {
         requires time { time_of machine.old < 2 ^ 63 }
         ensures after { (s : Setting) (first next : List (List ℕ) → Run (List ℕ)) → IsSet s → s.log ≡ LOG
             → ((xs : List (List ℕ)) → next xs ≡ turned (stages_of s) s.stripes (held_of held) (first xs))
-            → IsOn s first machine.old feed.old
-            (view (S.told shelf.old) (S.reach shelf.old) (S.faults shelf.old)) (K.told out.old) self.old.last
-            → IsTurned s first next machine.new feed.new
-            (view (S.told shelf.new) (S.reach shelf.new) (S.faults shelf.new)) (K.told out.new) result }
+            → IsOn s first machine.old feed.old (S.view shelf.old) (K.view out.old).told self.old.last
+            → IsTurned s first next machine.new feed.new (S.view shelf.new) (K.view out.new).told result }
         ensures log { self.new.log ≡ self.old.log }
         ensures widths { self.new.widths.now ≡ self.old.widths.now }
         ensures inputs { widths_of feed.new ≡ widths_of feed.old }
         ensures conf { machine.new.parts.conf ≡ machine.old.parts.conf }
         ensures stripes { stripes_of machine.new ≡ stripes_of machine.old }
         ensures time { time_of machine.new ≤ time_of machine.old + cycles_by result }
-        ensures cause { has_failed result ≡ true → Rose (K.faults out.old) (K.faults out.new) }
-        ensures later { K.faults out.old ≤ K.faults out.new }
+        ensures cause { has_failed result ≡ true → Rose (K.view out.old).faults (K.view out.new).faults }
+        ensures later { (K.view out.old).faults ≤ (K.view out.new).faults }
     {
         let room = &mut *self.room;
         let last = feed_step(machine, feed, shelf, room, held.input, self.last);

@@ -180,7 +180,8 @@ impl Feed {
     fn take_front(&mut self) -> bool
         ensures found { IsTrue result → (more : List ℕ) →
             Found (Lawful self.new.front.items) self.new.passed (pending_of self.new ++ more)
-            ≡ first_line (widths_of self.old) (fresh (widths_of self.old)) self.old.passed (pending_of self.old ++ more) }
+            ≡ first_line (widths_of self.old) (fresh (widths_of self.old)) self.old.passed
+            (pending_of self.old ++ more) }
         ensures passed { (result ≡ false) → self.new.passed ≡ self.old.passed }
         ensures pending { (result ≡ false) → pending_of self.new ≡ pending_of self.old }
         ensures file { SameFile self.old self.new }
@@ -335,21 +336,22 @@ impl Feed {
         requires spent { self.old.start ≡ self.old.end }
         requires open { self.old.tail ≡ Tail.Open }
         requires fresh { cursor.phase ≢ Phase.Wrong }
-        ensures seen { (bytes : List ℕ) → IsSeen (S.told shelf.old) bytes self.old
-            → ReadsOn (S.told shelf.old) bytes self.old self.new
+        ensures seen { (bytes : List ℕ) → IsSeen (S.view shelf.old).told bytes self.old
+            → ReadsOn (S.view shelf.old).told bytes self.old self.new
             (λ file. IsReadTo self.old cursor file → GivesNext result self.old self.new into.new file) }
         ensures given { given_of self.new ≡ given_of self.old + given_by result }
         ensures into { (is_sample result ≡ false) → into.new ≡ into.old }
         ensures file { SameFile self.old self.new }
         ensures cause { result ≡ Got.ReadFault
-            → HasReadCause (S.told shelf.old) (name_of self.old) (S.faults shelf.old) (S.faults shelf.new) }
-        ensures missing { IsMissing (S.told shelf.old) (name_of self.old) → result ≡ Got.ReadFault }
-        ensures steady { result ≢ Got.ReadFault → S.faults shelf.new ≡ S.faults shelf.old }
-        ensures later { S.faults shelf.old ≤ S.faults shelf.new }
-        ensures same { S.told shelf.new ≡ S.told shelf.old }
-        ensures reached { S.reach shelf.old (name_of self.old) ≡ Some (place_of self.old)
-            → S.reach shelf.new (name_of self.old) ≡ Some (place_of self.new) }
-        ensures others { (q : List ℕ) → q ≢ name_of self.old → S.reach shelf.new q ≡ S.reach shelf.old q }
+            → HasReadCause (S.view shelf.old).told (name_of self.old) (S.view shelf.old).faults
+            (S.view shelf.new).faults }
+        ensures missing { IsMissing (S.view shelf.old).told (name_of self.old) → result ≡ Got.ReadFault }
+        ensures steady { result ≢ Got.ReadFault → (S.view shelf.new).faults ≡ (S.view shelf.old).faults }
+        ensures later { (S.view shelf.old).faults ≤ (S.view shelf.new).faults }
+        ensures same { (S.view shelf.new).told ≡ (S.view shelf.old).told }
+        ensures reached { (S.view shelf.old).reach (name_of self.old) ≡ Some (place_of self.old)
+            → (S.view shelf.new).reach (name_of self.old) ≡ Some (place_of self.new) }
+        ensures others { (q : List ℕ) → q ≢ name_of self.old → (S.view shelf.new).reach q ≡ (S.view shelf.old).reach q }
     {
         let mut cursor = cursor;
         while self.tail.is_open() {
@@ -375,25 +377,27 @@ impl Feed {
     #[inline(never)]
     fn next_line<S: Shelf>(&mut self, shelf: &mut S, into: &mut [Num]) -> Got
         requires { length into.old ≡ length (widths_of self.old) }
-        ensures told { (file : List ℕ) → Tells (S.told shelf.old) (name_of self.old) file → StandsFor self.old file
+        ensures told { (file : List ℕ) → Tells (S.view shelf.old).told (name_of self.old) file → StandsFor self.old file
             → GivesNext result self.old self.new into.new file }
-        ensures seen { (bytes : List ℕ) → IsSeen (S.told shelf.old) bytes self.old
-            → ReadsOn (S.told shelf.old) bytes self.old self.new
+        ensures seen { (bytes : List ℕ) → IsSeen (S.view shelf.old).told bytes self.old
+            → ReadsOn (S.view shelf.old).told bytes self.old self.new
             (λ file. StandsFor self.old file → GivesNext result self.old self.new into.new file) }
         ensures given { given_of self.new ≡ given_of self.old + given_by result }
         ensures into { (is_sample result ≡ false) → into.new ≡ into.old }
         ensures file { SameFile self.old self.new }
         ensures cause { result ≡ Got.ReadFault
-            → HasReadCause (S.told shelf.old) (name_of self.old) (S.faults shelf.old) (S.faults shelf.new) }
-        ensures missing { IsMissing (S.told shelf.old) (name_of self.old) → reads_nothing self.old →
+            → HasReadCause (S.view shelf.old).told (name_of self.old) (S.view shelf.old).faults
+            (S.view shelf.new).faults }
+        ensures missing { IsMissing (S.view shelf.old).told (name_of self.old) → reads_nothing self.old →
             result ≡ Got.ReadFault }
-        ensures quiet { IsReady self.old → (S.faults shelf.new ≡ S.faults shelf.old) × (result ≢ Got.ReadFault) }
-        ensures steady { result ≢ Got.ReadFault → S.faults shelf.new ≡ S.faults shelf.old }
-        ensures later { S.faults shelf.old ≤ S.faults shelf.new }
-        ensures same { S.told shelf.new ≡ S.told shelf.old }
-        ensures reached { S.reach shelf.old (name_of self.old) ≡ Some (place_of self.old)
-            → S.reach shelf.new (name_of self.old) ≡ Some (place_of self.new) }
-        ensures others { (q : List ℕ) → q ≢ name_of self.old → S.reach shelf.new q ≡ S.reach shelf.old q }
+        ensures quiet { IsReady self.old → ((S.view shelf.new).faults ≡ (S.view shelf.old).faults)
+            × (result ≢ Got.ReadFault) }
+        ensures steady { result ≢ Got.ReadFault → (S.view shelf.new).faults ≡ (S.view shelf.old).faults }
+        ensures later { (S.view shelf.old).faults ≤ (S.view shelf.new).faults }
+        ensures same { (S.view shelf.new).told ≡ (S.view shelf.old).told }
+        ensures reached { (S.view shelf.old).reach (name_of self.old) ≡ Some (place_of self.old)
+            → (S.view shelf.new).reach (name_of self.old) ≡ Some (place_of self.new) }
+        ensures others { (q : List ℕ) → q ≢ name_of self.old → (S.view shelf.new).reach q ≡ (S.view shelf.old).reach q }
     {
         let (cursor, met) = self.meet(START);
         if let Some(met) = met {
@@ -420,12 +424,12 @@ impl Feed {
         requires { length into.old ≡ length (widths_of self.old) }
 
         // Where the bytes of the file are told, and the feed has given its first samples.
-        ensures told { (file : List ℕ) → Tells (S.told shelf.old) (name_of self.old) file → StandsFor self.old file
+        ensures told { (file : List ℕ) → Tells (S.view shelf.old).told (name_of self.old) file → StandsFor self.old file
             → GivesNext result self.old self.new into.new file }
 
         // Where they are not told too, they are bytes of some file, and the sample is that of every file that begins so.
-        ensures seen { (bytes : List ℕ) → IsSeen (S.told shelf.old) bytes self.old
-            → ReadsOn (S.told shelf.old) bytes self.old self.new
+        ensures seen { (bytes : List ℕ) → IsSeen (S.view shelf.old).told bytes self.old
+            → ReadsOn (S.view shelf.old).told bytes self.old self.new
             (λ file. StandsFor self.old file → GivesNext result self.old self.new into.new file) }
 
         ensures given { given_of self.new ≡ given_of self.old + given_by result }
@@ -433,19 +437,21 @@ impl Feed {
         ensures file { SameFile self.old self.new }
 
         ensures cause { result ≡ Got.ReadFault
-            → HasReadCause (S.told shelf.old) (name_of self.old) (S.faults shelf.old) (S.faults shelf.new) }
-        ensures missing { IsMissing (S.told shelf.old) (name_of self.old) → reads_nothing self.old →
+            → HasReadCause (S.view shelf.old).told (name_of self.old) (S.view shelf.old).faults
+            (S.view shelf.new).faults }
+        ensures missing { IsMissing (S.view shelf.old).told (name_of self.old) → reads_nothing self.old →
             result ≡ Got.ReadFault }
-        ensures quiet { IsReady self.old → (S.faults shelf.new ≡ S.faults shelf.old) × (result ≢ Got.ReadFault) }
+        ensures quiet { IsReady self.old → ((S.view shelf.new).faults ≡ (S.view shelf.old).faults)
+            × (result ≢ Got.ReadFault) }
 
         // A read that fails is not tried again: it is answered with ReadFault.
-        ensures steady { result ≢ Got.ReadFault → S.faults shelf.new ≡ S.faults shelf.old }
-        ensures later { S.faults shelf.old ≤ S.faults shelf.new }
+        ensures steady { result ≢ Got.ReadFault → (S.view shelf.new).faults ≡ (S.view shelf.old).faults }
+        ensures later { (S.view shelf.old).faults ≤ (S.view shelf.new).faults }
 
-        ensures same { S.told shelf.new ≡ S.told shelf.old }
-        ensures reached { S.reach shelf.old (name_of self.old) ≡ Some (place_of self.old)
-            → S.reach shelf.new (name_of self.old) ≡ Some (place_of self.new) }
-        ensures others { (q : List ℕ) → q ≢ name_of self.old → S.reach shelf.new q ≡ S.reach shelf.old q }
+        ensures same { (S.view shelf.new).told ≡ (S.view shelf.old).told }
+        ensures reached { (S.view shelf.old).reach (name_of self.old) ≡ Some (place_of self.old)
+            → (S.view shelf.new).reach (name_of self.old) ≡ Some (place_of self.new) }
+        ensures others { (q : List ℕ) → q ≢ name_of self.old → (S.view shelf.new).reach q ≡ (S.view shelf.old).reach q }
     {
         if self.take_front() {
             return self.give_front(into);
@@ -457,18 +463,18 @@ impl Feed {
     ///
     /// The lines that it reads are given no more.
     pub fn is_too_long<S: Shelf>(&mut self, shelf: &mut S) -> Result<bool, Failed>
-        ensures seen { (bytes : List ℕ) → IsSeen (S.told shelf.old) bytes self.old
-            → ReadsOn (S.told shelf.old) bytes self.old self.new
+        ensures seen { (bytes : List ℕ) → IsSeen (S.view shelf.old).told bytes self.old
+            → ReadsOn (S.view shelf.old).told bytes self.old self.new
             (λ file. IfOk result (λ long. long ≡ nat_lt (limit_of self.old) (length file))) }
         ensures file { SameFile self.old self.new }
-        ensures cause { OnErr result
-            (HasReadCause (S.told shelf.old) (name_of self.old) (S.faults shelf.old) (S.faults shelf.new)) }
-        ensures steady { OnOk result (S.faults shelf.new ≡ S.faults shelf.old) }
-        ensures later { S.faults shelf.old ≤ S.faults shelf.new }
-        ensures same { S.told shelf.new ≡ S.told shelf.old }
-        ensures reached { S.reach shelf.old (name_of self.old) ≡ Some (place_of self.old)
-            → S.reach shelf.new (name_of self.old) ≡ Some (place_of self.new) }
-        ensures others { (q : List ℕ) → q ≢ name_of self.old → S.reach shelf.new q ≡ S.reach shelf.old q }
+        ensures cause { OnErr result (HasReadCause (S.view shelf.old).told (name_of self.old) (S.view shelf.old).faults
+            (S.view shelf.new).faults) }
+        ensures steady { OnOk result ((S.view shelf.new).faults ≡ (S.view shelf.old).faults) }
+        ensures later { (S.view shelf.old).faults ≤ (S.view shelf.new).faults }
+        ensures same { (S.view shelf.new).told ≡ (S.view shelf.old).told }
+        ensures reached { (S.view shelf.old).reach (name_of self.old) ≡ Some (place_of self.old)
+            → (S.view shelf.new).reach (name_of self.old) ≡ Some (place_of self.new) }
+        ensures others { (q : List ℕ) → q ≢ name_of self.old → (S.view shelf.new).reach q ≡ (S.view shelf.old).reach q }
     {
         self.start = self.end;
         while self.tail.is_open() {

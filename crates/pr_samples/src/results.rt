@@ -36,13 +36,13 @@ fn make_room<K: Sink, const ROOM: usize>(
 ) -> Result<(), WriteFault>
     requires least { 42 ≤ ROOM }
     requires most { ROOM ≤ 4096 }
-    ensures put { (old : Tape) (rest line : List ℕ) → IsPut old (K.told sink.old) text.old.bytes rest line
-        → OnOk result (IsPut old (K.told sink.new) text.new.bytes rest line) }
-    ensures front { (old : Tape) (rest line : List ℕ) → IsPut old (K.told sink.old) text.old.bytes rest line
-        → OnErr result (AppendsFront old (K.told sink.new) line) }
+    ensures put { (old : Tape) (rest line : List ℕ) → IsPut old (K.view sink.old).told text.old.bytes rest line
+        → OnOk result (IsPut old (K.view sink.new).told text.new.bytes rest line) }
+    ensures front { (old : Tape) (rest line : List ℕ) → IsPut old (K.view sink.old).told text.old.bytes rest line
+        → OnErr result (AppendsFront old (K.view sink.new).told line) }
     ensures room { OnOk result (array_string_len text.new + 42 ≤ ROOM) }
-    ensures cause { OnErr result (Rose (K.faults sink.old) (K.faults sink.new)) }
-    ensures later { K.faults sink.old ≤ K.faults sink.new }
+    ensures cause { OnErr result (Rose (K.view sink.old).faults (K.view sink.new).faults) }
+    ensures later { (K.view sink.old).faults ≤ (K.view sink.new).faults }
 {
     if text.remaining_capacity() >= NUMBER {
         return Ok(());
@@ -66,10 +66,12 @@ fn put_line<K: Sink, const ROOM: usize>(
     requires most { ROOM ≤ 4096 }
     requires widths { All (λ w. (1 ≤ w) × (w ≤ 128)) widths.now }
     requires bytes { length bytes.now ≡ sum_by slices_of widths.now }
-    ensures all { OnOk result (Appends (K.told sink.old) (K.told sink.new) (result_line widths.now bytes.now)) }
-    ensures front { OnErr result (AppendsFront (K.told sink.old) (K.told sink.new) (result_line widths.now bytes.now)) }
-    ensures cause { OnErr result (Rose (K.faults sink.old) (K.faults sink.new)) }
-    ensures later { K.faults sink.old ≤ K.faults sink.new }
+    ensures all { OnOk result
+        (Appends (K.view sink.old).told (K.view sink.new).told (result_line widths.now bytes.now)) }
+    ensures front { OnErr result
+        (AppendsFront (K.view sink.old).told (K.view sink.new).told (result_line widths.now bytes.now)) }
+    ensures cause { OnErr result (Rose (K.view sink.old).faults (K.view sink.new).faults) }
+    ensures later { (K.view sink.old).faults ≤ (K.view sink.new).faults }
 {
     let mut text = ArrayString::<ROOM>::new();
     let mut at = 0;
@@ -101,10 +103,10 @@ fn short_number(bytes: &[u8]) -> u64
 /// Writes the line of one number, which is put into its buffer from the end on.
 #[inline(always)]
 fn put_short<K: Sink>(sink: &mut K, n: u64) -> Result<(), WriteFault>
-    ensures all { OnOk result (Appends (K.told sink.old) (K.told sink.new) (row_line (n ∷ []))) }
-    ensures front { OnErr result (AppendsFront (K.told sink.old) (K.told sink.new) (row_line (n ∷ []))) }
-    ensures cause { OnErr result (Rose (K.faults sink.old) (K.faults sink.new)) }
-    ensures later { K.faults sink.old ≤ K.faults sink.new }
+    ensures all { OnOk result (Appends (K.view sink.old).told (K.view sink.new).told (row_line (n ∷ []))) }
+    ensures front { OnErr result (AppendsFront (K.view sink.old).told (K.view sink.new).told (row_line (n ∷ []))) }
+    ensures cause { OnErr result (Rose (K.view sink.old).faults (K.view sink.new).faults) }
+    ensures later { (K.view sink.old).faults ≤ (K.view sink.new).faults }
 {
     let mut text = [b'\n'; 21];
     let start = write_digits(n, &mut text, 20);
@@ -120,10 +122,12 @@ fn put_short<K: Sink>(sink: &mut K, n: u64) -> Result<(), WriteFault>
 pub fn put_result<K: Sink>(sink: &mut K, widths: &[u8], bytes: &[u8]) -> Result<(), WriteFault>
     requires widths { All (λ w. (1 ≤ w) × (w ≤ 128)) widths.now }
     requires bytes { length bytes.now ≡ sum_by slices_of widths.now }
-    ensures all { OnOk result (Appends (K.told sink.old) (K.told sink.new) (result_line widths.now bytes.now)) }
-    ensures front { OnErr result (AppendsFront (K.told sink.old) (K.told sink.new) (result_line widths.now bytes.now)) }
-    ensures cause { OnErr result (Rose (K.faults sink.old) (K.faults sink.new)) }
-    ensures later { K.faults sink.old ≤ K.faults sink.new }
+    ensures all { OnOk result
+        (Appends (K.view sink.old).told (K.view sink.new).told (result_line widths.now bytes.now)) }
+    ensures front { OnErr result
+        (AppendsFront (K.view sink.old).told (K.view sink.new).told (result_line widths.now bytes.now)) }
+    ensures cause { OnErr result (Rose (K.view sink.old).faults (K.view sink.new).faults) }
+    ensures later { (K.view sink.old).faults ≤ (K.view sink.new).faults }
 {
     if widths.len() == 1 && bytes.len() <= 8 {
         return put_short(sink, short_number(bytes));

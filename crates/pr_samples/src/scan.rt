@@ -279,7 +279,8 @@ pub fn read_lines(
     ensures all { IfNone result.met (result.used ≡ length bytes.now) }
     ensures met { IfSome result.met (λ met. met ≢ Met.Skipped) }
     ensures first { (more : List ℕ) →
-        met_first widths.now result.met numbers.new (scan_of widths.now numbers.new result.cursor) result.passed (drop result.used bytes.now ++ more)
+        met_first widths.now result.met numbers.new (scan_of widths.now numbers.new result.cursor) result.passed
+        (drop result.used bytes.now ++ more)
         ≡ first_line widths.now (scan_of widths.now numbers.old cursor) passed (bytes.now ++ more) }
     ensures passed { result.passed ≤ passed + result.used }
     ensures room { result.cursor.done + begun result.cursor.phase ≤ length widths.now }

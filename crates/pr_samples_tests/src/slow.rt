@@ -37,11 +37,7 @@ impl SlowShelf {
 impl Shelf for SlowShelf {
     ghost use Rattle.std.specs.Prelude.{None};
 
-    ghost told = { λ _. None };
-
-    ghost reach = { λ _ _. None };
-
-    ghost faults = { λ s. s.faults };
+    ghost view = { λ s. record { told = None; reach = λ _. None; faults = s.faults } };
 
     ghost counted = { λ s. s.in_range };
 

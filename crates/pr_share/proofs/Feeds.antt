@@ -1,13 +1,12 @@
 -- A feed was asked once more.
 use Rattle.std.proofs.Common.{◌≡◌, ℕ, ◌+◌, List, [], take, sym, ap, ◌∙◌, subst}
-use Rattle.pr_edge.specs.Files.{Told, IsMissing}
+use Rattle.pr_edge.specs.Files.{Told, IsMissing, View}
 use Rattle.pr_samples.specs.declared.feed.Feed.{Feed}
 use Rattle.pr_samples.specs.declared.feed.Got.{Got}
 use Rattle.pr_samples.specs.Fed.{Fed}
 use Rattle.pr_samples.specs.Feed.{name_of, given_of, SameFile, Tells, fed, Gives}
 use Rattle.pr_samples.specs.Got.{given_by}
 use Rattle.std.proofs.Common.{slice_get}
-use Rattle.pr_run.specs.Setting.{View}
 use Rattle.pr_run.specs.Turns.{IsUnread}
 use Rattle.pr_run.proofs.NextSamples.{IsNext, rows_after, same_file, fed_same, more_rows, none_more, count_more}
 use Rattle.pr_share.specs.Fed.{IsFedBy, HasFed}

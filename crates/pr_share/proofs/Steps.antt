@@ -9,14 +9,13 @@ use Rattle.pr_samples.specs.declared.feed.Feed.{Feed}
 use Rattle.pr_samples.specs.declared.feed.Got.{Got}
 use Rattle.pr_samples.specs.Feed.{name_of}
 use Rattle.pr_samples.specs.Got.{is_sample}
-use Rattle.pr_edge.specs.Files.{Told, HasReadCause}
+use Rattle.pr_edge.specs.Files.{Told, HasReadCause, View}
 use Rattle.pr_machine_account.specs.Account.{Account, Offer, Take, Cycle, account, left, done}
 use Rattle.pr_machine_account.proofs.AccountLaws.{lawful}
 use Rattle.pr_conf.specs.Through.{result_numbers}
 use Rattle.pr_conf.specs.Shape.{Shape}
 use Rattle.pr_conf.specs.Configuration.{pes_of}
 use Rattle.pr_machine.specs.Stands.{Stands, History, waiting_samples, conf_of, stripes_of, time_of, IsKept}
-use Rattle.pr_run.specs.Setting.{View}
 use Rattle.pr_run.proofs.NextSamples.{IsNext, rows_end, cause_earlier}
 use Rattle.pr_run_script.specs.Script.{Run, free, held_at, waiting, reads, read_next, fed, emptied, is_finished, closed, begun, turns, turned}
 use Rattle.pr_run_script.proofs.RunLaws.{account_nil, offered_account, taken_account, offered_cycle, turns_none, turns_suc, turns_run}

@@ -35,18 +35,18 @@ fn read_one<const N: usize, const P: usize, S: Shelf>(
     requires going { used.ended ≡ false }
     requires count { used.count < 2 ^ 32 - 1 }
     ensures turning { (s : Setting) (runs : List (List ℕ) → Run (List ℕ)) (t : Tape) → 0 < stages_of s
-        → IsTurning s runs machine.old feed.old (S.told shelf.old) t used
+        → IsTurning s runs machine.old feed.old (S.view shelf.old).told t used
         → IsTurning s (λ xs. fed (stages_of s) s.stripes free (runs xs)) machine.new feed.new
-        (S.told shelf.new) t result }
+        (S.view shelf.new).told t result }
     ensures count { result.count ≤ used.count + 1 }
     ensures unread { is_sample result.last ≡ true → result.ended ≡ false }
     ensures fault { result.last ≡ Got.ReadFault → result.ended ≡ true }
-    ensures steady { result.last ≢ Got.ReadFault → S.faults shelf.new ≡ S.faults shelf.old }
+    ensures steady { result.last ≢ Got.ReadFault → (S.view shelf.new).faults ≡ (S.view shelf.old).faults }
     ensures cause { result.last ≡ Got.ReadFault
-        → HasReadCause (S.told shelf.old) (name_of feed.old) (S.faults shelf.old) (S.faults shelf.new) }
-    ensures later { S.faults shelf.old ≤ S.faults shelf.new }
-    ensures told { S.told shelf.new ≡ S.told shelf.old }
-    ensures others { (q : List ℕ) → q ≢ name_of feed.old → S.reach shelf.new q ≡ S.reach shelf.old q }
+        → HasReadCause (S.view shelf.old).told (name_of feed.old) (S.view shelf.old).faults (S.view shelf.new).faults }
+    ensures later { (S.view shelf.old).faults ≤ (S.view shelf.new).faults }
+    ensures told { (S.view shelf.new).told ≡ (S.view shelf.old).told }
+    ensures others { (q : List ℕ) → q ≢ name_of feed.old → (S.view shelf.new).reach q ≡ (S.view shelf.old).reach q }
     ensures file { SameFile feed.old feed.new }
     ensures kept { IsKept machine.old machine.new }
     ensures bytes { length bytes.new ≡ 64 }
@@ -83,18 +83,18 @@ fn read_sample<const N: usize, const P: usize, S: Shelf>(
     requires going { used.ended ≡ false }
     requires count { used.count < 2 ^ 32 - 1 }
     ensures turning { (s : Setting) (runs : List (List ℕ) → Run (List ℕ)) (t : Tape) → 0 < stages_of s
-        → IsTurning s runs machine.old feed.old (S.told shelf.old) t used
+        → IsTurning s runs machine.old feed.old (S.view shelf.old).told t used
         → IsTurning s (λ xs. fed (stages_of s) s.stripes free (runs xs)) machine.new feed.new
-        (S.told shelf.new) t result }
+        (S.view shelf.new).told t result }
     ensures count { result.count ≤ used.count + 1 }
     ensures unread { is_sample result.last ≡ true → result.ended ≡ false }
     ensures fault { result.last ≡ Got.ReadFault → result.ended ≡ true }
-    ensures steady { result.last ≢ Got.ReadFault → S.faults shelf.new ≡ S.faults shelf.old }
+    ensures steady { result.last ≢ Got.ReadFault → (S.view shelf.new).faults ≡ (S.view shelf.old).faults }
     ensures cause { result.last ≡ Got.ReadFault
-        → HasReadCause (S.told shelf.old) (name_of feed.old) (S.faults shelf.old) (S.faults shelf.new) }
-    ensures later { S.faults shelf.old ≤ S.faults shelf.new }
-    ensures told { S.told shelf.new ≡ S.told shelf.old }
-    ensures others { (q : List ℕ) → q ≢ name_of feed.old → S.reach shelf.new q ≡ S.reach shelf.old q }
+        → HasReadCause (S.view shelf.old).told (name_of feed.old) (S.view shelf.old).faults (S.view shelf.new).faults }
+    ensures later { (S.view shelf.old).faults ≤ (S.view shelf.new).faults }
+    ensures told { (S.view shelf.new).told ≡ (S.view shelf.old).told }
+    ensures others { (q : List ℕ) → q ≢ name_of feed.old → (S.view shelf.new).reach q ≡ (S.view shelf.old).reach q }
     ensures file { SameFile feed.old feed.new }
     ensures kept { IsKept machine.old machine.new }
 {
@@ -117,20 +117,20 @@ pub(crate) fn feed_step<const N: usize, const P: usize, S: Shelf>(
     requires spent { used.ended ≡ true → is_sample used.last ≡ true → used.count ≡ quota }
     requires fault { used.last ≡ Got.ReadFault → used.ended ≡ true }
     ensures turning { (s : Setting) (runs : List (List ℕ) → Run (List ℕ)) (t : Tape) → 0 < stages_of s
-        → IsTurning s runs machine.old feed.old (S.told shelf.old) t used
+        → IsTurning s runs machine.old feed.old (S.view shelf.old).told t used
         → IsTurning s (λ xs. fed (stages_of s) s.stripes free (runs xs)) machine.new feed.new
-        (S.told shelf.new) t result }
+        (S.view shelf.new).told t result }
     ensures quota { result.count ≤ quota }
     ensures spent { result.ended ≡ true → is_sample result.last ≡ true → result.count ≡ quota }
     ensures fault { result.last ≡ Got.ReadFault → result.ended ≡ true }
     ensures steady { result.last ≢ Got.ReadFault
-        → (used.last ≢ Got.ReadFault) × (S.faults shelf.new ≡ S.faults shelf.old) }
+        → (used.last ≢ Got.ReadFault) × ((S.view shelf.new).faults ≡ (S.view shelf.old).faults) }
     ensures cause { result.last ≡ Got.ReadFault
         → (used.last ≡ Got.ReadFault)
-        ⊎ HasReadCause (S.told shelf.old) (name_of feed.old) (S.faults shelf.old) (S.faults shelf.new) }
-    ensures later { S.faults shelf.old ≤ S.faults shelf.new }
-    ensures told { S.told shelf.new ≡ S.told shelf.old }
-    ensures others { (q : List ℕ) → q ≢ name_of feed.old → S.reach shelf.new q ≡ S.reach shelf.old q }
+        ⊎ HasReadCause (S.view shelf.old).told (name_of feed.old) (S.view shelf.old).faults (S.view shelf.new).faults }
+    ensures later { (S.view shelf.old).faults ≤ (S.view shelf.new).faults }
+    ensures told { (S.view shelf.new).told ≡ (S.view shelf.old).told }
+    ensures others { (q : List ℕ) → q ≢ name_of feed.old → (S.view shelf.new).reach q ≡ (S.view shelf.old).reach q }
     ensures file { SameFile feed.old feed.new }
     ensures kept { IsKept machine.old machine.new }
 {

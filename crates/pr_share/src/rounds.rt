@@ -42,23 +42,24 @@ fn take_turn<const N: usize, const P: usize, S: Shelf, K: Sink>(
     requires number { number < 10 }
     requires going { item.old.ended ≡ None }
     requires taken { (first : ShareItem N P) × (rows : List (List ℕ))
-        × HasTaken (S.told shelf.old) first item.old rows }
-    ensures turn { let old = world (S.told shelf.old) (S.faults shelf.old) (K.told out.old) in
-        let new = world (S.told shelf.new) (S.faults shelf.new) (K.told out.new) in
+        × HasTaken (S.view shelf.old).told first item.old rows }
+    ensures turn { let old = world (S.view shelf.old).told (S.view shelf.old).faults (K.view out.old).told in
+        let new = world (S.view shelf.new).told (S.view shelf.new).faults (K.view out.new).told in
         (first : ShareItem N P) (rows : List (List ℕ)) → HasTaken old.told first item.old rows
         → OnOk result (IsTurn first item.new rows number old new) }
-    ensures half { let old = world (S.told shelf.old) (S.faults shelf.old) (K.told out.old) in
-        let new = world (S.told shelf.new) (S.faults shelf.new) (K.told out.new) in
+    ensures half { let old = world (S.view shelf.old).told (S.view shelf.old).faults (K.view out.old).told in
+        let new = world (S.view shelf.new).told (S.view shelf.new).faults (K.view out.new).told in
         (first : ShareItem N P) (rows : List (List ℕ)) → HasTaken old.told first item.old rows
         → OnErr result (IsHalf first item.new rows number old new) }
     ensures steady { OnOk result
-        (item.new.ended ≢ Some Got.ReadFault → S.faults shelf.new ≡ S.faults shelf.old) }
-    ensures cause { OnErr result (Rose (K.faults out.old) (K.faults out.new)) }
-    ensures told { S.told shelf.new ≡ S.told shelf.old }
-    ensures others { (q : List ℕ) → q ≢ name_of item.old.feed → S.reach shelf.new q ≡ S.reach shelf.old q }
+        (item.new.ended ≢ Some Got.ReadFault → (S.view shelf.new).faults ≡ (S.view shelf.old).faults) }
+    ensures cause { OnErr result (Rose (K.view out.old).faults (K.view out.new).faults) }
+    ensures told { (S.view shelf.new).told ≡ (S.view shelf.old).told }
+    ensures others { (q : List ℕ) → q ≢ name_of item.old.feed → (S.view shelf.new).reach q
+        ≡ (S.view shelf.old).reach q }
     ensures name { name_of item.new.feed ≡ name_of item.old.feed }
-    ensures shelf_later { S.faults shelf.old ≤ S.faults shelf.new }
-    ensures out_later { K.faults out.old ≤ K.faults out.new }
+    ensures shelf_later { (S.view shelf.old).faults ≤ (S.view shelf.new).faults }
+    ensures out_later { (K.view out.old).faults ≤ (K.view out.new).faults }
 {
     let parked = match item.parked.take() {
         None => unreachable!(),
@@ -94,25 +95,26 @@ fn take_place<const N: usize, const P: usize, S: Shelf, K: Sink>(
 ) -> Result<Machine<N, P, Bare>, WriteFault>
     requires at { number < length items.old }
     requires few { length items.old ≤ 8 }
-    requires sharing { let old = world (S.told shelf.old) (S.faults shelf.old) (K.told out.old) in
+    requires sharing { let old = world (S.view shelf.old).told (S.view shelf.old).faults (K.view out.old).told in
         (firsts : List (ShareItem N P)) × (start : World) × (r : ℕ) × IsSharing firsts items.old start old r number }
-    ensures next { let old = world (S.told shelf.old) (S.faults shelf.old) (K.told out.old) in
-        let new = world (S.told shelf.new) (S.faults shelf.new) (K.told out.new) in
+    ensures next { let old = world (S.view shelf.old).told (S.view shelf.old).faults (K.view out.old).told in
+        let new = world (S.view shelf.new).told (S.view shelf.new).faults (K.view out.new).told in
         (firsts : List (ShareItem N P)) (start : World) (r : ℕ) → IsSharing firsts items.old start old r number
         → OnOk result (IsSharing firsts items.new start new r (number + 1)) }
-    ensures stopped { let old = world (S.told shelf.old) (S.faults shelf.old) (K.told out.old) in
-        let new = world (S.told shelf.new) (S.faults shelf.new) (K.told out.new) in
+    ensures stopped { let old = world (S.view shelf.old).told (S.view shelf.old).faults (K.view out.old).told in
+        let new = world (S.view shelf.new).told (S.view shelf.new).faults (K.view out.new).told in
         (firsts : List (ShareItem N P)) (start : World) (r : ℕ) → IsSharing firsts items.old start old r number
         → OnErr result (AreStopped firsts items.new start new) }
     ensures steady { OnOk result
-        (NoneFailed items.new → NoneFailed items.old × (S.faults shelf.new ≡ S.faults shelf.old)) }
+        (NoneFailed items.new → NoneFailed items.old × ((S.view shelf.new).faults ≡ (S.view shelf.old).faults)) }
     ensures count { length items.new ≡ length items.old }
-    ensures cause { OnErr result (Rose (K.faults out.old) (K.faults out.new)) }
-    ensures told { S.told shelf.new ≡ S.told shelf.old }
-    ensures others { (q : List ℕ) → IsNoneOf (names_of items.old) q → S.reach shelf.new q ≡ S.reach shelf.old q }
+    ensures cause { OnErr result (Rose (K.view out.old).faults (K.view out.new).faults) }
+    ensures told { (S.view shelf.new).told ≡ (S.view shelf.old).told }
+    ensures others { (q : List ℕ) → IsNoneOf (names_of items.old) q → (S.view shelf.new).reach q
+        ≡ (S.view shelf.old).reach q }
     ensures names { names_of items.new ≡ names_of items.old }
-    ensures shelf_later { S.faults shelf.old ≤ S.faults shelf.new }
-    ensures out_later { K.faults out.old ≤ K.faults out.new }
+    ensures shelf_later { (S.view shelf.old).faults ≤ (S.view shelf.new).faults }
+    ensures out_later { (K.view out.old).faults ≤ (K.view out.new).faults }
 {
     if items[number].ended.is_some() {
         return Ok(machine);
@@ -129,25 +131,26 @@ fn make_round<const N: usize, const P: usize, S: Shelf, K: Sink>(
     room: &mut Room,
 ) -> Result<Machine<N, P, Bare>, WriteFault>
     requires few { length items.old ≤ 8 }
-    requires sharing { let old = world (S.told shelf.old) (S.faults shelf.old) (K.told out.old) in
+    requires sharing { let old = world (S.view shelf.old).told (S.view shelf.old).faults (K.view out.old).told in
         (firsts : List (ShareItem N P)) × (start : World) × (r : ℕ) × IsSharing firsts items.old start old r 0 }
-    ensures round { let old = world (S.told shelf.old) (S.faults shelf.old) (K.told out.old) in
-        let new = world (S.told shelf.new) (S.faults shelf.new) (K.told out.new) in
+    ensures round { let old = world (S.view shelf.old).told (S.view shelf.old).faults (K.view out.old).told in
+        let new = world (S.view shelf.new).told (S.view shelf.new).faults (K.view out.new).told in
         (firsts : List (ShareItem N P)) (start : World) (r : ℕ) → IsSharing firsts items.old start old r 0
         → OnOk result (IsSharing firsts items.new start new (r + 1) 0) }
-    ensures stopped { let old = world (S.told shelf.old) (S.faults shelf.old) (K.told out.old) in
-        let new = world (S.told shelf.new) (S.faults shelf.new) (K.told out.new) in
+    ensures stopped { let old = world (S.view shelf.old).told (S.view shelf.old).faults (K.view out.old).told in
+        let new = world (S.view shelf.new).told (S.view shelf.new).faults (K.view out.new).told in
         (firsts : List (ShareItem N P)) (start : World) (r : ℕ) → IsSharing firsts items.old start old r 0
         → OnErr result (AreStopped firsts items.new start new) }
     ensures steady { OnOk result
-        (NoneFailed items.new → NoneFailed items.old × (S.faults shelf.new ≡ S.faults shelf.old)) }
+        (NoneFailed items.new → NoneFailed items.old × ((S.view shelf.new).faults ≡ (S.view shelf.old).faults)) }
     ensures count { length items.new ≡ length items.old }
-    ensures cause { OnErr result (Rose (K.faults out.old) (K.faults out.new)) }
-    ensures told { S.told shelf.new ≡ S.told shelf.old }
-    ensures others { (q : List ℕ) → IsNoneOf (names_of items.old) q → S.reach shelf.new q ≡ S.reach shelf.old q }
+    ensures cause { OnErr result (Rose (K.view out.old).faults (K.view out.new).faults) }
+    ensures told { (S.view shelf.new).told ≡ (S.view shelf.old).told }
+    ensures others { (q : List ℕ) → IsNoneOf (names_of items.old) q → (S.view shelf.new).reach q
+        ≡ (S.view shelf.old).reach q }
     ensures names { names_of items.new ≡ names_of items.old }
-    ensures shelf_later { S.faults shelf.old ≤ S.faults shelf.new }
-    ensures out_later { K.faults out.old ≤ K.faults out.new }
+    ensures shelf_later { (S.view shelf.old).faults ≤ (S.view shelf.new).faults }
+    ensures out_later { (K.view out.old).faults ≤ (K.view out.new).faults }
 {
     let mut machine = machine;
     for number in 0..items.len() {
@@ -187,18 +190,19 @@ pub fn share<const N: usize, const P: usize, S: Shelf, K: Sink>(
 ) -> ShareEnd
     requires few { length parts.old ≤ 8 }
     requires ready { AreReady parts.old }
-    ensures shared { let old = world (S.told shelf.old) (S.faults shelf.old) (K.told out.old) in
-        let new = world (S.told shelf.new) (S.faults shelf.new) (K.told out.new) in
+    ensures shared { let old = world (S.view shelf.old).told (S.view shelf.old).faults (K.view out.old).told in
+        let new = world (S.view shelf.new).told (S.view shelf.new).faults (K.view out.new).told in
         result ≡ ShareEnd.Done → AreShared parts.old parts.new old new }
-    ensures stopped { let old = world (S.told shelf.old) (S.faults shelf.old) (K.told out.old) in
-        let new = world (S.told shelf.new) (S.faults shelf.new) (K.told out.new) in
+    ensures stopped { let old = world (S.view shelf.old).told (S.view shelf.old).faults (K.view out.old).told in
+        let new = world (S.view shelf.new).told (S.view shelf.new).faults (K.view out.new).told in
         result ≡ ShareEnd.WriteFault → AreStopped parts.old parts.new old new }
-    ensures write_fault { result ≡ ShareEnd.WriteFault → Rose (K.faults out.old) (K.faults out.new) }
-    ensures told { S.told shelf.new ≡ S.told shelf.old }
-    ensures others { (q : List ℕ) → IsNoneOf (names_of parts.old) q → S.reach shelf.new q ≡ S.reach shelf.old q }
+    ensures write_fault { result ≡ ShareEnd.WriteFault → Rose (K.view out.old).faults (K.view out.new).faults }
+    ensures told { (S.view shelf.new).told ≡ (S.view shelf.old).told }
+    ensures others { (q : List ℕ) → IsNoneOf (names_of parts.old) q → (S.view shelf.new).reach q
+        ≡ (S.view shelf.old).reach q }
     ensures names { names_of parts.new ≡ names_of parts.old }
-    ensures shelf_later { S.faults shelf.old ≤ S.faults shelf.new }
-    ensures out_later { K.faults out.old ≤ K.faults out.new }
+    ensures shelf_later { (S.view shelf.old).faults ≤ (S.view shelf.new).faults }
+    ensures out_later { (K.view out.old).faults ≤ (K.view out.new).faults }
 {
     let mut machine = machine;
     for _ in 0..u64::MAX {

@@ -56,27 +56,29 @@ impl<'a> Walk<'a> {
         requires outputs { self.old.widths.now ≡ output_widths (conf_of machine.old) }
         requires number { self.old.number < 10 }
         requires fed { (first : Feed) × ((earlier : List (List ℕ))
-            × HasFed first (S.told shelf.old) feed.old earlier Got.Sample) }
+            × HasFed first (S.view shelf.old).told feed.old earlier Got.Sample) }
         ensures turned { (s : Setting)
-            → Begins s machine.old feed.old (S.told shelf.old) (K.told out.old) self.old.number
-            → IfOk result
-            (λ last. IsTurned s machine.new feed.new (S.told shelf.new) (K.told out.new) self.old.quota last) }
+            → Begins s machine.old feed.old (S.view shelf.old).told (K.view out.old).told self.old.number
+            → IfOk result (λ last. IsTurned s machine.new feed.new (S.view shelf.new).told
+            (K.view out.new).told self.old.quota last) }
         ensures cut { (s : Setting)
-            → Begins s machine.old feed.old (S.told shelf.old) (K.told out.old) self.old.number
-            → OnErr result (IsCut N P s feed.new (S.told shelf.new) (K.told out.new) self.old.quota
-            (S.faults shelf.old) (S.faults shelf.new)) }
+            → Begins s machine.old feed.old (S.view shelf.old).told (K.view out.old).told self.old.number
+            → OnErr result (IsCut N P s feed.new (S.view shelf.new).told (K.view out.new).told self.old.quota
+            (S.view shelf.old).faults (S.view shelf.new).faults) }
         ensures idle { OnOk result (IsIdle machine.new) }
-        ensures steady { IfOk result (λ last. last ≢ Got.ReadFault → S.faults shelf.new ≡ S.faults shelf.old) }
+        ensures steady { IfOk result
+            (λ last. last ≢ Got.ReadFault → (S.view shelf.new).faults ≡ (S.view shelf.old).faults) }
         ensures read_fault { IfOk result (λ last. last ≡ Got.ReadFault
-            → HasReadCause (S.told shelf.old) (name_of feed.old) (S.faults shelf.old) (S.faults shelf.new)) }
-        ensures cause { OnErr result (Rose (K.faults out.old) (K.faults out.new)) }
+            → HasReadCause (S.view shelf.old).told (name_of feed.old) (S.view shelf.old).faults
+            (S.view shelf.new).faults) }
+        ensures cause { OnErr result (Rose (K.view out.old).faults (K.view out.new).faults) }
         ensures file { SameFile feed.old feed.new }
         ensures conf { machine.new.parts.conf ≡ machine.old.parts.conf }
         ensures stripes { stripes_of machine.new ≡ stripes_of machine.old }
-        ensures told { S.told shelf.new ≡ S.told shelf.old }
-        ensures others { (q : List ℕ) → q ≢ name_of feed.old → S.reach shelf.new q ≡ S.reach shelf.old q }
-        ensures shelf_later { S.faults shelf.old ≤ S.faults shelf.new }
-        ensures out_later { K.faults out.old ≤ K.faults out.new }
+        ensures told { (S.view shelf.new).told ≡ (S.view shelf.old).told }
+        ensures others { (q : List ℕ) → q ≢ name_of feed.old → (S.view shelf.new).reach q ≡ (S.view shelf.old).reach q }
+        ensures shelf_later { (S.view shelf.old).faults ≤ (S.view shelf.new).faults }
+        ensures out_later { (K.view out.old).faults ≤ (K.view out.new).faults }
     {
         let room = &mut *self.room;
         let widths = self.widths;

@@ -20,12 +20,12 @@ fn put_line<K: Sink>(out: &mut K, number: u8, widths: &[u8], bytes: &[u8]) -> Re
     requires number { number < 10 }
     requires widths { All (λ w. (1 ≤ w) × (w ≤ 128)) widths.now }
     requires bytes { length bytes.now ≡ sum_by slices_of widths.now }
-    ensures all { OnOk result (Appends (K.told out.old) (K.told out.new)
+    ensures all { OnOk result (Appends (K.view out.old).told (K.view out.new).told
         (mark number ++ row_line (row_numbers widths.now bytes.now))) }
-    ensures front { OnErr result (AppendsFront (K.told out.old) (K.told out.new)
+    ensures front { OnErr result (AppendsFront (K.view out.old).told (K.view out.new).told
         (mark number ++ row_line (row_numbers widths.now bytes.now))) }
-    ensures cause { OnErr result (Rose (K.faults out.old) (K.faults out.new)) }
-    ensures later { K.faults out.old ≤ K.faults out.new }
+    ensures cause { OnErr result (Rose (K.view out.old).faults (K.view out.new).faults) }
+    ensures later { (K.view out.old).faults ≤ (K.view out.new).faults }
 {
     match write_all(out, &[b'0' + number, b':', b' ']) {
         Err(fault) => Err(fault),
@@ -45,18 +45,18 @@ fn write_one<const N: usize, const P: usize, K: Sink>(
     requires number { number < 10 }
     requires bytes { length bytes.old ≡ result_bytes_of machine.old }
     requires waiting { 0 < length (waiting_results machine.old) }
-    ensures shown { (s : Setting) (h : History) → s.number ≡ number → HasShown s machine.old (K.told out.old) h
-        → OnOk result (HasShown s machine.new (K.told out.new) (h ++ Take ∷ [])) }
-    ensures front { (s : Setting) (h : History) → s.number ≡ number → HasShown s machine.old (K.told out.old) h
-        → OnErr result (AppendsFront s.tape (K.told out.new) (offered_text N P s h)) }
-    ensures offered { (s : Setting) (h : History) → HasShown s machine.old (K.told out.old) h
+    ensures shown { (s : Setting) (h : History) → s.number ≡ number → HasShown s machine.old (K.view out.old).told h
+        → OnOk result (HasShown s machine.new (K.view out.new).told (h ++ Take ∷ [])) }
+    ensures front { (s : Setting) (h : History) → s.number ≡ number → HasShown s machine.old (K.view out.old).told h
+        → OnErr result (AppendsFront s.tape (K.view out.new).told (offered_text N P s h)) }
+    ensures offered { (s : Setting) (h : History) → HasShown s machine.old (K.view out.old).told h
         → (account (stages_of s) s.stripes (h ++ Take ∷ [])).offered ≡ (account (stages_of s) s.stripes h).offered }
     ensures kept { IsKept machine.old machine.new }
     ensures samples { waiting_samples machine.new ≡ waiting_samples machine.old }
     ensures fewer { length (waiting_results machine.new) + 1 ≡ length (waiting_results machine.old) }
     ensures length { length bytes.new ≡ length bytes.old }
-    ensures cause { OnErr result (Rose (K.faults out.old) (K.faults out.new)) }
-    ensures later { K.faults out.old ≤ K.faults out.new }
+    ensures cause { OnErr result (Rose (K.view out.old).faults (K.view out.new).faults) }
+    ensures later { (K.view out.old).faults ≤ (K.view out.new).faults }
 {
     machine.take(bytes).unwrap();
     put_line(out, number, widths, bytes)
@@ -73,14 +73,14 @@ fn write_waiting<const N: usize, const P: usize, K: Sink>(
     requires widths { widths.now ≡ output_widths (conf_of machine.old) }
     requires number { number < 10 }
     requires bytes { length bytes.old ≡ result_bytes_of machine.old }
-    ensures shown { (s : Setting) (h : History) → s.number ≡ number → HasShown s machine.old (K.told out.old) h
-        → OnOk result (HasShown s machine.new (K.told out.new)
+    ensures shown { (s : Setting) (h : History) → s.number ≡ number → HasShown s machine.old (K.view out.old).told h
+        → OnOk result (HasShown s machine.new (K.view out.new).told
         (h ++ replicate (waiting (stages_of s) (account (stages_of s) s.stripes h)) Take)) }
-    ensures front { (s : Setting) (h : History) → s.number ≡ number → HasShown s machine.old (K.told out.old) h
-        → OnErr result (AppendsFront s.tape (K.told out.new) (offered_text N P s h)) }
+    ensures front { (s : Setting) (h : History) → s.number ≡ number → HasShown s machine.old (K.view out.old).told h
+        → OnErr result (AppendsFront s.tape (K.view out.new).told (offered_text N P s h)) }
     ensures kept { IsKept machine.old machine.new }
-    ensures cause { OnErr result (Rose (K.faults out.old) (K.faults out.new)) }
-    ensures later { K.faults out.old ≤ K.faults out.new }
+    ensures cause { OnErr result (Rose (K.view out.old).faults (K.view out.new).faults) }
+    ensures later { (K.view out.old).faults ≤ (K.view out.new).faults }
 {
     for _ in 0..machine.waiting_out() {
         match write_one(machine, out, widths, number, bytes) {
@@ -102,14 +102,14 @@ pub(crate) fn write_step<const N: usize, const P: usize, K: Sink>(
     requires widths { widths.now ≡ output_widths (conf_of machine.old) }
     requires number { number < 10 }
     requires bytes { length bytes.old ≡ 1024 }
-    ensures shown { (s : Setting) (h : History) → s.number ≡ number → HasShown s machine.old (K.told out.old) h
-        → OnOk result (HasShown s machine.new (K.told out.new)
+    ensures shown { (s : Setting) (h : History) → s.number ≡ number → HasShown s machine.old (K.view out.old).told h
+        → OnOk result (HasShown s machine.new (K.view out.new).told
         (h ++ replicate (waiting (stages_of s) (account (stages_of s) s.stripes h)) Take)) }
-    ensures front { (s : Setting) (h : History) → s.number ≡ number → HasShown s machine.old (K.told out.old) h
-        → OnErr result (AppendsFront s.tape (K.told out.new) (offered_text N P s h)) }
+    ensures front { (s : Setting) (h : History) → s.number ≡ number → HasShown s machine.old (K.view out.old).told h
+        → OnErr result (AppendsFront s.tape (K.view out.new).told (offered_text N P s h)) }
     ensures kept { IsKept machine.old machine.new }
-    ensures cause { OnErr result (Rose (K.faults out.old) (K.faults out.new)) }
-    ensures later { K.faults out.old ≤ K.faults out.new }
+    ensures cause { OnErr result (Rose (K.view out.old).faults (K.view out.new).faults) }
+    ensures later { (K.view out.old).faults ≤ (K.view out.new).faults }
 {
     let size = machine.conf().result_bytes();
     write_waiting(machine, out, widths, number, &mut bytes[..size])

@@ -100,11 +100,7 @@ impl<'a, R: Files, W: Write + Drop> FileShelf<'a, R, W> {
 }
 
 impl<'a, R: Files, W: Write + Drop> Shelf for FileShelf<'a, R, W> {
-    ghost told = { λ _. untold };
-
-    ghost reach = { λ _. unreached };
-
-    ghost faults = { λ s. s.faults };
+    ghost view = { λ s. record { told = untold; reach = unreached; faults = s.faults } };
 
     ghost counted = { λ s. s.in_range };
 

@@ -2,7 +2,7 @@
 ghost use Rattle.std.specs.Prelude.{◌≡◌, ℕ, ◌^◌, ◌<◌, ◌≤◌, length, take, None, IfOk, IsOk, IfSome, IfNone, OnOk, OnErr};
 ghost use Rattle.std.specs.Io.KnownBytes as known;
 ghost use Rattle.pr_edge.specs.Count.{Rose};
-ghost use Rattle.pr_edge.specs.Tape.{Appends};
+ghost use Rattle.pr_edge.specs.Tape.{Appends, untold};
 
 use crate::TRIES;
 use pr_edge::{Failed, Sink};
@@ -76,9 +76,7 @@ fn write_once<W: Write>(inner: &mut W, bytes: &[u8]) -> Option<usize>
 }
 
 impl<W: Write> Sink for OutSink<W> {
-    ghost told = { λ _. record { bytes = None; keeps = 0 } };
-
-    ghost faults = { λ s. s.faults };
+    ghost view = { λ s. record { told = untold; faults = s.faults } };
 
     ghost counted = { λ s. s.in_range };
 
@@ -87,8 +85,7 @@ impl<W: Write> Sink for OutSink<W> {
         ensures bound { IfOk result (λ k. k ≤ length bytes.now) }
         ensures some { IfOk result (λ k. 0 < length bytes.now → 0 < k) }
         ensures empty { length bytes.now ≡ 0 → IsOk result }
-        ensures appended { IfOk result (λ k.
-            Appends (record { bytes = None; keeps = 0 }) (record { bytes = None; keeps = 0 }) (take k bytes.now)) }
+        ensures appended { IfOk result (λ k. Appends untold untold (take k bytes.now)) }
         ensures cause { OnErr result (Rose self.old.faults self.new.faults) }
         ensures later { self.old.faults ≤ self.new.faults }
         ensures steady { OnOk result (self.new.faults ≡ self.old.faults) }

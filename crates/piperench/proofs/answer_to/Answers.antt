@@ -21,7 +21,7 @@ pub returns-in-Ok-clause-note : goal.returns-in-Ok-clause-note
 returns-in-Ok-clause-note g c =
     let called = c.in-Ok.called in
     let line = line_is (bounds_in (asked_by c.args.words.now)) called.told c.report.result (are_through called.last) (bytes_of called.note) c.in-Ok.ensures.note c.report.ensures.answer in
-    subst (λ (t : List ℕ). GainsNote (g.E.Sink.told c.args.stderr.now) (g.E.Sink.told c.report.new.stderr) (g.E.Sink.faults c.args.stderr.now) (g.E.Sink.faults c.report.new.stderr) t) line c.report.ensures.note
+    subst (λ (t : List ℕ). GainsNote (g.E.Sink.view c.args.stderr.now).told (g.E.Sink.view c.report.new.stderr).told (g.E.Sink.view c.args.stderr.now).faults (g.E.Sink.view c.report.new.stderr).faults t) line c.report.ensures.note
 
 pub returns-in-Err-clause-usage : goal.returns-in-Err-clause-usage
 returns-in-Err-clause-usage g c = λ is. absurd (let no : Answer.Memory ≡ Answer.Usage = sym (c.refuse.ensures.answer ∙ c.in-Err.ensures.refused) ∙ is in cc)
@@ -32,4 +32,4 @@ returns-in-Err-clause-wrong g c = λ none. inr (inl (c.refuse.ensures.answer ∙
 pub returns-in-Err-clause-note : goal.returns-in-Err-clause-note
 returns-in-Err-clause-note g c =
     let line = memory_line (bounds_in (asked_by c.args.words.now)) c.in-Err.answer c.refuse.result c.in-Err.ensures.refused c.refuse.ensures.answer in
-    subst (λ (t : List ℕ). GainsNote (g.E.Sink.told c.args.stderr.now) (g.E.Sink.told c.refuse.new.stderr) (g.E.Sink.faults c.args.stderr.now) (g.E.Sink.faults c.refuse.new.stderr) t) line c.refuse.ensures.note
+    subst (λ (t : List ℕ). GainsNote (g.E.Sink.view c.args.stderr.now).told (g.E.Sink.view c.refuse.new.stderr).told (g.E.Sink.view c.args.stderr.now).faults (g.E.Sink.view c.refuse.new.stderr).faults t) line c.refuse.ensures.note

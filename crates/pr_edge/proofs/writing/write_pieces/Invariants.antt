@@ -5,8 +5,8 @@ use Rattle.pr_edge.proofs.writing.write_pieces.Given as goal
 abbrev pub invariant-loop-done : goal.invariant-loop-done
 invariant-loop-done g l = record {
   within : l.done ≤ length l.bytes;
-  front : Appends (g.K.Sink.told l.initial.sink) (g.K.Sink.told l.sink) (take l.done l.bytes);
-  steady : g.K.Sink.faults l.sink ≡ g.K.Sink.faults l.initial.sink;
+  front : Appends (g.K.Sink.view l.initial.sink).told (g.K.Sink.view l.sink).told (take l.done l.bytes);
+  steady : (g.K.Sink.view l.sink).faults ≡ (g.K.Sink.view l.initial.sink).faults;
 }
 
 abbrev pub decreases-loop-done : goal.decreases-loop-done

@@ -18,7 +18,7 @@ use Rattle.pr_lens_bench.proofs.reading.lines_in.Goals as goal
 pub samples-init : goal.samples-init
 samples-init g c =
     let front = c.args.trial.now.front in
-    let told = g.S.Shelf.told c.args.shelf.now in
+    let told = (g.S.Shelf.view c.args.shelf.now).told in
     record {
       made = subst (λ (t : List ℕ). HasMade told (shapes_of front.flat.equations.items) front.flat.outputs.items front.widths c.args.trial.now.plan c.args.feed.now c.args.feed.now c.in_ok-evaluator.evaluator t 0) (sym c.new-text.ensures.items)
           (made_nothing told (shapes_of front.flat.equations.items) front.flat.outputs.items front.widths (inputs_of front.scoped.program) c.args.trial.now.plan c.args.feed.now c.in_ok-evaluator.evaluator c.requires.feed (c.in_ok-evaluator.ensures front.widths));
@@ -55,7 +55,7 @@ next-requires-in-Sample-clause-sample g c =
     let inputs : widths_of f' ≡ input_widths equations =
     c.next.ensures.file.widths ∙ (c.samples.invariant.file.widths ∙ (c.requires.feed.inputs
     ∙ (sym scoped.declared ∙ (inputs-scoped scoped ∙ (sym (inputs-of-equations scoped.program scoped.lawful) ∙ sym (ap input_widths c.requires.fit.flat.equations)))))) in
-    lawful_next (g.S.Shelf.told c.args.shelf.now) (input_widths equations) c.args.feed.now f f' made.samples c.next.new.into made.reads seen inputs
+    lawful_next (g.S.Shelf.view c.args.shelf.now).told (input_widths equations) c.args.feed.now f f' made.samples c.next.new.into made.reads seen inputs
 
 pub next-requires-in-Sample-clause-stands : goal.next-requires-in-Sample-clause-stands
 next-requires-in-Sample-clause-stands g c = record { samples = c.samples.invariant.made.samples; stands = c.samples.invariant.made.stands }
@@ -64,7 +64,7 @@ pub samples-preserved : goal.samples-preserved
 samples-preserved g c =
     let f = c.samples.feed in
     let f' = c.next.new.self in
-    let told = g.S.Shelf.told c.args.shelf.now in
+    let told = (g.S.Shelf.view c.args.shelf.now).told in
     let made = c.samples.invariant.made in
     let flat = c.args.trial.now.front.flat in
     let same = same_later c.args.feed.now f f' c.samples.invariant.file c.next.ensures.file in
@@ -101,7 +101,7 @@ returns-in_default-clause-lines g c = λ no_fault.
       wide = subst (λ (es : List EquationShape). AreWidths es front.widths) (sym c.requires.fit.flat.equations) c.requires.fit.widths;
       rows = made.stands.lawful;
     }) in
-    made_all (g.S.Shelf.told c.args.shelf.now) front.scoped.program (shapes_of front.flat.equations.items) front.flat.outputs.items front.widths c.args.trial.now.plan c.args.feed.now f c.samples.evaluator _ _ made means f' c.next.new.into c.next.result same
+    made_all (g.S.Shelf.view c.args.shelf.now).told front.scoped.program (shapes_of front.flat.equations.items) front.flat.outputs.items front.widths c.args.trial.now.plan c.args.feed.now f c.samples.evaluator _ _ made means f' c.next.new.into c.next.result same
     c.next.ensures.given seen c.in_default.not-Sample no_fault
 
 pub returns-in_default-clause-short : goal.returns-in_default-clause-short
@@ -112,7 +112,7 @@ returns-in_default-clause-there g c = λ no_fault missing. no_fault (c.next.ensu
 
 pub returns-in_default-clause-cause : goal.returns-in_default-clause-cause
 returns-in_default-clause-cause g c = λ fault.
-    cause_earlier (g.S.Shelf.told c.args.shelf.now) (name_of c.args.feed.now) _ _ _ c.samples.invariant.later (rw (c.samples.invariant.file.name, c.samples.invariant.same) at (c.next.ensures.cause fault))
+    cause_earlier (g.S.Shelf.view c.args.shelf.now).told (name_of c.args.feed.now) _ _ _ c.samples.invariant.later (rw (c.samples.invariant.file.name, c.samples.invariant.same) at (c.next.ensures.cause fault))
 
 pub returns-in_default-clause-steady : goal.returns-in_default-clause-steady
 returns-in_default-clause-steady g c = λ no_fault. c.next.ensures.steady no_fault ∙ c.samples.invariant.steady
@@ -158,7 +158,7 @@ pub returns-then-len-gt-MOST_TEXT_BYTES-clause-cut : goal.returns-then-len-gt-MO
 returns-then-len-gt-MOST_TEXT_BYTES-clause-cut g c =
     let f = c.samples.feed in
     let f' = c.next.new.self in
-    let told = g.S.Shelf.told c.args.shelf.now in
+    let told = (g.S.Shelf.view c.args.shelf.now).told in
     let made = c.samples.invariant.made in
     let front = c.args.trial.now.front in
     let flat = front.flat in

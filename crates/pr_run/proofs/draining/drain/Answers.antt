@@ -38,7 +38,7 @@ returns-in-Err-clause-begun g c = λ s h done.
 
 pub loop-preserved : goal.loop-preserved
 loop-preserved g c = record {
-  done = λ s h done. subst (λ (e : History). HasDone s c.write_one.new.machine (g.K.Sink.told c.write_one.new.out) e) (takes_more h c.loop.counter) (c.in-Ok.ensures.done s (h ++ replicate c.loop.counter Take) (c.loop.invariant.done s h done));
+  done = λ s h done. subst (λ (e : History). HasDone s c.write_one.new.machine (g.K.Sink.view c.write_one.new.out).told e) (takes_more h c.loop.counter) (c.in-Ok.ensures.done s (h ++ replicate c.loop.counter Take) (c.loop.invariant.done s h done));
   kept = kept_on c.args.machine.now c.loop.machine c.write_one.new.machine c.loop.invariant.kept c.write_one.ensures.kept;
   left = omega (arith, c.loop.invariant.left, c.write_one.ensures.fewer);
   size = c.write_one.ensures.length ∙ c.loop.invariant.size;
@@ -50,4 +50,4 @@ returns-clause-done g c = λ s h done.
     let all = waiting (stages_of s) (account (stages_of s) s.stripes h) in
     let told : c.waiting_out-end.result ≡ all = c.waiting_out-end.ensures.told s.conf s.stripes h done.stands in
     let end : c.loop.counter ≡ all = omega (arith, told, c.loop-test.false, c.loop.auto.counter-end) in
-    subst (λ (n : ℕ). HasDone s c.loop.machine (g.K.Sink.told c.loop.out) (h ++ replicate n Take)) end (c.loop.invariant.done s h done)
+    subst (λ (n : ℕ). HasDone s c.loop.machine (g.K.Sink.view c.loop.out).told (h ++ replicate n Take)) end (c.loop.invariant.done s h done)

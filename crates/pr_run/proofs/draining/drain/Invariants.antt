@@ -7,9 +7,9 @@ use Rattle.pr_run.proofs.draining.drain.Given as goal
 
 abbrev pub invariant-loop : goal.invariant-loop
 invariant-loop g l = record {
-  done : (s : Setting) (h : History) → HasDone s l.initial.machine (g.K.Sink.told l.initial.out) h → HasDone s l.machine (g.K.Sink.told l.out) (h ++ replicate l.counter Take);
+  done : (s : Setting) (h : History) → HasDone s l.initial.machine (g.K.Sink.view l.initial.out).told h → HasDone s l.machine (g.K.Sink.view l.out).told (h ++ replicate l.counter Take);
   kept : IsKept l.initial.machine l.machine;
   left : l.counter + length (waiting_results l.machine) ≡ length (waiting_results l.initial.machine);
   size : length l.bytes ≡ length l.initial.bytes;
-  later : g.K.Sink.faults l.initial.out ≤ g.K.Sink.faults l.out;
+  later : (g.K.Sink.view l.initial.out).faults ≤ (g.K.Sink.view l.out).faults;
 }

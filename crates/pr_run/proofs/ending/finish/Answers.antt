@@ -9,25 +9,25 @@ use Rattle.pr_run.proofs.ending.finish.Goals as goal
 
 pub returns-in-Err-clause-ran : goal.returns-in-Err-clause-ran
 returns-in-Err-clause-ran g c = λ s f now set is end.
-    ran_cut s c.args.machine.now f now (g.K.Sink.told c.args.out.now) set (subst (λ (r : Result Finished WriteFault). IsEnded s c.args.machine.now f now (g.K.Sink.told c.args.out.now) r) c.in-Err.is end)
+    ran_cut s c.args.machine.now f now (g.K.Sink.view c.args.out.now).told set (subst (λ (r : Result Finished WriteFault). IsEnded s c.args.machine.now f now (g.K.Sink.view c.args.out.now).told r) c.in-Err.is end)
 
 pub returns-in-End-clause-ran : goal.returns-in-End-clause-ran
 returns-in-End-clause-ran g c = λ s f now set is end.
-    let fin = subst (λ (r : Result Finished WriteFault). IsEnded s c.args.machine.now f now (g.K.Sink.told c.args.out.now) r) c.in-Ok.is end in
+    let fin = subst (λ (r : Result Finished WriteFault). IsEnded s c.args.machine.now f now (g.K.Sink.view c.args.out.now).told r) c.in-Ok.is end in
     c.close.ensures.ran s f now set is
-    (subst (λ (got : Got). IsFinished s c.args.machine.now f now (g.K.Sink.told c.args.out.now) (record { last = got; asked = c.in-Ok.field-0.asked })) c.in-End.is fin)
+    (subst (λ (got : Got). IsFinished s c.args.machine.now f now (g.K.Sink.view c.args.out.now).told (record { last = got; asked = c.in-Ok.field-0.asked })) c.in-End.is fin)
 
 pub returns-in-BadSample-clause-ran : goal.returns-in-BadSample-clause-ran
 returns-in-BadSample-clause-ran g c = λ s f now set is end.
-    let fin = subst (λ (r : Result Finished WriteFault). IsEnded s c.args.machine.now f now (g.K.Sink.told c.args.out.now) r) c.in-Ok.is end in
-    ran_from s c.args.machine.now f now (g.K.Sink.told c.args.out.now) c.in-Ok.field-0 (RunEnd.BadSample c.in-BadSample.line) set fin (λ whole. (c.in-BadSample.is, whole))
+    let fin = subst (λ (r : Result Finished WriteFault). IsEnded s c.args.machine.now f now (g.K.Sink.view c.args.out.now).told r) c.in-Ok.is end in
+    ran_from s c.args.machine.now f now (g.K.Sink.view c.args.out.now).told c.in-Ok.field-0 (RunEnd.BadSample c.in-BadSample.line) set fin (λ whole. (c.in-BadSample.is, whole))
 
 pub returns-in-ReadFault-clause-ran : goal.returns-in-ReadFault-clause-ran
 returns-in-ReadFault-clause-ran g c = λ s f now set is end.
-    let fin = subst (λ (r : Result Finished WriteFault). IsEnded s c.args.machine.now f now (g.K.Sink.told c.args.out.now) r) c.in-Ok.is end in
-    ran_from s c.args.machine.now f now (g.K.Sink.told c.args.out.now) c.in-Ok.field-0 RunEnd.ReadFault set fin (λ whole. (c.in-ReadFault.is, whole))
+    let fin = subst (λ (r : Result Finished WriteFault). IsEnded s c.args.machine.now f now (g.K.Sink.view c.args.out.now).told r) c.in-Ok.is end in
+    ran_from s c.args.machine.now f now (g.K.Sink.view c.args.out.now).told c.in-Ok.field-0 RunEnd.ReadFault set fin (λ whole. (c.in-ReadFault.is, whole))
 
 pub returns-in-Limit-clause-ran : goal.returns-in-Limit-clause-ran
 returns-in-Limit-clause-ran g c = λ s f now set is end.
-    let fin = subst (λ (r : Result Finished WriteFault). IsEnded s c.args.machine.now f now (g.K.Sink.told c.args.out.now) r) c.in-Ok.is end in
-    ran_from s c.args.machine.now f now (g.K.Sink.told c.args.out.now) c.in-Ok.field-0 (RunEnd.Limit c.in-Limit.cap) set fin (λ whole. (c.in-Limit.is, whole))
+    let fin = subst (λ (r : Result Finished WriteFault). IsEnded s c.args.machine.now f now (g.K.Sink.view c.args.out.now).told r) c.in-Ok.is end in
+    ran_from s c.args.machine.now f now (g.K.Sink.view c.args.out.now).told c.in-Ok.field-0 (RunEnd.Limit c.in-Limit.cap) set fin (λ whole. (c.in-Limit.is, whole))

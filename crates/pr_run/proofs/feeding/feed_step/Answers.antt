@@ -3,7 +3,6 @@ use Rattle.std.proofs.lemmas.Bool.{and_parts, not-true}
 use Rattle.std.proofs.lemmas.Bool.Decides.{nat_tests}
 use Rattle.pr_samples.specs.declared.feed.Got.{Got}
 use Rattle.pr_samples.specs.Got.{is_sample}
-use Rattle.pr_run.specs.Setting.{view}
 use Rattle.pr_run.specs.Turns.{IsOn}
 use Rattle.pr_run.proofs.NextSamples.{is_sample_end}
 use Rattle.pr_run.proofs.feeding.feed_step.Goals as goal
@@ -17,7 +16,7 @@ read_sample-requires g c =
 
 pub returns-clause-on : goal.returns-clause-on
 returns-clause-on g c = λ s runs turn t set side on.
-    let now = view (g.S.Shelf.told c.args.shelf.now) (g.S.Shelf.reach c.args.shelf.now) (g.S.Shelf.faults c.args.shelf.now) in
+    let now = (g.S.Shelf.view c.args.shelf.now) in
     let all : (not c.args.held && is_sample c.args.last && nat_lt c.waiting_in.result 16) ≡ true = sym c.if-not-may_read.ensures in
     let parts = and_parts (not c.args.held) (is_sample c.args.last) (and_parts (not c.args.held && is_sample c.args.last) (nat_lt c.waiting_in.result 16) all).0 in
     c.read_sample.ensures.on s runs turn t set (side ∙ not-true c.args.held parts.0)

@@ -6,19 +6,19 @@ use Rattle.pr_share.proofs.feeding.feed_step.Goals as goal
 pub returns-then-used-clause-turning : goal.returns-then-used-clause-turning
 returns-then-used-clause-turning g c = λ s runs t hv on.
     let e : c.args.used.ended ≡ true = cc in
-    turn_ended s runs c.args.machine.now c.args.feed.now (g.S.Shelf.told c.args.shelf.now) t c.args.used on e
+    turn_ended s runs c.args.machine.now c.args.feed.now (g.S.Shelf.view c.args.shelf.now).told t c.args.used on e
 
 pub returns-then-waiting_in-eq-FULL-clause-turning : goal.returns-then-waiting_in-eq-FULL-clause-turning
 returns-then-waiting_in-eq-FULL-clause-turning g c = λ s runs t hv on.
     let e : c.args.used.ended ≡ false = cc in
     let n : length (waiting_samples c.args.machine.now) ≡ 16 = omega (arith, c.waiting_in.ensures.is) in
-    turn_full s runs c.args.machine.now c.args.feed.now (g.S.Shelf.told c.args.shelf.now) t c.args.used on e n
+    turn_full s runs c.args.machine.now c.args.feed.now (g.S.Shelf.view c.args.shelf.now).told t c.args.used on e n
 
 pub returns-then-used-quota-clause-turning : goal.returns-then-used-quota-clause-turning
 returns-then-used-quota-clause-turning g c = λ s runs t hv on.
     let e : c.args.used.ended ≡ false = cc in
     let n : length (waiting_samples c.args.machine.now) < 16 = omega (arith, c.waiting_in.ensures.is, c.waiting_in.ensures.few) in
-    turn_spent s runs c.args.machine.now c.args.feed.now (g.S.Shelf.told c.args.shelf.now) t c.args.used on e n
+    turn_spent s runs c.args.machine.now c.args.feed.now (g.S.Shelf.view c.args.shelf.now).told t c.args.used on e n
 
 pub read_sample-requires : goal.read_sample-requires
 read_sample-requires g c =

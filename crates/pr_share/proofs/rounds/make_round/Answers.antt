@@ -31,7 +31,7 @@ returns-in-Err-clause-stopped g c = λ firsts start r st. c.in-Err.ensures.stopp
 pub returns-clause-round : goal.returns-clause-round
 returns-clause-round g c = λ firsts start r st.
     let inv = c.loop-number.invariant in
-    sharing_round (g.S.Shelf.told c.loop-number.shelf) firsts c.loop-number.items start (g.S.Shelf.faults c.loop-number.shelf) (g.K.Sink.told c.loop-number.out) r c.loop-number.number (inv.sharing firsts start r st)
+    sharing_round (g.S.Shelf.view c.loop-number.shelf).told firsts c.loop-number.items start (g.S.Shelf.view c.loop-number.shelf).faults (g.K.Sink.view c.loop-number.out).told r c.loop-number.number (inv.sharing firsts start r st)
     (omega (arith, inv.count, c.loop-number-test.false, c.loop-number.auto.number-end))
 
 pub returns-in-Err-clause-others : goal.returns-in-Err-clause-others

@@ -12,7 +12,7 @@ use Rattle.pr_share.proofs.rounds.take_place.Goals as goal
 
 pub returns-then-is_some-clause-next : goal.returns-then-is_some-clause-next
 returns-then-is_some-clause-next g c = λ firsts start r st.
-    skip_here (g.S.Shelf.told c.args.shelf.now) firsts c.args.items.now start (g.S.Shelf.faults c.args.shelf.now) (g.K.Sink.told c.args.out.now) r c.args.number st c.index-items-number.result
+    skip_here (g.S.Shelf.view c.args.shelf.now).told firsts c.args.items.now start (g.S.Shelf.view c.args.shelf.now).faults (g.K.Sink.view c.args.out.now).told r c.args.number st c.index-items-number.result
     (got_from c.args.items.now c.args.number c.index-items-number.result c.requires.at c.index-items-number.is) (ap (λ (x : ShareItem g.row.N g.row.P). is_some x.ended) c.index-items-number.is ∙ (sym c.is_some.ensures ∙ c.if-is_some.true))
 
 pub take_turn-requires : goal.take_turn-requires
@@ -20,7 +20,7 @@ take_turn-requires g c =
     let q = c.requires.sharing in
     let now = get_or c.args.items.now c.args.number c.index-items-number-2.result in
     let going = ap (λ (x : ShareItem g.row.N g.row.P). is_some x.ended) (get_or_default c.args.items.now c.args.number c.index-items-number-2.result c.index-items-number.result c.requires.at) ∙ (sym c.is_some.ensures ∙ c.if-is_some.false) in
-    let w = taken_here (g.S.Shelf.told c.args.shelf.now) q.0 c.args.items.now q.1 (g.S.Shelf.faults c.args.shelf.now) (g.K.Sink.told c.args.out.now) q.2 c.args.number q.3 now (got_any c.args.items.now c.args.number c.index-items-number-2.result c.requires.at) in (
+    let w = taken_here (g.S.Shelf.view c.args.shelf.now).told q.0 c.args.items.now q.1 (g.S.Shelf.view c.args.shelf.now).faults (g.K.Sink.view c.args.out.now).told q.2 c.args.number q.3 now (got_any c.args.items.now c.args.number c.index-items-number-2.result c.requires.at) in (
       omega arith,
       (
         omega arith,
@@ -39,12 +39,12 @@ take_turn-requires g c =
 
 pub returns-clause-next : goal.returns-clause-next
 returns-clause-next g c = λ firsts start r st.
-    let told = g.S.Shelf.told c.args.shelf.now in
-    let told' = g.S.Shelf.told c.take_turn.new.shelf in
-    let b = g.S.Shelf.faults c.args.shelf.now in
-    let b' = g.S.Shelf.faults c.take_turn.new.shelf in
-    let before = g.K.Sink.told c.args.out.now in
-    let after = g.K.Sink.told c.take_turn.new.out in
+    let told = (g.S.Shelf.view c.args.shelf.now).told in
+    let told' = (g.S.Shelf.view c.take_turn.new.shelf).told in
+    let b = (g.S.Shelf.view c.args.shelf.now).faults in
+    let b' = (g.S.Shelf.view c.take_turn.new.shelf).faults in
+    let before = (g.K.Sink.view c.args.out.now).told in
+    let after = (g.K.Sink.view c.take_turn.new.out).told in
     let now = get_or c.args.items.now c.args.number c.index-items-number-2.result in
     let here = got_any c.args.items.now c.args.number c.index-items-number-2.result c.requires.at in
     let going = ap (λ (x : ShareItem g.row.N g.row.P). is_some x.ended) (get_or_default c.args.items.now c.args.number c.index-items-number-2.result c.index-items-number.result c.requires.at) ∙ (sym c.is_some.ensures ∙ c.if-is_some.false) in
@@ -57,12 +57,12 @@ returns-clause-next g c = λ firsts start r st.
 
 pub returns-clause-stopped : goal.returns-clause-stopped
 returns-clause-stopped g c = λ firsts start r st.
-    let told = g.S.Shelf.told c.args.shelf.now in
-    let told' = g.S.Shelf.told c.take_turn.new.shelf in
-    let b = g.S.Shelf.faults c.args.shelf.now in
-    let b' = g.S.Shelf.faults c.take_turn.new.shelf in
-    let before = g.K.Sink.told c.args.out.now in
-    let after = g.K.Sink.told c.take_turn.new.out in
+    let told = (g.S.Shelf.view c.args.shelf.now).told in
+    let told' = (g.S.Shelf.view c.take_turn.new.shelf).told in
+    let b = (g.S.Shelf.view c.args.shelf.now).faults in
+    let b' = (g.S.Shelf.view c.take_turn.new.shelf).faults in
+    let before = (g.K.Sink.view c.args.out.now).told in
+    let after = (g.K.Sink.view c.take_turn.new.out).told in
     let now = get_or c.args.items.now c.args.number c.index-items-number-2.result in
     let here = got_any c.args.items.now c.args.number c.index-items-number-2.result c.requires.at in
     let going = ap (λ (x : ShareItem g.row.N g.row.P). is_some x.ended) (get_or_default c.args.items.now c.args.number c.index-items-number-2.result c.index-items-number.result c.requires.at) ∙ (sym c.is_some.ensures ∙ c.if-is_some.false) in

@@ -24,10 +24,10 @@ run_turn-requires g c =
         (
           stands_self c.resume-running.result _ _ [] c.resume-running.ensures.stands,
           (
-            inputs_are (g.S.Shelf.told c.args.shelf.now) q.0 c.args.item.now q.1 (conf_of c.resume-running.result) q.2 is,
+            inputs_are (g.S.Shelf.view c.args.shelf.now).told q.0 c.args.item.now q.1 (conf_of c.resume-running.result) q.2 is,
             (
               c.put_widths-count.ensures.widths ∙ ap (λ (k : Configuration g.row.N g.row.P). output_widths (shape_of k)) c.conf.ensures.is,
-              (c.requires.number, (q.0.feed, (q.1, fed_yet (g.S.Shelf.told c.args.shelf.now) q.0 c.args.item.now q.1 q.2 c.requires.going))),
+              (c.requires.number, (q.0.feed, (q.1, fed_yet (g.S.Shelf.view c.args.shelf.now).told q.0 c.args.item.now q.1 q.2 c.requires.going))),
             ),
           ),
         ),
@@ -36,13 +36,13 @@ run_turn-requires g c =
 
 pub returns-clause-turn : goal.returns-clause-turn
 returns-clause-turn g c = λ first rows h.
-    let told = g.S.Shelf.told c.args.shelf.now in
-    let told' = g.S.Shelf.told c.run_turn.new.shelf in
+    let told = (g.S.Shelf.view c.args.shelf.now).told in
+    let told' = (g.S.Shelf.view c.run_turn.new.shelf).told in
     let same : told' ≡ told = c.run_turn.ensures.told in
-    let b = g.S.Shelf.faults c.args.shelf.now in
-    let b' = g.S.Shelf.faults c.run_turn.new.shelf in
-    let t = g.K.Sink.told c.args.out.now in
-    let t' = g.K.Sink.told c.run_turn.new.out in
+    let b = (g.S.Shelf.view c.args.shelf.now).faults in
+    let b' = (g.S.Shelf.view c.run_turn.new.shelf).faults in
+    let t = (g.K.Sink.view c.args.out.now).told in
+    let t' = (g.K.Sink.view c.run_turn.new.out).told in
     let m = c.resume-running.result in
     let is = ap (shape_of {N = g.row.N} {P = g.row.P}) c.resume-running.ensures.conf ∙ parked_is c.args.item.now.parked c.take.result c.in-Some.parked c.take.ensures.value c.in-Some.is in
     let s = turn_setting first rows (conf_of m) (stripes_of m) c.args.number t in
@@ -57,13 +57,13 @@ returns-clause-turn g c = λ first rows h.
 
 pub returns-in-Err-clause-half : goal.returns-in-Err-clause-half
 returns-in-Err-clause-half g c = λ first rows h.
-    let told = g.S.Shelf.told c.args.shelf.now in
-    let told' = g.S.Shelf.told c.run_turn.new.shelf in
+    let told = (g.S.Shelf.view c.args.shelf.now).told in
+    let told' = (g.S.Shelf.view c.run_turn.new.shelf).told in
     let same : told' ≡ told = c.run_turn.ensures.told in
-    let b = g.S.Shelf.faults c.args.shelf.now in
-    let b' = g.S.Shelf.faults c.run_turn.new.shelf in
-    let t = g.K.Sink.told c.args.out.now in
-    let t' = g.K.Sink.told c.run_turn.new.out in
+    let b = (g.S.Shelf.view c.args.shelf.now).faults in
+    let b' = (g.S.Shelf.view c.run_turn.new.shelf).faults in
+    let t = (g.K.Sink.view c.args.out.now).told in
+    let t' = (g.K.Sink.view c.run_turn.new.out).told in
     let m = c.resume-running.result in
     let is = ap (shape_of {N = g.row.N} {P = g.row.P}) c.resume-running.ensures.conf ∙ parked_is c.args.item.now.parked c.take.result c.in-Some.parked c.take.ensures.value c.in-Some.is in
     let s = turn_setting first rows (conf_of m) (stripes_of m) c.args.number t in

@@ -45,14 +45,14 @@ write_one-requires g c =
 pub returns-in-Err-clause-front : goal.returns-in-Err-clause-front
 returns-in-Err-clause-front g c = λ s h number shown.
     let inv = c.loop.invariant in
-    subst (λ (xs : List (List ℕ)). AppendsFront s.tape (g.K.Sink.told c.write_one.new.out) (marked s.number (result_numbers g.row.N g.row.P s.conf xs))) (inv.offered s h number shown)
+    subst (λ (xs : List (List ℕ)). AppendsFront s.tape (g.K.Sink.view c.write_one.new.out).told (marked s.number (result_numbers g.row.N g.row.P s.conf xs))) (inv.offered s h number shown)
     (c.in-Err.ensures.front s (h ++ replicate c.loop.counter Take) number (inv.shown s h number shown))
 
 pub loop-preserved : goal.loop-preserved
 loop-preserved g c =
     let inv = c.loop.invariant in
     record {
-      shown = λ s h number shown. subst (λ (e : History). HasShown s c.write_one.new.machine (g.K.Sink.told c.write_one.new.out) e) (takes_more h c.loop.counter) (c.in-Ok.ensures.shown s (h ++ replicate c.loop.counter Take) number (inv.shown s h number shown));
+      shown = λ s h number shown. subst (λ (e : History). HasShown s c.write_one.new.machine (g.K.Sink.view c.write_one.new.out).told e) (takes_more h c.loop.counter) (c.in-Ok.ensures.shown s (h ++ replicate c.loop.counter Take) number (inv.shown s h number shown));
       offered = λ s h number shown.
           ap (λ (e : History). (account (stages_of s) s.stripes e).offered) (sym (takes_more h c.loop.counter))
           ∙ (c.write_one.ensures.offered s (h ++ replicate c.loop.counter Take) (inv.shown s h number shown) ∙ inv.offered s h number shown);
@@ -67,4 +67,4 @@ returns-clause-shown g c = λ s h number shown.
     let all = waiting (stages_of s) (account (stages_of s) s.stripes h) in
     let told : c.waiting_out-end.result ≡ all = c.waiting_out-end.ensures.told s.conf s.stripes h shown.stands in
     let end : c.loop.counter ≡ all = omega (arith, told, c.loop-test.false, c.loop.auto.counter-end) in
-    subst (λ (n : ℕ). HasShown s c.loop.machine (g.K.Sink.told c.loop.out) (h ++ replicate n Take)) end (c.loop.invariant.shown s h number shown)
+    subst (λ (n : ℕ). HasShown s c.loop.machine (g.K.Sink.view c.loop.out).told (h ++ replicate n Take)) end (c.loop.invariant.shown s h number shown)

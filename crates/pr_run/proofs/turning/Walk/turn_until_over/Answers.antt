@@ -7,7 +7,7 @@ use Rattle.pr_conf.specs.Through.{output_widths}
 use Rattle.pr_samples.specs.declared.feed.Got.{Got}
 use Rattle.pr_samples.specs.Stall.{turns_left}
 use Rattle.pr_run_script.specs.Script.{Run, begun, turns}
-use Rattle.pr_run.specs.Setting.{Setting, IsSet, view, setting_of, stages_of}
+use Rattle.pr_run.specs.Setting.{Setting, IsSet, setting_of, stages_of}
 use Rattle.pr_run.specs.Turns.{IsOn, IsCut}
 use Rattle.pr_run.specs.Runs.{IsFinished, script_run}
 use Rattle.pr_run.proofs.WholeRuns.{set_of, on_start, time_start, turn_now, left_more, few_turns, turns_fit, done_whole, cut_whole}
@@ -15,7 +15,7 @@ use Rattle.pr_run.proofs.turning.Walk.turn_until_over.Goals as goal
 
 pub loop-now-init : goal.loop-now-init
 loop-now-init g c =
-    let s0 = setting_of c.args.machine.now c.args.stall.now c.args.feed.now (view (g.S.Shelf.told c.args.shelf.now) (g.S.Shelf.reach c.args.shelf.now) (g.S.Shelf.faults c.args.shelf.now)) (g.K.Sink.told c.args.out.now) (not (eqb g.row.LOG 0)) in
+    let s0 = setting_of c.args.machine.now c.args.stall.now c.args.feed.now (g.S.Shelf.view c.args.shelf.now) (g.K.Sink.view c.args.out.now).told (not (eqb g.row.LOG 0)) in
     record {
       on = subst (λ (last : Got). IsOn s0 (λ xs. turns (stages_of s0) s0.stripes s0.stall 0 (begun xs)) c.args.machine.now c.args.feed.now s0.shelf s0.tape last) (sym c.requires.first) (on_start s0 c.args.machine.now c.requires.loaded c.requires.fresh);
       widths = refl;
@@ -29,7 +29,7 @@ loop-now-init g c =
 
 pub turn-requires : goal.turn-requires
 turn-requires g c =
-    let s0 = setting_of c.args.machine.now c.args.stall.now c.args.feed.now (view (g.S.Shelf.told c.args.shelf.now) (g.S.Shelf.reach c.args.shelf.now) (g.S.Shelf.faults c.args.shelf.now)) (g.K.Sink.told c.args.out.now) (not (eqb g.row.LOG 0)) in
+    let s0 = setting_of c.args.machine.now c.args.stall.now c.args.feed.now (g.S.Shelf.view c.args.shelf.now) (g.K.Sink.view c.args.out.now).told (not (eqb g.row.LOG 0)) in
     let set : IsSet s0 = set_of c.args.machine.now c.args.stall.now c.args.feed.now _ _ (not (eqb g.row.LOG 0)) c.requires.inputs c.requires.turns c.requires.fresh.few in
     let inv = c.loop-now.invariant in
     let k = c.loop-now.asked in
@@ -40,7 +40,7 @@ turn-requires g c =
 
 pub returns-in-Over-clause-ended : goal.returns-in-Over-clause-ended
 returns-in-Over-clause-ended g c = λ s e.
-    let s0 = setting_of c.args.machine.now c.args.stall.now c.args.feed.now (view (g.S.Shelf.told c.args.shelf.now) (g.S.Shelf.reach c.args.shelf.now) (g.S.Shelf.faults c.args.shelf.now)) (g.K.Sink.told c.args.out.now) (not (eqb g.row.LOG 0)) in
+    let s0 = setting_of c.args.machine.now c.args.stall.now c.args.feed.now (g.S.Shelf.view c.args.shelf.now) (g.K.Sink.view c.args.out.now).told (not (eqb g.row.LOG 0)) in
     let set : IsSet s0 = set_of c.args.machine.now c.args.stall.now c.args.feed.now _ _ (not (eqb g.row.LOG 0)) c.requires.inputs c.requires.turns c.requires.fresh.few in
     let inv = c.loop-now.invariant in
     let k = c.loop-now.asked in
@@ -48,7 +48,7 @@ returns-in-Over-clause-ended g c = λ s e.
     let next : List (List ℕ) → Run (List ℕ) = λ xs. turns (stages_of s0) s0.stripes s0.stall (k + 1) (begun xs) in
     let turn = turn_now s0 (turns_left c.args.stall.now) (turns_left c.loop-now.stall) c.next-held.result k refl inv.left c.next-held.ensures.turn in
     let done = c.in-Over.ensures.after s0 first next set refl turn inv.on in
-    subst (λ (x : Setting). IsFinished x c.turn.new.machine c.turn.new.feed (view (g.S.Shelf.told c.turn.new.shelf) (g.S.Shelf.reach c.turn.new.shelf) (g.S.Shelf.faults c.turn.new.shelf)) (g.K.Sink.told c.turn.new.out) (record { last = c.in-Over.last; asked = k })) (sym e)
+    subst (λ (x : Setting). IsFinished x c.turn.new.machine c.turn.new.feed (g.S.Shelf.view c.turn.new.shelf) (g.K.Sink.view c.turn.new.out).told (record { last = c.in-Over.last; asked = k })) (sym e)
     (done_whole s0 k c.turn.new.machine c.turn.new.feed _ _ c.in-Over.last set done)
 
 pub returns-in-Over-clause-conf : goal.returns-in-Over-clause-conf
@@ -62,7 +62,7 @@ returns-in-Over-clause-later g c = omega (arith, c.loop-now.invariant.later, c.t
 
 pub returns-in-Failed-clause-ended : goal.returns-in-Failed-clause-ended
 returns-in-Failed-clause-ended g c = λ s e.
-    let s0 = setting_of c.args.machine.now c.args.stall.now c.args.feed.now (view (g.S.Shelf.told c.args.shelf.now) (g.S.Shelf.reach c.args.shelf.now) (g.S.Shelf.faults c.args.shelf.now)) (g.K.Sink.told c.args.out.now) (not (eqb g.row.LOG 0)) in
+    let s0 = setting_of c.args.machine.now c.args.stall.now c.args.feed.now (g.S.Shelf.view c.args.shelf.now) (g.K.Sink.view c.args.out.now).told (not (eqb g.row.LOG 0)) in
     let set : IsSet s0 = set_of c.args.machine.now c.args.stall.now c.args.feed.now _ _ (not (eqb g.row.LOG 0)) c.requires.inputs c.requires.turns c.requires.fresh.few in
     let inv = c.loop-now.invariant in
     let k = c.loop-now.asked in
@@ -70,7 +70,7 @@ returns-in-Failed-clause-ended g c = λ s e.
     let next : List (List ℕ) → Run (List ℕ) = λ xs. turns (stages_of s0) s0.stripes s0.stall (k + 1) (begun xs) in
     let turn = turn_now s0 (turns_left c.args.stall.now) (turns_left c.loop-now.stall) c.next-held.result k refl inv.left c.next-held.ensures.turn in
     let cut = c.in-Failed.ensures.after s0 first next set refl turn inv.on in
-    subst (λ (x : Setting). IsCut x (script_run x) c.turn.new.machine c.turn.new.feed (view (g.S.Shelf.told c.turn.new.shelf) (g.S.Shelf.reach c.turn.new.shelf) (g.S.Shelf.faults c.turn.new.shelf)) (g.K.Sink.told c.turn.new.out)) (sym e)
+    subst (λ (x : Setting). IsCut x (script_run x) c.turn.new.machine c.turn.new.feed (g.S.Shelf.view c.turn.new.shelf) (g.K.Sink.view c.turn.new.out).told) (sym e)
     (cut_whole s0 (k + 1) c.turn.new.machine c.turn.new.feed _ _ set cut)
 
 pub returns-in-Failed-clause-conf : goal.returns-in-Failed-clause-conf
@@ -87,7 +87,7 @@ returns-in-Failed-clause-later g c = omega (arith, c.loop-now.invariant.later, c
 
 pub overflow_add-asked : goal.overflow_add-asked
 overflow_add-asked g c =
-    let s0 = setting_of c.args.machine.now c.args.stall.now c.args.feed.now (view (g.S.Shelf.told c.args.shelf.now) (g.S.Shelf.reach c.args.shelf.now) (g.S.Shelf.faults c.args.shelf.now)) (g.K.Sink.told c.args.out.now) (not (eqb g.row.LOG 0)) in
+    let s0 = setting_of c.args.machine.now c.args.stall.now c.args.feed.now (g.S.Shelf.view c.args.shelf.now) (g.K.Sink.view c.args.out.now).told (not (eqb g.row.LOG 0)) in
     let set : IsSet s0 = set_of c.args.machine.now c.args.stall.now c.args.feed.now _ _ (not (eqb g.row.LOG 0)) c.requires.inputs c.requires.turns c.requires.fresh.few in
     let inv = c.loop-now.invariant in
     let k = c.loop-now.asked in
@@ -97,7 +97,7 @@ overflow_add-asked g c =
 
 pub loop-now-smaller : goal.loop-now-smaller
 loop-now-smaller g c =
-    let s0 = setting_of c.args.machine.now c.args.stall.now c.args.feed.now (view (g.S.Shelf.told c.args.shelf.now) (g.S.Shelf.reach c.args.shelf.now) (g.S.Shelf.faults c.args.shelf.now)) (g.K.Sink.told c.args.out.now) (not (eqb g.row.LOG 0)) in
+    let s0 = setting_of c.args.machine.now c.args.stall.now c.args.feed.now (g.S.Shelf.view c.args.shelf.now) (g.K.Sink.view c.args.out.now).told (not (eqb g.row.LOG 0)) in
     let set : IsSet s0 = set_of c.args.machine.now c.args.stall.now c.args.feed.now _ _ (not (eqb g.row.LOG 0)) c.requires.inputs c.requires.turns c.requires.fresh.few in
     let inv = c.loop-now.invariant in
     let k = c.loop-now.asked in
@@ -106,7 +106,7 @@ loop-now-smaller g c =
 
 pub loop-now-preserved : goal.loop-now-preserved
 loop-now-preserved g c =
-    let s0 = setting_of c.args.machine.now c.args.stall.now c.args.feed.now (view (g.S.Shelf.told c.args.shelf.now) (g.S.Shelf.reach c.args.shelf.now) (g.S.Shelf.faults c.args.shelf.now)) (g.K.Sink.told c.args.out.now) (not (eqb g.row.LOG 0)) in
+    let s0 = setting_of c.args.machine.now c.args.stall.now c.args.feed.now (g.S.Shelf.view c.args.shelf.now) (g.K.Sink.view c.args.out.now).told (not (eqb g.row.LOG 0)) in
     let set : IsSet s0 = set_of c.args.machine.now c.args.stall.now c.args.feed.now _ _ (not (eqb g.row.LOG 0)) c.requires.inputs c.requires.turns c.requires.fresh.few in
     let inv = c.loop-now.invariant in
     let k = c.loop-now.asked in
@@ -126,7 +126,7 @@ loop-now-preserved g c =
 
 pub returns-in-Over-clause-last : goal.returns-in-Over-clause-last
 returns-in-Over-clause-last g c =
-    let s0 = setting_of c.args.machine.now c.args.stall.now c.args.feed.now (view (g.S.Shelf.told c.args.shelf.now) (g.S.Shelf.reach c.args.shelf.now) (g.S.Shelf.faults c.args.shelf.now)) (g.K.Sink.told c.args.out.now) (not (eqb g.row.LOG 0)) in
+    let s0 = setting_of c.args.machine.now c.args.stall.now c.args.feed.now (g.S.Shelf.view c.args.shelf.now) (g.K.Sink.view c.args.out.now).told (not (eqb g.row.LOG 0)) in
     let set : IsSet s0 = set_of c.args.machine.now c.args.stall.now c.args.feed.now _ _ (not (eqb g.row.LOG 0)) c.requires.inputs c.requires.turns c.requires.fresh.few in
     let inv = c.loop-now.invariant in
     let k = c.loop-now.asked in

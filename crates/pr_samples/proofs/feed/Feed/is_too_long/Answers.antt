@@ -14,7 +14,7 @@ loop-shelf-preserved g c =
     let named = c.as_str.ensures.value ∙ c.loop-shelf.invariant.file.name in
     record {
       seen = λ bytes seen.
-          let told = g.S.Shelf.told c.args.shelf.now in
+          let told = (g.S.Shelf.view c.args.shelf.now).told in
           let is_open : f.tail ≡ Tail.Open = search rules in
           let part : OfFile told (name_of f) (λ file. IsPart file f.place c.in_ok-count.count c.read_at.new.buf) = subst (λ (t : Told). OfFile t (name_of f) (λ file. IsPart file f.place c.in_ok-count.count c.read_at.new.buf)) c.loop-shelf.invariant.same (rw c.as_str.ensures.value at c.in_ok-count.ensures.part) in
           let filled : length c.read_at.new.buf ≡ f.buffer.len = omega (arith, c.read_at.auto.buf, c.deref_mut.ensures.len, f.buffer.ok.0) in

@@ -6,14 +6,14 @@ use Rattle.pr_samples.proofs.feed.Feed.is_too_long.Given as goal
 
 abbrev pub invariant-loop-shelf : goal.invariant-loop-shelf
 invariant-loop-shelf g l = record {
-  seen : (bytes : List ℕ) → IsSeen (g.S.Shelf.told l.initial.shelf) bytes l.initial.self → ReadsOn (g.S.Shelf.told l.initial.shelf) bytes l.initial.self l.self (λ file. ⊤);
+  seen : (bytes : List ℕ) → IsSeen (g.S.Shelf.view l.initial.shelf).told bytes l.initial.self → ReadsOn (g.S.Shelf.view l.initial.shelf).told bytes l.initial.self l.self (λ file. ⊤);
   file : SameFile l.initial.self l.self;
   spent : l.self.start ≡ l.self.end;
-  steady : g.S.Shelf.faults l.shelf ≡ g.S.Shelf.faults l.initial.shelf;
-  later : g.S.Shelf.faults l.initial.shelf ≤ g.S.Shelf.faults l.shelf;
-  same : g.S.Shelf.told l.shelf ≡ g.S.Shelf.told l.initial.shelf;
-  reached : g.S.Shelf.reach l.initial.shelf (name_of l.initial.self) ≡ Some (place_of l.initial.self) → g.S.Shelf.reach l.shelf (name_of l.initial.self) ≡ Some (place_of l.self);
-  others : (q : List ℕ) → q ≢ name_of l.initial.self → g.S.Shelf.reach l.shelf q ≡ g.S.Shelf.reach l.initial.shelf q;
+  steady : (g.S.Shelf.view l.shelf).faults ≡ (g.S.Shelf.view l.initial.shelf).faults;
+  later : (g.S.Shelf.view l.initial.shelf).faults ≤ (g.S.Shelf.view l.shelf).faults;
+  same : (g.S.Shelf.view l.shelf).told ≡ (g.S.Shelf.view l.initial.shelf).told;
+  reached : (g.S.Shelf.view l.initial.shelf).reach (name_of l.initial.self) ≡ Some (place_of l.initial.self) → (g.S.Shelf.view l.shelf).reach (name_of l.initial.self) ≡ Some (place_of l.self);
+  others : (q : List ℕ) → q ≢ name_of l.initial.self → (g.S.Shelf.view l.shelf).reach q ≡ (g.S.Shelf.view l.initial.shelf).reach q;
 }
 
 abbrev pub decreases-loop-shelf : goal.decreases-loop-shelf

@@ -22,7 +22,7 @@ returns-then-take_front-clause-seen g c = λ bytes seen.
     let tail = c.give_front.ensures.tail ∙ e.bytes.tail in
     record {
       bytes = bytes;
-      seen = seen_same (g.S.Shelf.told c.args.shelf.now) bytes f _ seen (c.give_front.ensures.file.name ∙ e.file.name) (c.give_front.ensures.place ∙ e.bytes.place) tail;
+      seen = seen_same (g.S.Shelf.view c.args.shelf.now).told bytes f _ seen (c.give_front.ensures.file.name ∙ e.file.name) (c.give_front.ensures.place ∙ e.bytes.place) tail;
       began = λ file begins. rw tail at begins;
       holds = λ file begins reads.
           (let met = found_step f f' _ (Lawful f'.front.items) file reads e.file e.bytes (e.found c.if-take_front.true) in
@@ -40,7 +40,7 @@ returns-clause-told g c = λ file tells reads.
     let e = c.take_front.ensures in
     let no = c.if-take_front.false in
     let stands = kept_step c.args.self.now c.take_front.new.self file reads e.file e.bytes (e.passed no) (e.pending no) in
-    rw e.bytes.given at (c.next_line.ensures.told file (subst (λ (n : List ℕ). Tells (g.S.Shelf.told c.args.shelf.now) n file) (sym e.file.name) tells) stands)
+    rw e.bytes.given at (c.next_line.ensures.told file (subst (λ (n : List ℕ). Tells (g.S.Shelf.view c.args.shelf.now).told n file) (sym e.file.name) tells) stands)
 
 pub returns-clause-seen : goal.returns-clause-seen
 returns-clause-seen g c = λ bytes seen.
@@ -48,7 +48,7 @@ returns-clause-seen g c = λ bytes seen.
     let no = c.if-take_front.false in
     let f = c.args.self.now in
     let f' = c.take_front.new.self in
-    let on = c.next_line.ensures.seen bytes (seen_same (g.S.Shelf.told c.args.shelf.now) bytes f f' seen e.file.name e.bytes.place e.bytes.tail) in
+    let on = c.next_line.ensures.seen bytes (seen_same (g.S.Shelf.view c.args.shelf.now).told bytes f f' seen e.file.name e.bytes.place e.bytes.tail) in
     record {
       bytes = on.bytes;
       seen = on.seen;

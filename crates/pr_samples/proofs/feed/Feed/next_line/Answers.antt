@@ -41,7 +41,7 @@ returns-in-Some-clause-seen g c = λ bytes seen.
     let tail = c.settle.ensures.tail ∙ c.meet-met.ensures.bytes.tail in
     record {
       bytes = bytes;
-      seen = seen_same (g.S.Shelf.told c.args.shelf.now) bytes f _ seen (c.settle.ensures.file.name ∙ c.meet-met.ensures.file.name) (c.settle.ensures.place ∙ c.meet-met.ensures.bytes.place) tail;
+      seen = seen_same (g.S.Shelf.view c.args.shelf.now).told bytes f _ seen (c.settle.ensures.file.name ∙ c.meet-met.ensures.file.name) (c.settle.ensures.place ∙ c.meet-met.ensures.bytes.place) tail;
       began = λ file begins. rw tail at begins;
       holds = λ file begins reads.
           (let met = found_step f c.meet-met.new.self _ (taken_of c.in-Some.met c.meet-met.new.self.numbers.items) file reads c.meet-met.ensures.file c.meet-met.ensures.bytes (λ more. rw c.in-Some.is at (c.meet-met.ensures.first more)) in
@@ -52,7 +52,7 @@ pub returns-then-is_open-clause-seen : goal.returns-then-is_open-clause-seen
 returns-then-is_open-clause-seen g c = λ bytes seen.
     let f = c.args.self.now in
     let f' = c.meet-met.new.self in
-    let told = g.S.Shelf.told c.args.shelf.now in
+    let told = (g.S.Shelf.view c.args.shelf.now).told in
     let tail = c.meet-met.ensures.bytes.tail in
     let on = c.read_on.ensures.seen bytes (seen_same told bytes f f' seen c.meet-met.ensures.file.name c.meet-met.ensures.bytes.place tail) in
     record {
@@ -75,7 +75,7 @@ returns-clause-seen g c = λ bytes seen.
     let tail = c.finish.ensures.tail ∙ c.meet-met.ensures.bytes.tail in
     record {
       bytes = bytes;
-      seen = seen_same (g.S.Shelf.told c.args.shelf.now) bytes f _ seen (c.finish.ensures.file.name ∙ c.meet-met.ensures.file.name) (c.finish.ensures.place ∙ c.meet-met.ensures.bytes.place) tail;
+      seen = seen_same (g.S.Shelf.view c.args.shelf.now).told bytes f _ seen (c.finish.ensures.file.name ∙ c.meet-met.ensures.file.name) (c.finish.ensures.place ∙ c.meet-met.ensures.bytes.place) tail;
       began = λ file begins. rw tail at begins;
       holds = λ file begins reads.
           (let read = move_step f f' _ (scan_of (widths_of f) f'.numbers.items c.meet-met.result.0) file reads c.meet-met.ensures.file c.meet-met.ensures.bytes (λ more. rw c.in_default.is at (c.meet-met.ensures.first more)) in
@@ -89,7 +89,7 @@ returns-then-is_wrong-clause-seen g c = λ bytes seen.
     let tail = c.meet-met.ensures.bytes.tail in
     record {
       bytes = bytes;
-      seen = seen_same (g.S.Shelf.told c.args.shelf.now) bytes f f' seen c.meet-met.ensures.file.name c.meet-met.ensures.bytes.place tail;
+      seen = seen_same (g.S.Shelf.view c.args.shelf.now).told bytes f f' seen c.meet-met.ensures.file.name c.meet-met.ensures.bytes.place tail;
       began = λ file begins. rw tail at begins;
       holds = λ file begins reads.
           (let moved = move_step f f' _ (scan_of (widths_of f) f'.numbers.items c.meet-met.result.0) file reads c.meet-met.ensures.file c.meet-met.ensures.bytes (λ more. rw c.in_default.is at (c.meet-met.ensures.first more)) in

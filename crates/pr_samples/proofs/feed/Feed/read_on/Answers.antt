@@ -43,7 +43,7 @@ returns-in-Some-clause-seen g c = λ bytes seen.
     let f = c.loop-cursor.self in
     let f' = c.advance.new.self in
     let f'' = c.meet-met.new.self in
-    let told = g.S.Shelf.told c.args.shelf.now in
+    let told = (g.S.Shelf.view c.args.shelf.now).told in
     let is_open : f.tail ≡ Tail.Open = search rules in
     let part : OfFile told (name_of f) (λ file. IsPart file f.place c.in-Ok.count c.read_at.new.buf) = subst (λ (t : Told). OfFile t (name_of f) (λ file. IsPart file f.place c.in-Ok.count c.read_at.new.buf)) c.loop-cursor.invariant.same (rw c.as_str.ensures.value at c.in-Ok.ensures.part) in
     let filled : length c.read_at.new.buf ≡ f.buffer.len = omega (arith, c.read_at.auto.buf, c.deref_mut.ensures.len, f.buffer.ok.0) in
@@ -76,7 +76,7 @@ loop-cursor-preserved g c =
     let widths : widths_of f' ≡ widths_of c.args.self.now = c.advance.ensures.file.widths ∙ c.loop-cursor.invariant.file.widths in
     record {
       seen = λ bytes seen.
-          let told = g.S.Shelf.told c.args.shelf.now in
+          let told = (g.S.Shelf.view c.args.shelf.now).told in
           let is_open : f.tail ≡ Tail.Open = search rules in
           let part : OfFile told (name_of f) (λ file. IsPart file f.place c.in-Ok.count c.read_at.new.buf) = subst (λ (t : Told). OfFile t (name_of f) (λ file. IsPart file f.place c.in-Ok.count c.read_at.new.buf)) c.loop-cursor.invariant.same (rw c.as_str.ensures.value at c.in-Ok.ensures.part) in
           let filled : length c.read_at.new.buf ≡ f.buffer.len = omega (arith, c.read_at.auto.buf, c.deref_mut.ensures.len, f.buffer.ok.0) in
@@ -125,7 +125,7 @@ returns-clause-seen g c = λ bytes seen.
     let tail = c.finish.ensures.tail in
     record {
       bytes = on.bytes;
-      seen = seen_same (g.S.Shelf.told c.args.shelf.now) on.bytes f _ on.seen c.finish.ensures.file.name c.finish.ensures.place tail;
+      seen = seen_same (g.S.Shelf.view c.args.shelf.now).told on.bytes f _ on.seen c.finish.ensures.file.name c.finish.ensures.place tail;
       began = λ file begins. on.began file (rw tail at begins);
       holds = λ file begins reads.
           (let read = subst (λ (ws : List ℕ). IsReadBy f (scan_of ws f.numbers.items c.loop-cursor.cursor) file) (sym c.loop-cursor.invariant.file.widths) (on.holds file (rw tail at begins) reads) in

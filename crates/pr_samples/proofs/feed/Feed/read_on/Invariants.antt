@@ -9,19 +9,19 @@ use Rattle.pr_samples.proofs.feed.Feed.read_on.Given as goal
 
 abbrev pub invariant-loop-cursor : goal.invariant-loop-cursor
 invariant-loop-cursor g l = record {
-  seen : (bytes : List ℕ) → IsSeen (g.S.Shelf.told l.initial.shelf) bytes l.initial.self → ReadsOn (g.S.Shelf.told l.initial.shelf) bytes l.initial.self l.self
+  seen : (bytes : List ℕ) → IsSeen (g.S.Shelf.view l.initial.shelf).told bytes l.initial.self → ReadsOn (g.S.Shelf.view l.initial.shelf).told bytes l.initial.self l.self
       (λ file. IsReadBy l.initial.self (scan_of (widths_of l.initial.self) l.initial.self.numbers.items l.initial.cursor) file → IsReadBy l.self (scan_of (widths_of l.initial.self) l.self.numbers.items l.cursor) file);
   file : SameFile l.initial.self l.self;
   given : given_of l.self ≡ given_of l.initial.self;
   room : l.cursor.done + begun l.cursor.phase ≤ length (widths_of l.initial.self);
   into : l.into ≡ l.initial.into;
   spent : l.self.start ≡ l.self.end;
-  missing : IsMissing (g.S.Shelf.told l.initial.shelf) (name_of l.initial.self) → (l.self.tail ≡ Tail.Open) × (l.cursor.phase ≢ Phase.Wrong);
-  steady : g.S.Shelf.faults l.shelf ≡ g.S.Shelf.faults l.initial.shelf;
-  later : g.S.Shelf.faults l.initial.shelf ≤ g.S.Shelf.faults l.shelf;
-  same : g.S.Shelf.told l.shelf ≡ g.S.Shelf.told l.initial.shelf;
-  reached : g.S.Shelf.reach l.initial.shelf (name_of l.initial.self) ≡ Some (place_of l.initial.self) → g.S.Shelf.reach l.shelf (name_of l.initial.self) ≡ Some (place_of l.self);
-  others : (q : List ℕ) → q ≢ name_of l.initial.self → g.S.Shelf.reach l.shelf q ≡ g.S.Shelf.reach l.initial.shelf q;
+  missing : IsMissing (g.S.Shelf.view l.initial.shelf).told (name_of l.initial.self) → (l.self.tail ≡ Tail.Open) × (l.cursor.phase ≢ Phase.Wrong);
+  steady : (g.S.Shelf.view l.shelf).faults ≡ (g.S.Shelf.view l.initial.shelf).faults;
+  later : (g.S.Shelf.view l.initial.shelf).faults ≤ (g.S.Shelf.view l.shelf).faults;
+  same : (g.S.Shelf.view l.shelf).told ≡ (g.S.Shelf.view l.initial.shelf).told;
+  reached : (g.S.Shelf.view l.initial.shelf).reach (name_of l.initial.self) ≡ Some (place_of l.initial.self) → (g.S.Shelf.view l.shelf).reach (name_of l.initial.self) ≡ Some (place_of l.self);
+  others : (q : List ℕ) → q ≢ name_of l.initial.self → (g.S.Shelf.view l.shelf).reach q ≡ (g.S.Shelf.view l.initial.shelf).reach q;
 }
 
 abbrev pub decreases-loop-cursor : goal.decreases-loop-cursor

@@ -11,7 +11,7 @@ use Rattle.pr_share.proofs.turns.Walk.run_turn.Goals as goal
 
 pub loop-init : goal.loop-init
 loop-init g c = record {
-  on = λ s b. turn_begin s c.args.machine.now c.args.feed.now (g.S.Shelf.told c.args.shelf.now) (g.K.Sink.told c.args.out.now) c.args.self.now.number b c.requires.resumed;
+  on = λ s b. turn_begin s c.args.machine.now c.args.feed.now (g.S.Shelf.view c.args.shelf.now).told (g.K.Sink.view c.args.out.now).told c.args.self.now.number b c.requires.resumed;
   count = omega arith;
   spent = λ e. absurd (cc);
   fault = λ e. absurd (cc);
@@ -39,11 +39,11 @@ returns-in-Err-clause-cut g c = λ s b.
     let inv = c.loop.invariant in
     let hv = (set_of s c.args.machine.now b.conf b.stripes).some in
     let runs : List (List ℕ) → Run (List ℕ) = λ xs. turns (stages_of s) s.stripes [] c.loop.counter (begun xs) in
-    let on = c.feed_step-used.ensures.turning s runs (g.K.Sink.told c.loop.out) hv (inv.on s b) in
-    turn_cut s (λ xs. fed (stages_of s) s.stripes free (runs xs)) c.feed_step-used.new.machine c.feed_step-used.new.feed (g.S.Shelf.told c.feed_step-used.new.shelf) (g.K.Sink.told c.loop.out) c.feed_step-used.result on
-    (g.K.Sink.told c.write_step.new.out) c.args.self.now.quota (g.S.Shelf.faults c.args.shelf.now) (g.S.Shelf.faults c.feed_step-used.new.shelf) c.feed_step-used.ensures.quota (λ h shown. c.in-Err.ensures.front s h b.number_is shown)
-    (λ e. cause_as (g.S.Shelf.told c.args.shelf.now) (g.S.Shelf.told c.feed_step-used.new.shelf) (name_of c.args.feed.now) (name_of s.first) _ _ (sym (c.feed_step-used.ensures.told ∙ inv.told)) b.fed.file.name
-    (cause_on (g.S.Shelf.told c.args.shelf.now) (g.S.Shelf.told c.loop.shelf) (name_of c.args.feed.now) (name_of c.loop.feed) (g.S.Shelf.faults c.args.shelf.now) (g.S.Shelf.faults c.loop.shelf) (g.S.Shelf.faults c.feed_step-used.new.shelf) c.loop.used.last c.feed_step-used.result.last
+    let on = c.feed_step-used.ensures.turning s runs (g.K.Sink.view c.loop.out).told hv (inv.on s b) in
+    turn_cut s (λ xs. fed (stages_of s) s.stripes free (runs xs)) c.feed_step-used.new.machine c.feed_step-used.new.feed (g.S.Shelf.view c.feed_step-used.new.shelf).told (g.K.Sink.view c.loop.out).told c.feed_step-used.result on
+    (g.K.Sink.view c.write_step.new.out).told c.args.self.now.quota (g.S.Shelf.view c.args.shelf.now).faults (g.S.Shelf.view c.feed_step-used.new.shelf).faults c.feed_step-used.ensures.quota (λ h shown. c.in-Err.ensures.front s h b.number_is shown)
+    (λ e. cause_as (g.S.Shelf.view c.args.shelf.now).told (g.S.Shelf.view c.feed_step-used.new.shelf).told (name_of c.args.feed.now) (name_of s.first) _ _ (sym (c.feed_step-used.ensures.told ∙ inv.told)) b.fed.file.name
+    (cause_on (g.S.Shelf.view c.args.shelf.now).told (g.S.Shelf.view c.loop.shelf).told (name_of c.args.feed.now) (name_of c.loop.feed) (g.S.Shelf.view c.args.shelf.now).faults (g.S.Shelf.view c.loop.shelf).faults (g.S.Shelf.view c.feed_step-used.new.shelf).faults c.loop.used.last c.feed_step-used.result.last
     inv.told inv.file.name inv.shelf_later c.feed_step-used.ensures.later inv.cause c.feed_step-used.ensures.cause e))
 
 pub returns-then-is_over-clause-turned : goal.returns-then-is_over-clause-turned
@@ -51,20 +51,20 @@ returns-then-is_over-clause-turned g c = λ s b.
     let inv = c.loop.invariant in
     let hv = (set_of s c.args.machine.now b.conf b.stripes).some in
     let runs : List (List ℕ) → Run (List ℕ) = λ xs. turns (stages_of s) s.stripes [] c.loop.counter (begun xs) in
-    let on = c.feed_step-used.ensures.turning s runs (g.K.Sink.told c.loop.out) hv (inv.on s b) in
-    let drained = turn_drained s (λ xs. fed (stages_of s) s.stripes free (runs xs)) c.feed_step-used.new.machine c.feed_step-used.new.feed (g.S.Shelf.told c.feed_step-used.new.shelf) (g.K.Sink.told c.loop.out) c.feed_step-used.result on
-    c.write_step.new.machine (g.K.Sink.told c.write_step.new.out) hv (λ h shown. c.in-Ok.ensures.shown s h b.number_is shown) in
+    let on = c.feed_step-used.ensures.turning s runs (g.K.Sink.view c.loop.out).told hv (inv.on s b) in
+    let drained = turn_drained s (λ xs. fed (stages_of s) s.stripes free (runs xs)) c.feed_step-used.new.machine c.feed_step-used.new.feed (g.S.Shelf.view c.feed_step-used.new.shelf).told (g.K.Sink.view c.loop.out).told c.feed_step-used.result on
+    c.write_step.new.machine (g.K.Sink.view c.write_step.new.out).told hv (λ h shown. c.in-Ok.ensures.shown s h b.number_is shown) in
     let gone = sym (c.is_over.ensures.test s drained.history drained.shown.stands) ∙ c.if-is_over.true in
-    turn_over s c.loop.counter c.write_step.new.machine c.feed_step-used.new.feed (g.S.Shelf.told c.feed_step-used.new.shelf) (g.K.Sink.told c.write_step.new.out) c.feed_step-used.result hv drained c.args.self.now.quota gone c.feed_step-used.ensures.quota
+    turn_over s c.loop.counter c.write_step.new.machine c.feed_step-used.new.feed (g.S.Shelf.view c.feed_step-used.new.shelf).told (g.K.Sink.view c.write_step.new.out).told c.feed_step-used.result hv drained c.args.self.now.quota gone c.feed_step-used.ensures.quota
     (c.feed_step-used.ensures.spent (gone_ended s c.feed_step-used.result.ended drained.history gone))
 
 pub cycle-turn-requires : goal.cycle-turn-requires
 cycle-turn-requires g c =
     let inv = c.loop.invariant in
     let q = c.requires.fed in
-    let s0 = given_setting c.args.machine.now c.args.self.now.number (g.K.Sink.told c.args.out.now) q.0 q.1.0 in
-    let b0 = given_begins c.args.machine.now c.args.feed.now (g.S.Shelf.told c.args.shelf.now) (g.K.Sink.told c.args.out.now) c.args.self.now.number q.0 q.1.0 q.1.1 in
-    let few = few_turns s0 c.loop.counter c.loop.machine c.loop.feed (g.S.Shelf.told c.loop.shelf) (g.K.Sink.told c.loop.out) c.loop.used (set_of s0 c.args.machine.now refl refl) (omega (arith, inv.count)) (inv.on s0 b0) in
+    let s0 = given_setting c.args.machine.now c.args.self.now.number (g.K.Sink.view c.args.out.now).told q.0 q.1.0 in
+    let b0 = given_begins c.args.machine.now c.args.feed.now (g.S.Shelf.view c.args.shelf.now).told (g.K.Sink.view c.args.out.now).told c.args.self.now.number q.0 q.1.0 q.1.1 in
+    let few = few_turns s0 c.loop.counter c.loop.machine c.loop.feed (g.S.Shelf.view c.loop.shelf).told (g.K.Sink.view c.loop.out).told c.loop.used (set_of s0 c.args.machine.now refl refl) (omega (arith, inv.count)) (inv.on s0 b0) in
     let t1 = kept_time c.loop.machine c.feed_step-used.new.machine c.feed_step-used.ensures.kept in
     let t2 = kept_time c.feed_step-used.new.machine c.write_step.new.machine c.write_step.ensures.kept in
     (omega arith, (omega arith, omega (arith, few, t1, t2, inv.time)))
@@ -80,16 +80,16 @@ loop-preserved g c =
       on = λ s b.
           (let hv = (set_of s c.args.machine.now b.conf b.stripes).some in
           let runs : List (List ℕ) → Run (List ℕ) = λ xs. turns (stages_of s) s.stripes [] c.loop.counter (begun xs) in
-          let on = c.feed_step-used.ensures.turning s runs (g.K.Sink.told c.loop.out) hv (inv.on s b) in
-          let drained = turn_drained s (λ xs. fed (stages_of s) s.stripes free (runs xs)) c.feed_step-used.new.machine c.feed_step-used.new.feed (g.S.Shelf.told c.feed_step-used.new.shelf) (g.K.Sink.told c.loop.out) c.feed_step-used.result on
-          c.write_step.new.machine (g.K.Sink.told c.write_step.new.out) hv (λ h shown. c.in-Ok.ensures.shown s h b.number_is shown) in
-          turn_cycle s c.loop.counter c.write_step.new.machine c.feed_step-used.new.feed (g.S.Shelf.told c.feed_step-used.new.shelf) (g.K.Sink.told c.write_step.new.out) c.feed_step-used.result hv drained c.cycle-turn.new.self
+          let on = c.feed_step-used.ensures.turning s runs (g.K.Sink.view c.loop.out).told hv (inv.on s b) in
+          let drained = turn_drained s (λ xs. fed (stages_of s) s.stripes free (runs xs)) c.feed_step-used.new.machine c.feed_step-used.new.feed (g.S.Shelf.view c.feed_step-used.new.shelf).told (g.K.Sink.view c.loop.out).told c.feed_step-used.result on
+          c.write_step.new.machine (g.K.Sink.view c.write_step.new.out).told hv (λ h shown. c.in-Ok.ensures.shown s h b.number_is shown) in
+          turn_cycle s c.loop.counter c.write_step.new.machine c.feed_step-used.new.feed (g.S.Shelf.view c.feed_step-used.new.shelf).told (g.K.Sink.view c.write_step.new.out).told c.feed_step-used.result hv drained c.cycle-turn.new.self
           (sym (c.is_over.ensures.test s drained.history drained.shown.stands) ∙ c.if-is_over.false) (c.cycle-turn.ensures.stands s.conf s.stripes drained.history drained.shown.stands));
       count = c.feed_step-used.ensures.quota;
       spent = c.feed_step-used.ensures.spent;
       fault = c.feed_step-used.ensures.fault;
       steady = λ other. (let e = c.feed_step-used.ensures.steady other in e.1 ∙ inv.steady e.0);
-      cause = cause_on (g.S.Shelf.told c.args.shelf.now) (g.S.Shelf.told c.loop.shelf) (name_of c.args.feed.now) (name_of c.loop.feed) (g.S.Shelf.faults c.args.shelf.now) (g.S.Shelf.faults c.loop.shelf) (g.S.Shelf.faults c.feed_step-used.new.shelf) c.loop.used.last c.feed_step-used.result.last
+      cause = cause_on (g.S.Shelf.view c.args.shelf.now).told (g.S.Shelf.view c.loop.shelf).told (name_of c.args.feed.now) (name_of c.loop.feed) (g.S.Shelf.view c.args.shelf.now).faults (g.S.Shelf.view c.loop.shelf).faults (g.S.Shelf.view c.feed_step-used.new.shelf).faults c.loop.used.last c.feed_step-used.result.last
           inv.told inv.file.name inv.shelf_later c.feed_step-used.ensures.later inv.cause c.feed_step-used.ensures.cause;
       inputs = file.widths ∙ (c.requires.inputs ∙ ap (λ (k : Configuration g.row.N g.row.P). (shape_of k).inputs) (sym conf));
       file = file;
@@ -106,9 +106,9 @@ pub unreachable-requires : goal.unreachable-requires
 unreachable-requires g c =
     let inv = c.loop.invariant in
     let q = c.requires.fed in
-    let s0 = given_setting c.args.machine.now c.args.self.now.number (g.K.Sink.told c.args.out.now) q.0 q.1.0 in
-    let b0 = given_begins c.args.machine.now c.args.feed.now (g.S.Shelf.told c.args.shelf.now) (g.K.Sink.told c.args.out.now) c.args.self.now.number q.0 q.1.0 q.1.1 in
-    let few = few_turns s0 c.loop.counter c.loop.machine c.loop.feed (g.S.Shelf.told c.loop.shelf) (g.K.Sink.told c.loop.out) c.loop.used (set_of s0 c.args.machine.now refl refl) (omega (arith, inv.count)) (inv.on s0 b0) in
+    let s0 = given_setting c.args.machine.now c.args.self.now.number (g.K.Sink.view c.args.out.now).told q.0 q.1.0 in
+    let b0 = given_begins c.args.machine.now c.args.feed.now (g.S.Shelf.view c.args.shelf.now).told (g.K.Sink.view c.args.out.now).told c.args.self.now.number q.0 q.1.0 q.1.1 in
+    let few = few_turns s0 c.loop.counter c.loop.machine c.loop.feed (g.S.Shelf.view c.loop.shelf).told (g.K.Sink.view c.loop.out).told c.loop.used (set_of s0 c.args.machine.now refl refl) (omega (arith, inv.count)) (inv.on s0 b0) in
     absurd (omega (arith, few, c.loop-test.false))
 
 pub returns-in-Err-clause-others : goal.returns-in-Err-clause-others
