@@ -13,8 +13,6 @@ mod held;
 #[cfg(test)]
 mod largest;
 #[cfg(test)]
-mod lists;
-#[cfg(test)]
 mod log;
 #[cfg(test)]
 mod machine_examples;

@@ -7,7 +7,7 @@ use Rattle.pr_base.specs.Limits.{cap_number}
 use Rattle.pr_base.specs.Limits.{most_evaluated_bytes}
 use Rattle.pr_edge.specs.Files.{Told}
 use Rattle.pr_tool_words.specs.Lawful.{Order, Task, Eval, Share, lawful_words}
-use Rattle.pr_tool_modes.specs.Jobs.{IsNeither, IsNamedOnce, IsResumedOnce}
+use Rattle.pr_tool_modes.specs.Jobs.{IsNotNamed, IsNamedOnce, IsResumedOnce}
 use Rattle.pr_tool_modes.specs.Resumptions.{IsNoFile}
 use Rattle.pr_tool_modes.specs.Sources.{name_in}
 use Rattle.pr_tool_share.specs.Lists.{IsListedOnce, IsUnlisted}
@@ -25,8 +25,8 @@ asked_by words = lawful_words (map string_bytes words)
 -- this is no file that is read for a plan; which files a list of programs names is told by its text
 abbrev pub IsOtherFile : Told → Plan → List ℕ → Type 0
 IsOtherFile told (Texts form source) q = q ≢ name_in source
-IsOtherFile told (Runs j) q = (q ≢ j.second) × IsNeither j q
-IsOtherFile told (Folds j) q = (q ≢ j.second) × IsNeither j q
+IsOtherFile told (Runs j) q = IsNotNamed j q
+IsOtherFile told (Folds j) q = IsNotNamed j q
 IsOtherFile told (Moves r) q = IsNoFile r q
 IsOtherFile told (Extends r) q = IsNoFile r q
 IsOtherFile told (Evaluates first second) q = (q ≢ first) × (q ≢ second)

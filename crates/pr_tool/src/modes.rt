@@ -1,6 +1,5 @@
 //! The plans, carried out.
 ghost use Rattle.std.specs.Prelude.{◌≡◌, ◌≤◌, ℕ, List};
-ghost use Rattle.pr_run.specs.Setting.{view};
 ghost use Rattle.pr_tool_modes.specs.Calls.{call};
 ghost use Rattle.pr_tool_modes.specs.Files.{IsInOrder};
 ghost use Rattle.pr_tool.specs.Plans.{plan_in};
@@ -22,17 +21,15 @@ pub fn carry_out<S: Shelf, K: Sink>(
     out: &mut K,
     bench: &mut Bench,
 ) -> Answer
-    ensures done { IsDone (plan_in plan.now) (call
-        (view (S.told shelf.old) (S.reach shelf.old) (S.faults shelf.old))
-        (view (S.told shelf.new) (S.reach shelf.new) (S.faults shelf.new))
-        (K.told out.old) (K.told out.new) (K.faults out.old) (K.faults out.new)) bench.old bench.new result }
-    ensures once { (q : List ℕ) → IsOnceFile (S.told shelf.old) (plan_in plan.now) q
-        → IsInOrder (S.reach shelf.old q) (S.reach shelf.new q) }
-    ensures other_files { (q : List ℕ) → IsOtherFile (S.told shelf.old) (plan_in plan.now) q
-        → S.reach shelf.new q ≡ S.reach shelf.old q }
-    ensures told { S.told shelf.new ≡ S.told shelf.old }
-    ensures shelf_later { S.faults shelf.old ≤ S.faults shelf.new }
-    ensures out_later { K.faults out.old ≤ K.faults out.new }
+    ensures done { IsDone (plan_in plan.now)
+        (call (S.view shelf.old) (S.view shelf.new) (K.view out.old) (K.view out.new)) bench.old bench.new result }
+    ensures once { (q : List ℕ) → IsOnceFile (S.view shelf.old).told (plan_in plan.now) q
+        → IsInOrder ((S.view shelf.old).reach q) ((S.view shelf.new).reach q) }
+    ensures other_files { (q : List ℕ) → IsOtherFile (S.view shelf.old).told (plan_in plan.now) q
+        → (S.view shelf.new).reach q ≡ (S.view shelf.old).reach q }
+    ensures told { (S.view shelf.new).told ≡ (S.view shelf.old).told }
+    ensures shelf_later { (S.view shelf.old).faults ≤ (S.view shelf.new).faults }
+    ensures out_later { (K.view out.old).faults ≤ (K.view out.new).faults }
 {
     match *plan {
         Plan::Texts { form, source } => write_text(alloc, &source, form, shelf, out),

@@ -144,10 +144,10 @@ pub fn note_line(bounds: &Bounds, answer: &Answer) -> ArrayString<128>
 
 /// Writes the line of an answer that is not Ok. It takes no memory, and a failure of it is of no account.
 pub fn put_note<E: Sink>(note: &mut E, bounds: &Bounds, answer: &Answer)
-    ensures gains { GainsNote (E.told note.old) (E.told note.new) (E.faults note.old) (E.faults note.new)
-        (note_of bounds.now answer.now) }
+    ensures gains { GainsNote (E.view note.old).told (E.view note.new).told (E.view note.old).faults
+        (E.view note.new).faults (note_of bounds.now answer.now) }
     ensures short { length (note_of bounds.now answer.now) ≤ 128 }
-    ensures later { E.faults note.old ≤ E.faults note.new }
+    ensures later { (E.view note.old).faults ≤ (E.view note.new).faults }
 {
     if let Answer::Ok = answer {
         return;
@@ -158,8 +158,9 @@ pub fn put_note<E: Sink>(note: &mut E, bounds: &Bounds, answer: &Answer)
 
 /// Writes these bytes. A failure is of no account.
 fn put_bytes<E: Sink>(note: &mut E, bytes: &[u8])
-    ensures gains { GainsNote (E.told note.old) (E.told note.new) (E.faults note.old) (E.faults note.new) bytes.now }
-    ensures later { E.faults note.old ≤ E.faults note.new }
+    ensures gains { GainsNote (E.view note.old).told (E.view note.new).told (E.view note.old).faults
+        (E.view note.new).faults bytes.now }
+    ensures later { (E.view note.old).faults ≤ (E.view note.new).faults }
 {
     match write_all(note, bytes) {
         Ok(()) => {}

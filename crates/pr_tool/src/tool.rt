@@ -1,7 +1,6 @@
 //! The top call.
 ghost use Rattle.std.specs.Prelude.{◌≡◌, ◌≢◌, ◌⊎◌, ◌≤◌, ℕ, List, length, Some, None, Option};
 ghost use Rattle.pr_edge.specs.Count.{Rose, IsSteady};
-ghost use Rattle.pr_run.specs.Setting.{view};
 ghost use Rattle.pr_tool_words.specs.Lawful.{Order};
 ghost use Rattle.pr_tool_words.specs.Orders.{order_of};
 ghost use Rattle.pr_tool_answers.specs.Owed.{IsOwed};
@@ -48,18 +47,17 @@ pub fn piperench<S: Shelf, K: Sink, E: Sink>(
     bench: &mut Bench,
 ) -> Answer
     // What it came to, by the plan of the words: what was read, what is written, and what is on the bench.
-    ensures called { IsCalled (asked_by words.now) (call
-        (view (S.told shelf.old) (S.reach shelf.old) (S.faults shelf.old))
-        (view (S.told shelf.new) (S.reach shelf.new) (S.faults shelf.new))
-        (K.told out.old) (K.told out.new) (K.faults out.old) (K.faults out.new)) bench.old bench.new result }
+    ensures called { IsCalled (asked_by words.now)
+        (call (S.view shelf.old) (S.view shelf.new) (K.view out.old) (K.view out.new)) bench.old bench.new result }
 
     // Over told files the answer is the verdict on words and files, or a fault that was counted, or want of memory; and where
     // no count rises it is the verdict or want of memory.
-    ensures verdict { (files : List ℕ → Option (List ℕ)) → S.told shelf.old ≡ Some files
-        → IsOwed (IsVerdict files (asked_by words.now)) (S.faults shelf.old) (S.faults shelf.new) (K.faults out.old)
-        (K.faults out.new) result }
-    ensures complete { (files : List ℕ → Option (List ℕ)) → S.told shelf.old ≡ Some files
-        → IsSteady (S.faults shelf.old) (S.faults shelf.new) → IsSteady (K.faults out.old) (K.faults out.new)
+    ensures verdict { (files : List ℕ → Option (List ℕ)) → (S.view shelf.old).told ≡ Some files
+        → IsOwed (IsVerdict files (asked_by words.now)) (S.view shelf.old).faults (S.view shelf.new).faults
+        (K.view out.old).faults (K.view out.new).faults result }
+    ensures complete { (files : List ℕ → Option (List ℕ)) → (S.view shelf.old).told ≡ Some files
+        → IsSteady (S.view shelf.old).faults (S.view shelf.new).faults
+        → IsSteady (K.view out.old).faults (K.view out.new).faults
         → IsVerdict files (asked_by words.now) result ⊎ (result ≡ Answer.Memory) }
 
     // The headline, for every text of samples, every number of stripes from 2 to 256, every stall text and both fabrics. Over told
@@ -71,47 +69,45 @@ pub fn piperench<S: Shelf, K: Sink, E: Sink>(
     // are good. With the log all this holds of the text that `out` gained without the lines of the log, byte by byte. At every other
     // answer no run was begun: nothing is written, and the bench is as it was.
     ensures lines { (files : List ℕ → Option (List ℕ)) (order : Order) (j : Job) (name : List ℕ) (target : Target)
-        → S.told shelf.old ≡ Some files
+        → (S.view shelf.old).told ≡ Some files
         → asked_by words.now ≡ Some order → plan_of order ≡ Runs j → j.source ≡ Text name target
-        → AreProgramLines files j (call
-        (view (S.told shelf.old) (S.reach shelf.old) (S.faults shelf.old))
-        (view (S.told shelf.new) (S.reach shelf.new) (S.faults shelf.new))
-        (K.told out.old) (K.told out.new) (K.faults out.old) (K.faults out.new)) bench.old bench.new result }
+        → AreProgramLines files j
+        (call (S.view shelf.old) (S.view shelf.new) (K.view out.old) (K.view out.new)) bench.old bench.new result }
 
     // What each plan has written over told files, and what is on the bench. A checkpoint has the number of its samples, with those
     // before, and the configuration as they left it, and comes of samples that are all good alone; the bench is as it was. A run that
     // goes on from one writes the lines of the further samples, which are the rest of what the program means (`moving_law`). The
     // programs of a list have written the text of their turns, in which the lines of each are those that it writes alone.
-    ensures gained { (files : List ℕ → Option (List ℕ)) (order : Order) → S.told shelf.old ≡ Some files
+    ensures gained { (files : List ℕ → Option (List ℕ)) (order : Order) → (S.view shelf.old).told ≡ Some files
         → asked_by words.now ≡ Some order
-        → HasGained files (plan_of order) (call
-        (view (S.told shelf.old) (S.reach shelf.old) (S.faults shelf.old))
-        (view (S.told shelf.new) (S.reach shelf.new) (S.faults shelf.new))
-        (K.told out.old) (K.told out.new) (K.faults out.old) (K.faults out.new)) bench.old bench.new result }
+        → HasGained files (plan_of order)
+        (call (S.view shelf.old) (S.view shelf.new) (K.view out.old) (K.view out.new)) bench.old bench.new result }
 
     // Each answer by its cause: wrong words, a failed read, a failed write, want of memory.
     ensures usage { result ≡ Answer.Usage → asked_by words.now ≡ None }
     ensures wrong { asked_by words.now ≡ None → (result ≡ Answer.Usage) ⊎ (result ≡ Answer.Memory) }
     ensures read_fault { result ≡ Answer.ReadFault
-        → IsToldVerdict (S.told shelf.old) (asked_by words.now) result
-        ⊎ Rose (S.faults shelf.old) (S.faults shelf.new) }
-    ensures write_fault { result ≡ Answer.WriteFault → Rose (K.faults out.old) (K.faults out.new) }
-    ensures memory { result ≡ Answer.Memory → (K.told out.new ≡ K.told out.old) × (bench.new ≡ bench.old) }
+        → IsToldVerdict (S.view shelf.old).told (asked_by words.now) result
+        ⊎ Rose (S.view shelf.old).faults (S.view shelf.new).faults }
+    ensures write_fault { result ≡ Answer.WriteFault → Rose (K.view out.old).faults (K.view out.new).faults }
+    ensures memory { result ≡ Answer.Memory → ((K.view out.new).told ≡ (K.view out.old).told)
+        × (bench.new ≡ bench.old) }
 
     // A file that is named once is read in order, and no byte of it twice, so that a pipe serves as well.
-    ensures once { (q : List ℕ) → IsOnce (S.told shelf.old) (asked_by words.now) q
-        → IsInOrder (S.reach shelf.old q) (S.reach shelf.new q) }
+    ensures once { (q : List ℕ) → IsOnce (S.view shelf.old).told (asked_by words.now) q
+        → IsInOrder ((S.view shelf.old).reach q) ((S.view shelf.new).reach q) }
 
     // Only the files of the plan are read, and those that a list of programs names.
-    ensures other_files { (q : List ℕ) → IsOther (S.told shelf.old) (asked_by words.now) q
-        → S.reach shelf.new q ≡ S.reach shelf.old q }
+    ensures other_files { (q : List ℕ) → IsOther (S.view shelf.old).told (asked_by words.now) q
+        → (S.view shelf.new).reach q ≡ (S.view shelf.old).reach q }
 
-    ensures note { GainsNote (E.told note.old) (E.told note.new) (E.faults note.old) (E.faults note.new)
-        (note_of (bounds_in (asked_by words.now)) result) }
+    ensures note { GainsNote (E.view note.old).told (E.view note.new).told (E.view note.old).faults
+        (E.view note.new).faults (note_of (bounds_in (asked_by words.now)) result) }
     ensures short { length (note_of (bounds_in (asked_by words.now)) result) ≤ 128 }
-    ensures told { S.told shelf.new ≡ S.told shelf.old }
-    ensures counts { (S.faults shelf.old ≤ S.faults shelf.new) × (K.faults out.old ≤ K.faults out.new)
-        × (E.faults note.old ≤ E.faults note.new) }
+    ensures told { (S.view shelf.new).told ≡ (S.view shelf.old).told }
+    ensures counts { ((S.view shelf.old).faults ≤ (S.view shelf.new).faults)
+        × ((K.view out.old).faults ≤ (K.view out.new).faults)
+        × ((E.view note.old).faults ≤ (E.view note.new).faults) }
 {
     let reply = reply_to(alloc, words, shelf, out, bench);
     put_note(note, &reply.bounds, &reply.answer);
@@ -151,18 +147,17 @@ fn reply_to<S: Shelf, K: Sink>(
     out: &mut K,
     bench: &mut Bench,
 ) -> Reply
-    ensures called { IsCalled (asked_by words.now) (call
-        (view (S.told shelf.old) (S.reach shelf.old) (S.faults shelf.old))
-        (view (S.told shelf.new) (S.reach shelf.new) (S.faults shelf.new))
-        (K.told out.old) (K.told out.new) (K.faults out.old) (K.faults out.new)) bench.old bench.new result.answer }
+    ensures called { IsCalled (asked_by words.now)
+        (call (S.view shelf.old) (S.view shelf.new) (K.view out.old) (K.view out.new))
+        bench.old bench.new result.answer }
     ensures bounds { note_of result.bounds result.answer ≡ note_of (bounds_in (asked_by words.now)) result.answer }
-    ensures once { (q : List ℕ) → IsOnce (S.told shelf.old) (asked_by words.now) q
-        → IsInOrder (S.reach shelf.old q) (S.reach shelf.new q) }
-    ensures other_files { (q : List ℕ) → IsOther (S.told shelf.old) (asked_by words.now) q
-        → S.reach shelf.new q ≡ S.reach shelf.old q }
-    ensures told { S.told shelf.new ≡ S.told shelf.old }
-    ensures shelf_later { S.faults shelf.old ≤ S.faults shelf.new }
-    ensures out_later { K.faults out.old ≤ K.faults out.new }
+    ensures once { (q : List ℕ) → IsOnce (S.view shelf.old).told (asked_by words.now) q
+        → IsInOrder ((S.view shelf.old).reach q) ((S.view shelf.new).reach q) }
+    ensures other_files { (q : List ℕ) → IsOther (S.view shelf.old).told (asked_by words.now) q
+        → (S.view shelf.new).reach q ≡ (S.view shelf.old).reach q }
+    ensures told { (S.view shelf.new).told ≡ (S.view shelf.old).told }
+    ensures shelf_later { (S.view shelf.old).faults ≤ (S.view shelf.new).faults }
+    ensures out_later { (K.view out.old).faults ≤ (K.view out.new).faults }
 {
     match read_words(alloc, words) {
         Ok(words) => Reply {

@@ -1,3 +1,6 @@
+mod Sources
+mod Lists
+mod Plans
 mod ByteParts
 mod ByteTable
 mod ByteNets

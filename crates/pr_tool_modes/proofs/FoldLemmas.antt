@@ -6,10 +6,10 @@ use Rattle.pr_code.specs.Marks.{IsMark}
 use Rattle.pr_conf.specs.Shape.{Shape}
 use Rattle.pr_conf.specs.After.{conf_after}
 use Rattle.pr_machine.specs.Stands.{Stands, History, account_of}
-use Rattle.pr_move.specs.Untold.{untold}
+use Rattle.pr_edge.specs.Tape.{untold}
 use Rattle.pr_move.proofs.StillLemmas.{through_script, final_of}
 use Rattle.pr_run_script.specs.Script.{Held}
-use Rattle.pr_run.specs.Setting.{View}
+use Rattle.pr_edge.specs.Files.{View}
 use Rattle.pr_run.specs.Turns.{Going}
 use Rattle.pr_samples.specs.Fed.{End}
 use Rattle.pr_tool_answers.specs.declared.answers.Answer.{Answer}

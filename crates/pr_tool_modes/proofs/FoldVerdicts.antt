@@ -1,13 +1,11 @@
 -- What comes of a configuration that is run for its checkpoint, and the verdict on it.
 use Rattle.std.proofs.Common.{◌≡◌, ◌≢◌, ◌≤◌, ◌∙◌, ℕ, Bool, List, true, false, Option, Some, None, refl, sym, ap, subst, arith, inl, inr, true≢false}
 use Rattle.pr_edge.specs.Count.{Rose}
-use Rattle.pr_edge.specs.Files.{Told, IsMissing, HasReadCause}
-use Rattle.pr_edge.specs.Tape.{Appends, AppendsFront}
+use Rattle.pr_edge.specs.Files.{Told, IsMissing, HasReadCause, View}
+use Rattle.pr_edge.specs.Tape.{Appends, AppendsFront, untold}
 use Rattle.pr_conf.specs.Shape.{Shape}
-use Rattle.pr_move.specs.Untold.{untold}
 use Rattle.pr_samples.specs.Fed.{Fed, End, BadSample, Limit}
 use Rattle.pr_samples.specs.Feed.{Tells}
-use Rattle.pr_run.specs.Setting.{View}
 use Rattle.pr_tool_answers.specs.declared.answers.Answer.{Answer}
 use Rattle.pr_tool_answers.specs.Owed.{IsOwed}
 use Rattle.pr_tool_answers.proofs.OwedLemmas.{owed_by}
@@ -45,7 +43,7 @@ later_run j before mid now c end came told steady reach more run = record {
 -- a configuration that was to be run, after the source was read
 pub folded_of : (j : Job) (k : Call) (mid : View) (loaded : Loadable) (before : ℕ) (a : Answer) → Gives k.before.told j.source (columns_in loaded) (registers_in loaded) (shape_in loaded) → count_in j.source ≡ before
     → mid.told ≡ k.before.told → mid.faults ≡ k.before.faults → ((q : List ℕ) → q ≢ first_of j → mid.reach q ≡ k.before.reach q)
-    → IsFoldOf loaded before j (call mid k.now k.old k.new k.out_before k.out_now) a → IsFolded j k a
+    → IsFoldOf loaded before j (call mid k.now (record { told = k.old; faults = k.out_before }) (record { told = k.new; faults = k.out_now })) a → IsFolded j k a
 folded_of j k mid loaded before a gives count told steady reach (inl run) =
     let N = columns_in loaded in
     let P = registers_in loaded in
@@ -55,7 +53,7 @@ folded_of j k mid loaded before a gives count told steady reach (inl run) =
       P = P;
       conf = c;
       gives = gives;
-      run = later_run j k.before mid k.now c (λ r. IsMarkPut N P r before (call mid k.now k.old k.new k.out_before k.out_now) a) (λ r. IsFoldEnd N P r (count_in j.source) k a) told steady reach
+      run = later_run j k.before mid k.now c (λ r. IsMarkPut N P r before (call mid k.now (record { told = k.old; faults = k.out_before }) (record { told = k.new; faults = k.out_now })) a) (λ r. IsFoldEnd N P r (count_in j.source) k a) told steady reach
           (λ r put. inl (record { bytes = put.bytes; marked = subst (λ (n : ℕ). HasMarked N P r n put.bytes) (sym count) put.marked; put = put.put })) run;
     })
 folded_of j k mid loaded before a gives count told steady reach (inr (inl early, unwritten)) = inl (record {

@@ -25,8 +25,7 @@ use Rattle.pr_tool_answers.specs.Owed.{IsOwed}
 use Rattle.pr_tool_modes.specs.declared.benches.Bench.{Bench}
 use Rattle.pr_tool_modes.specs.declared.loadables.Loadable.{Loadable}
 use Rattle.pr_tool_modes.specs.Calls.{Call}
-use Rattle.pr_tool_modes.specs.declared.executions.Ran.{Ran}
-use Rattle.pr_tool_modes.specs.Executions.{bench_in, IsRunOn, IsRunOf, HasCome}
+use Rattle.pr_tool_modes.specs.Executions.{IsRunOn, IsRunOf, HasCome}
 use Rattle.pr_tool_modes.specs.Generations.{Generation, generated, program_file, job_for, summary, Tells, TellsOn, IsUntold, HasGenerated, IsGenVerdict}
 use Rattle.pr_tool_modes.specs.Lines.{HasRunOn, OnBench, IsWholeRun, MeansLines}
 use Rattle.pr_tool_modes.specs.Programs.{IsCounted}
@@ -108,21 +107,22 @@ come : (g : Generation) (k : Call) (loaded : Loadable) (bench : Bench) (a : Answ
 come g k loaded bench a told gives ran =
     come_of (job_for g) k k.before loaded Bench.Nothing bench a (subst (λ (t : Told). Gives t (job_for g).source (columns_in loaded) (registers_in loaded) (shape_in loaded)) (sym told) gives) refl refl (λ q other. refl) ran
 
-told_ran : (g : Generation) (k : Call) (ran : Ran) (units : ℕ) (bytes text : List ℕ) → 2 ≤ g.stripes → k.old.bytes ≡ Some [] → k.new.bytes ≡ Some bytes
-    → IsWholeRun (MeansLines (generated g.turns) (job_for g)) (generated g.turns) (job_for g) samples_text k (bench_in ran) End → IsCounted (Some (generated g.turns)) program_file g.target.narrowed units
-    → TellsOn g.turns units bytes text ran → OnBench (λ N P machine. HasGenerated g (λ t. text ≡ t) machine) (bench_in ran)
-told_ran g k (Ran.Base over) units bytes text two empty now whole counts tells =
-    told_run g k whole.widths over.machine units bytes text two whole.ran whole.ends (gained_means g k whole.widths _ bytes empty now whole.means) counts tells
-told_ran g k (Ran.Wide over) units bytes text two empty now whole counts tells =
-    told_run g k whole.widths over.machine units bytes text two whole.ran whole.ends (gained_means g k whole.widths _ bytes empty now whole.means) counts tells
+told_ran : (g : Generation) (k : Call) (bench : Bench) (units : ℕ) (bytes text : List ℕ) → 2 ≤ g.stripes → k.old.bytes ≡ Some [] → k.new.bytes ≡ Some bytes
+    → IsWholeRun (MeansLines (generated g.turns) (job_for g)) (generated g.turns) (job_for g) samples_text k bench End → IsCounted (Some (generated g.turns)) program_file g.target.narrowed units
+    → TellsOn g.turns units bytes text bench → OnBench (λ N P machine. HasGenerated g (λ t. text ≡ t) machine) bench
+told_ran g k Bench.Nothing units bytes text two empty now whole counts tells = absurd tells
+told_ran g k (Bench.Base machine) units bytes text two empty now whole counts tells =
+    told_run g k whole.widths machine units bytes text two whole.ran whole.ends (gained_means g k whole.widths _ bytes empty now whole.means) counts tells
+told_ran g k (Bench.Wide machine) units bytes text two empty now whole counts tells =
+    told_run g k whole.widths machine units bytes text two whole.ran whole.ends (gained_means g k whole.widths _ bytes empty now whole.means) counts tells
 
 -- a good run of the compiled program, and what is told of it
-pub told_good : (g : Generation) (k : Call) (loaded : Loadable) (ran : Ran) (units : ℕ) (bytes text : List ℕ) → 2 ≤ g.stripes → k.before.told ≡ Some (generated g.turns) → k.old.bytes ≡ Some [] → k.new.bytes ≡ Some bytes
+pub told_good : (g : Generation) (k : Call) (loaded : Loadable) (bench : Bench) (units : ℕ) (bytes text : List ℕ) → 2 ≤ g.stripes → k.before.told ≡ Some (generated g.turns) → k.old.bytes ≡ Some [] → k.new.bytes ≡ Some bytes
     → IsOnFabric (Some (generated g.turns)) program_file g.target (columns_in loaded) (registers_in loaded) (shape_in loaded) → IsCounted (Some (generated g.turns)) program_file g.target.narrowed units
-    → IsRunOn loaded (job_for g) k (bench_in ran) Answer.Ok
-    → TellsOn g.turns units bytes text ran → OnBench (λ N P machine. HasGenerated g (λ t. text ≡ t) machine) (bench_in ran)
-told_good g k loaded ran units bytes text two told empty now gives counts on tells =
-    told_ran g k ran units bytes text two empty now (program_lines (generated g.turns) (job_for g) program_file g.target k Bench.Nothing (bench_in ran) Answer.Ok refl told (come g k loaded (bench_in ran) Answer.Ok told gives (inr on))) counts tells
+    → IsRunOn loaded (job_for g) k bench Answer.Ok
+    → TellsOn g.turns units bytes text bench → OnBench (λ N P machine. HasGenerated g (λ t. text ≡ t) machine) bench
+told_good g k loaded bench units bytes text two told empty now gives counts on tells =
+    told_ran g k bench units bytes text two empty now (program_lines (generated g.turns) (job_for g) program_file g.target k Bench.Nothing bench Answer.Ok refl told (come g k loaded bench Answer.Ok told gives (inr on))) counts tells
 
 -- ---- refusals
 -- no read of such a shelf fails

@@ -1,12 +1,14 @@
 -- Files that are read in order.
-use Rattle.std.proofs.Common.{◌≡◌, ◌≢◌, ◌⊎◌, ℕ, true, false, List, Option, Some, None, nat_eq, refl, sym, ap, subst, ◌∙◌, inl, inr}
+use Rattle.std.proofs.Common.{◌≡◌, ◌≢◌, ◌⊎◌, ◌≤◌, ℕ, true, false, List, Option, Some, None, nat_eq, refl, sym, ap, subst, ◌∙◌, inl, inr, arith}
 use Rattle.std.specs.Prelude.{IsSome}
 use Rattle.std.specs.Cmp.Lexicographic.{pointwise}
 use Rattle.std.proofs.lemmas.Slice.Eq.{slice_eq-Decides}
 use Rattle.std.proofs.lemmas.Bool.{false≢true}
 use Rattle.std.proofs.lemmas.Bool.Decides.{Decides-eqb}
-use Rattle.pr_edge.specs.Files.{IsReadOnce}
+use Rattle.pr_edge.specs.Files.{IsReadOnce, View}
+use Rattle.pr_tool_modes.specs.Calls.{IsOrderly}
 use Rattle.pr_tool_modes.specs.Files.{IsInOrder}
+use Rattle.pr_tool_modes.specs.Jobs.{IsNotBoth, IsApart}
 
 -- ---- names
 pub same_name : (p q : List ℕ) → (p ≡ q) ⊎ (p ≢ q)
@@ -68,3 +70,47 @@ module _ (before mid now : List ℕ → Option ℕ) where
       order_then (stall ≡ Some q) (before q) (mid q) (now q) (some_name stall q)
       (λ e. order_once most (before q) (mid q) (once q e))
       (others q) (λ e. rest q (λ is. apart is e)) (λ ne. order_one mid now second q last rest)
+
+-- ---- whole calls
+-- one file is read
+pub orderly_one : (Once Other : List ℕ → Type 0) (before now : View) (name : List ℕ)
+    → now.told ≡ before.told → IsInOrder (before.reach name) (now.reach name) → ((p : List ℕ) → p ≢ name → now.reach p ≡ before.reach p) → before.faults ≤ now.faults
+    → ((q : List ℕ) → Other q → q ≢ name) → IsOrderly Once Other before now
+orderly_one Once Other before now name told once others later apart = record {
+  told = told;
+  once = λ q is. order_one before.reach now.reach name q once others;
+  others = λ q other. others q (apart q other);
+  later = later;
+}
+
+-- one file is read, and then others
+pub orderly_after : (Once Other Then Rest : List ℕ → Type 0) (before mid now : View) (most : ℕ) (name : List ℕ)
+    → mid.told ≡ before.told → IsReadOnce most (before.reach name) (mid.reach name) → ((p : List ℕ) → p ≢ name → mid.reach p ≡ before.reach p) → before.faults ≤ mid.faults
+    → IsOrderly Then Rest mid now → ((q : List ℕ) → Once q → (q ≡ name → Rest q) × Then q) → ((q : List ℕ) → Other q → (q ≢ name) × Rest q) → IsOrderly Once Other before now
+orderly_after Once Other Then Rest before mid now most name told once others later next named apart = record {
+  told = next.told ∙ told;
+  once = λ q is. order_after before.reach mid.reach now.reach most name q once others (λ e. next.others q ((named q is).0 e)) (next.once q (named q is).1);
+  others = λ q other. next.others q (apart q other).1 ∙ others q (apart q other).0;
+  later = (let more = next.later in omega (arith, later, more));
+}
+
+-- a stall text is read, if there is one
+module _ (before mid : View) (most : ℕ) (stall : Option (List ℕ)) (second : List ℕ) (told : mid.told ≡ before.told)
+    (once : (p : List ℕ) → stall ≡ Some p → IsReadOnce most (before.reach p) (mid.reach p)) (others : (p : List ℕ) → stall ≢ Some p → mid.reach p ≡ before.reach p) (later : before.faults ≤ mid.faults) where
+  pub orderly_some : IsOrderly (IsNotBoth second stall) (IsApart second stall) before mid
+  orderly_some = record {
+    told = told;
+    once = λ q apart. order_some before.reach mid.reach most stall q once others;
+    others = λ q apart. others q apart.1;
+    later = later;
+  }
+
+  -- and then the samples
+  pub orderly_both : (now : View) → now.told ≡ mid.told → IsInOrder (mid.reach second) (now.reach second) → ((p : List ℕ) → p ≢ second → now.reach p ≡ mid.reach p) → mid.faults ≤ now.faults
+      → IsOrderly (IsNotBoth second stall) (IsApart second stall) before now
+  orderly_both now same last rest more = record {
+    told = same ∙ told;
+    once = λ q apart. order_both before.reach mid.reach now.reach most stall second q once others last rest apart;
+    others = λ q apart. rest q apart.0 ∙ others q apart.1;
+    later = omega (arith, later, more);
+  }

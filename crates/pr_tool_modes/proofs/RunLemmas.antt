@@ -2,7 +2,7 @@
 use Rattle.std.proofs.Common.{◌≡◌, ◌⊎◌, ◌≤◌, ◌^◌, ℕ, Bool, true, false, List, [], ◌++◌, length, take, drop, map, Some, refl, sym, ap, ap₂, ◌∙◌, subst, arith, append-nil, inl, inr}
 use Rattle.std.proofs.lemmas.List.{map-append, take-append-drop, take_all, drop_all}
 use Rattle.pr_base.specs.Rows.{row_bytes}
-use Rattle.pr_edge.specs.Files.{HasReadCause}
+use Rattle.pr_edge.specs.Files.{HasReadCause, View}
 use Rattle.pr_edge.specs.Tape.{Tape, Appends, AppendsFront}
 use Rattle.pr_samples.specs.declared.feed.Feed.{Feed}
 use Rattle.pr_samples.specs.declared.feed.Got.{Got}
@@ -14,7 +14,7 @@ use Rattle.pr_conf.specs.Shape.{Shape}
 use Rattle.pr_run_script.specs.Script.{Held, most_cycles}
 use Rattle.pr_run_script.specs.Counts.{IsPrefix, cycles_in}
 use Rattle.pr_run.specs.declared.ending.RunEnd.{RunEnd}
-use Rattle.pr_run.specs.Setting.{Setting, View, IsSet, setting_of, stall_turns}
+use Rattle.pr_run.specs.Setting.{Setting, IsSet, setting_of, stall_turns}
 use Rattle.pr_run.specs.Setting.{pieces as pieces_in}
 use Rattle.pr_run.specs.Turns.{Going, HasRead, EndsBy, IsUnread, MayFollow}
 use Rattle.pr_run.specs.Runs.{IsWhole as WholeRun, IsStopped as StoppedRun, Ran, IsAnswer, lines_of, events_of}

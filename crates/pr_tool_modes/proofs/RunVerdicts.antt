@@ -3,7 +3,7 @@ use Rattle.std.proofs.Common.{◌≡◌, ◌≢◌, ◌⊎◌, ◌≤◌, ◌<�
 use Rattle.std.proofs.lemmas.Bool.Decides.{nat_tests}
 use Rattle.pr_base.specs.declared.caps.Cap.{Cap}
 use Rattle.pr_edge.specs.Count.{Rose}
-use Rattle.pr_edge.specs.Files.{Told, IsMissing, HasReadCause}
+use Rattle.pr_edge.specs.Files.{Told, IsMissing, HasReadCause, View}
 use Rattle.pr_edge.specs.Tape.{Tape}
 use Rattle.pr_conf.specs.Shape.{Shape}
 use Rattle.pr_conf.specs.Configuration.{shape_of}
@@ -11,7 +11,6 @@ use Rattle.pr_samples.specs.Fed.{Ending, End, BadSample, Limit}
 use Rattle.pr_samples.specs.Feed.{Tells}
 use Rattle.pr_run_script.specs.Script.{Held}
 use Rattle.pr_machine.specs.Stands.{History}
-use Rattle.pr_run.specs.Setting.{View}
 use Rattle.pr_run.specs.Turns.{Going}
 use Rattle.pr_tool_answers.specs.declared.answers.Answer.{Answer}
 use Rattle.pr_tool_answers.specs.Owed.{IsOwed}
@@ -81,7 +80,7 @@ fresh_source (named.Program name target) = refl
 -- a configuration that was to be run, after the source was read
 pub come_of : (j : Job) (k : Call) (mid : View) (l : Loadable) (was bench : Bench) (a : Answer) → Gives k.before.told j.source (columns_in l) (registers_in l) (shape_in l)
     → mid.told ≡ k.before.told → mid.faults ≡ k.before.faults → ((q : List ℕ) → q ≢ first_of j → mid.reach q ≡ k.before.reach q)
-    → IsRunOf l j (call mid k.now k.old k.new k.out_before k.out_now) was bench a → HasCome j k was bench a
+    → IsRunOf l j (call mid k.now (record { told = k.old; faults = k.out_before }) (record { told = k.new; faults = k.out_now })) was bench a → HasCome j k was bench a
 come_of j k mid l was bench a gives told steady reach (inl held) = inl (record {
   cause = later_refusal j k mid.told mid.faults (columns_in l) (registers_in l) (shape_in l) a gives told (omega (arith, steady)) held.cause;
   unwritten = held.unwritten;

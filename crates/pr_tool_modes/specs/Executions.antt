@@ -5,11 +5,10 @@ use Rattle.pr_edge.specs.Tape.{Tape}
 use Rattle.pr_conf.specs.Shape.{Shape}
 use Rattle.pr_conf.specs.Configuration.{shape_of}
 use Rattle.pr_run_script.specs.Script.{Held}
-use Rattle.pr_run.specs.Setting.{View}
+use Rattle.pr_edge.specs.Files.{View}
 use Rattle.pr_run.specs.Turns.{Going}
 use Rattle.pr_tool_answers.specs.declared.answers.Answer.{Answer}
 use Rattle.pr_tool_modes.specs.declared.benches.Bench.{Bench}
-use Rattle.pr_tool_modes.specs.declared.executions.Ran.{Ran}
 use Rattle.pr_tool_modes.specs.Calls.{Call}
 use Rattle.pr_tool_modes.specs.Files.{ShowsFault}
 use Rattle.pr_tool_modes.specs.declared.loadables.Loadable.{Loadable}
@@ -45,15 +44,6 @@ pub record IsHeldBack (j : Job) (k : Call) (was bench : Bench) (answer : Answer)
 pub record HasBeenRun {N P : ℕ} (c : Shape) (j : Job) (k : Call) (machine : Going N P) (answer : Answer) : Type 0 where
   pub run : HasRun (IsNoStall j) c j k.before k.now k.old k.new machine answer
   pub write_fault : answer ≡ Answer.WriteFault → Rose k.out_before k.out_now
-
--- what a run of either fabric came to, and its machine on a bench
-abbrev pub answer_in : Ran → Answer
-answer_in (Ran.Base over) = over.answer
-answer_in (Ran.Wide over) = over.answer
-
-abbrev pub bench_in : Ran → Bench
-bench_in (Ran.Base over) = Bench.Base over.machine
-bench_in (Ran.Wide over) = Bench.Wide over.machine
 
 -- its machine is on the bench, in the variant of the configuration's fabric
 abbrev pub IsRunOn : Loadable → Job → Call → Bench → Answer → Type 0

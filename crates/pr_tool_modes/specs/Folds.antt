@@ -1,13 +1,11 @@
 -- What a mode comes to that writes a checkpoint: a configuration is run on samples, and its results are dropped.
 use Rattle.std.specs.Prelude.{◌≡◌, ◌⊎◌, ◌+◌, ℕ, false, List, length, Option, Some}
-use Rattle.pr_edge.specs.Files.{HasReadCause}
-use Rattle.pr_edge.specs.Tape.{Appends, AppendsFront}
+use Rattle.pr_edge.specs.Files.{HasReadCause, View}
+use Rattle.pr_edge.specs.Tape.{Appends, AppendsFront, untold}
 use Rattle.pr_conf.specs.Shape.{Shape}
 use Rattle.pr_conf.specs.After.{conf_after}
 use Rattle.pr_code.specs.Marks.{IsMark, mark_of}
-use Rattle.pr_move.specs.Untold.{untold}
 use Rattle.pr_run_script.specs.Script.{Held}
-use Rattle.pr_run.specs.Setting.{View}
 use Rattle.pr_samples.specs.Fed.{Ending, End, BadSample, Limit}
 use Rattle.pr_tool_answers.specs.declared.answers.Answer.{Answer}
 use Rattle.pr_tool_modes.specs.declared.loadables.Loadable.{Loadable}

@@ -17,7 +17,6 @@ use Rattle.pr_run_script.specs.Script.{script}
 use Rattle.pr_samples.specs.Fed.{End}
 use Rattle.pr_tool_answers.specs.declared.answers.Answer.{Answer}
 use Rattle.pr_tool_modes.specs.declared.benches.Bench.{Bench}
-use Rattle.pr_tool_modes.specs.declared.executions.Ran.{Ran}
 use Rattle.pr_tool_modes.specs.declared.jobs.Generation.{Generation as NamedGeneration}
 use Rattle.pr_tool_modes.specs.declared.targets.Target.{Target}
 use Rattle.pr_tool_modes.specs.Executions.{IsRunVerdict}
@@ -83,10 +82,9 @@ Tells turns units lines text machine =
     (conf : Shape) (stripes : ℕ) (history : History) → Stands machine conf stripes history
     → text ≡ summary turns units (length conf.stages) (account_of conf stripes history).time lines
 
--- it tells this of the machine of a run
-abbrev pub TellsOn : ℕ → ℕ → List ℕ → List ℕ → Ran → Type 0
-TellsOn turns units lines text (Ran.Base over) = Tells turns units lines text over.machine
-TellsOn turns units lines text (Ran.Wide over) = Tells turns units lines text over.machine
+-- it tells this of the machine on a bench
+abbrev pub TellsOn : ℕ → ℕ → List ℕ → List ℕ → Bench → Type 0
+TellsOn turns units lines text bench = OnBench (λ N P machine. Tells turns units lines text machine) bench
 
 -- why nothing is told of a run that came to this: that it did so, but for a write that failed; or memory is wanting
 abbrev pub IsUntold : Answer → Answer → Type 0

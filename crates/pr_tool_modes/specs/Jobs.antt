@@ -47,6 +47,14 @@ IsNeither j q = (q ≢ first_of j) × IsNoStall j q
 abbrev pub IsNotBoth : List ℕ → Option (List ℕ) → List ℕ → Type 0
 IsNotBoth second stall q = q ≡ second → stall ≢ Some q
 
+-- neither of them is
+abbrev pub IsApart : List ℕ → Option (List ℕ) → List ℕ → Type 0
+IsApart second stall q = (q ≢ second) × (stall ≢ Some q)
+
+-- none of the job's files is of this name
+abbrev pub IsNotNamed : Job → List ℕ → Type 0
+IsNotNamed j q = (q ≢ j.second) × IsNeither j q
+
 -- at most one of the job's files is of this name
 abbrev pub IsNamedOnce : Job → List ℕ → Type 0
 IsNamedOnce j q = (q ≡ first_of j → (q ≢ j.second) × IsNoStall j q) × IsNotBoth j.second j.stall q

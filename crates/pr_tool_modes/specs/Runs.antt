@@ -1,20 +1,21 @@
 -- What a run of a configuration on the samples of a file comes to.
 use Rattle.std.specs.Prelude.{◌≡◌, ◌⊎◌, ◌≤◌, ℕ, Bool, true, false, List, [], ◌++◌, length, take, Some}
-use Rattle.pr_edge.specs.Files.{IsMissing, HasReadCause}
+use Rattle.pr_edge.specs.Files.{IsMissing, HasReadCause, View}
 use Rattle.pr_edge.specs.Tape.{Tape, Appends, AppendsFront}
 use Rattle.pr_base.specs.Rows.{written}
 use Rattle.pr_conf.specs.Shape.{Shape}
 use Rattle.pr_conf.specs.Through.{result_numbers}
 use Rattle.pr_samples.specs.Fed.{Ending, End, BadSample, Limit}
-use Rattle.pr_samples.specs.Feed.{Tells}
-use Rattle.pr_machine.specs.Stands.{Stands, History}
+use Rattle.pr_samples.specs.Feed.{Tells, most_of, name_of}
+use Rattle.pr_machine.specs.Stands.{Stands, History, conf_of, stripes_of}
 use Rattle.pr_run_script.specs.Script.{Held, script, most_cycles}
 use Rattle.pr_run_script.specs.Counts.{IsPrefix, cycles_in}
 use Rattle.pr_run_script.specs.Text.{history_lines, closing_lines, text_of, run_text}
 use Rattle.pr_run.specs.declared.ending.RunEnd.{RunEnd}
-use Rattle.pr_run.specs.Setting.{View}
+use Rattle.pr_run.specs.Setting.{stall_turns}
 use Rattle.pr_run.specs.Turns.{Going}
 use Rattle.pr_tool_answers.specs.declared.answers.Answer.{Answer}
+use Rattle.pr_tool_modes.specs.declared.ready.Ready.{Ready}
 use Rattle.pr_tool_modes.specs.Samples.{fed_at_most, fed_to, pieces}
 use Rattle.pr_tool_modes.specs.Unlogged.{GainsLines, GainsFirst}
 
@@ -52,6 +53,11 @@ course c p turns log most name start now old new = record {
   old = old;
   new = new;
 }
+
+-- the course of a run for which all is made
+abbrev pub course_from : {N P : ℕ} → Ready N P → Bool → View → View → Tape → Tape → Course
+course_from ready log start now old new =
+    course (conf_of ready.machine) (stripes_of ready.machine) (stall_turns ready.stall) log (most_of ready.feed) (name_of ready.feed) start now old new
 
 -- the events of a run on these samples
 abbrev pub events_on : Course → List (List ℕ) → History

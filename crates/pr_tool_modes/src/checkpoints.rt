@@ -84,15 +84,17 @@ fn decode_named(alloc: Global, bytes: &[u8]) -> Result<Origin, Answer>
 /// Reads the configuration of a checkpoint, and the number of samples that came before, on the fabric that the file names.
 pub fn read_checkpoint<S: Shelf>(alloc: Global, shelf: &mut S, name: &str) -> Result<Origin, Answer>
     ensures read { IfOk result
-        (λ l. HasMark (S.told shelf.old) name.now (columns_in l.conf) (registers_in l.conf) l.before
+        (λ l. HasMark (S.view shelf.old).told name.now (columns_in l.conf) (registers_in l.conf) l.before
         (shape_in l.conf)) }
-    ensures refused { IfErr result (IsNotMarked (S.told shelf.old) name.now (S.faults shelf.old) (S.faults shelf.new)) }
-    ensures later { S.faults shelf.old ≤ S.faults shelf.new }
-    ensures steady { OnOk result (S.faults shelf.new ≡ S.faults shelf.old) }
-    ensures shown { IfErr result (ShowsFault (S.faults shelf.old) (S.faults shelf.new)) }
-    ensures same { S.told shelf.new ≡ S.told shelf.old }
-    ensures once { IsReadOnce (most_config_bytes + 4096) (S.reach shelf.old name.now) (S.reach shelf.new name.now) }
-    ensures others { (q : List ℕ) → q ≢ name.now → S.reach shelf.new q ≡ S.reach shelf.old q }
+    ensures refused { IfErr result
+        (IsNotMarked (S.view shelf.old).told name.now (S.view shelf.old).faults (S.view shelf.new).faults) }
+    ensures later { (S.view shelf.old).faults ≤ (S.view shelf.new).faults }
+    ensures steady { OnOk result ((S.view shelf.new).faults ≡ (S.view shelf.old).faults) }
+    ensures shown { IfErr result (ShowsFault (S.view shelf.old).faults (S.view shelf.new).faults) }
+    ensures same { (S.view shelf.new).told ≡ (S.view shelf.old).told }
+    ensures once { IsReadOnce (most_config_bytes + 4096) ((S.view shelf.old).reach name.now)
+        ((S.view shelf.new).reach name.now) }
+    ensures others { (q : List ℕ) → q ≢ name.now → (S.view shelf.new).reach q ≡ (S.view shelf.old).reach q }
 {
     let bytes = read_file(alloc, shelf, name, Cap::MOST_CONFIG_BYTES, Cap::ConfigBytes)?;
     decode_named(alloc, &bytes)

@@ -1,8 +1,6 @@
 //! A program that is evaluated on the samples of a file.
-ghost use Rattle.std.specs.Prelude.{◌≡◌, ◌≢◌, ◌≤◌, ℕ, List};
-ghost use Rattle.pr_run.specs.Setting.{view};
-ghost use Rattle.pr_tool_modes.specs.Calls.{call};
-ghost use Rattle.pr_tool_modes.specs.Files.{IsInOrder};
+ghost use Rattle.std.specs.Prelude.{◌≡◌, ◌≢◌, ◌≤◌};
+ghost use Rattle.pr_tool_modes.specs.Calls.{call, IsOrderly};
 ghost use Rattle.pr_tool_modes.specs.Evaluations.{answer_by, IsPut, IsEvaluated};
 
 use crate::programs::load_program;
@@ -27,8 +25,8 @@ pub fn answer_of(end: Got) -> Answer
 /// Writes the lines of results.
 fn put_results<K: Sink>(out: &mut K, results: &Results) -> Answer
     ensures put { IsPut results.now.text.items results.now.end
-        (K.told out.old) (K.told out.new) (K.faults out.old) (K.faults out.new) result }
-    ensures later { K.faults out.old ≤ K.faults out.new }
+        (K.view out.old).told (K.view out.new).told (K.view out.old).faults (K.view out.new).faults result }
+    ensures later { (K.view out.old).faults ≤ (K.view out.new).faults }
 {
     match write_all(out, &results.text) {
         Ok(()) => answer_of(results.end),
@@ -48,19 +46,13 @@ pub fn eval<S: Shelf, K: Sink>(
     out: &mut K,
 ) -> Answer
     // What it came to: the program is refused, or what the samples come to.
-    ensures ended { IsEvaluated program.now samples.now (call
-        (view (S.told shelf.old) (S.reach shelf.old) (S.faults shelf.old))
-        (view (S.told shelf.new) (S.reach shelf.new) (S.faults shelf.new))
-        (K.told out.old) (K.told out.new) (K.faults out.old) (K.faults out.new)) result }
+    ensures ended { IsEvaluated program.now samples.now
+        (call (S.view shelf.old) (S.view shelf.new) (K.view out.old) (K.view out.new)) result }
 
-    ensures told { S.told shelf.new ≡ S.told shelf.old }
-
-    // A file that is not both the program and the samples is read in order, and no byte of it twice.
-    ensures once { (q : List ℕ) → (q ≡ program.now → q ≢ samples.now)
-        → IsInOrder (S.reach shelf.old q) (S.reach shelf.new q) }
-    ensures others { (q : List ℕ) → q ≢ program.now → q ≢ samples.now → S.reach shelf.new q ≡ S.reach shelf.old q }
-    ensures shelf_later { S.faults shelf.old ≤ S.faults shelf.new }
-    ensures out_later { K.faults out.old ≤ K.faults out.new }
+    // A file that is not both the program and the samples is read in order, and no byte of it twice. No other file is read.
+    ensures orderly { IsOrderly (λ q. q ≡ program.now → q ≢ samples.now) (λ q. (q ≢ program.now) × (q ≢ samples.now))
+        (S.view shelf.old) (S.view shelf.new) }
+    ensures out_later { (K.view out.old).faults ≤ (K.view out.new).faults }
 {
     let front = match load_program(alloc, shelf, program) {
         Ok(front) => front,

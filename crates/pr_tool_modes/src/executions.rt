@@ -2,13 +2,12 @@
 ghost use Rattle.std.specs.Prelude.{◌≡◌, ◌≢◌, ◌≤◌, ◌^◌, ◌⊎◌, ℕ, List, Some, IfOk, IfErr, OnErr};
 ghost use Rattle.pr_edge.specs.Count.{Rose};
 ghost use Rattle.pr_conf.specs.Configuration.{shape_of};
-ghost use Rattle.pr_run.specs.Setting.{view};
-ghost use Rattle.pr_tool_modes.specs.Calls.{call};
-ghost use Rattle.pr_tool_modes.specs.Files.{IsInOrder, ShowsFault};
-ghost use Rattle.pr_tool_modes.specs.Jobs.{job_on, job_of, stall_in, IsNoStall, IsNeither, IsNotBoth, IsNamedOnce};
+ghost use Rattle.pr_tool_modes.specs.Calls.{call, IsOrderly};
+ghost use Rattle.pr_tool_modes.specs.Files.{ShowsFault};
+ghost use Rattle.pr_tool_modes.specs.Jobs.{job_on, job_of, stall_in, IsNoStall, IsNotBoth, IsApart, IsNamedOnce, IsNotNamed};
 ghost use Rattle.pr_tool_modes.specs.Sources.{Source, count_in};
 ghost use Rattle.pr_tool_modes.specs.Stalls.{IsStallRefusal};
-ghost use Rattle.pr_tool_modes.specs.Executions.{answer_in, bench_in, HasRun, IsRunOn, IsRunOf, HasCome};
+ghost use Rattle.pr_tool_modes.specs.Executions.{HasRun, IsRunOn, IsRunOf, HasCome};
 
 use crate::benches::Bench;
 use crate::jobs::{Job, Run};
@@ -36,24 +35,20 @@ fn run_on<const N: usize, const P: usize, S: Shelf, K: Sink>(
     requires { before ≤ 2 ^ 40 }
     ensures ran { (source : Source) → count_in source ≡ before
         → IfOk result (λ o. HasRun (IsNoStall (job_on source run.now)) (shape_of conf.entry) (job_on source run.now)
-        (view (S.told shelf.old) (S.reach shelf.old) (S.faults shelf.old))
-        (view (S.told shelf.new) (S.reach shelf.new) (S.faults shelf.new))
-        (K.told out.old) (K.told out.new) o.machine o.answer) }
+        (S.view shelf.old) (S.view shelf.new) (K.view out.old).told (K.view out.new).told o.machine o.answer) }
     ensures refused { IfErr result
-        (λ a. IsStallRefusal (S.told shelf.old) (stall_in run.now) (S.faults shelf.old) (S.faults shelf.new) a
+        (λ a. IsStallRefusal (S.view shelf.old).told (stall_in run.now) (S.view shelf.old).faults
+        (S.view shelf.new).faults a
         ⊎ (a ≡ Answer.Memory)) }
-    ensures shown { IfErr result (ShowsFault (S.faults shelf.old) (S.faults shelf.new)) }
-    ensures unwritten { OnErr result (K.told out.new ≡ K.told out.old) }
+    ensures shown { IfErr result (ShowsFault (S.view shelf.old).faults (S.view shelf.new).faults) }
+    ensures unwritten { OnErr result ((K.view out.new).told ≡ (K.view out.old).told) }
     ensures unread { OnErr result
-        ((q : List ℕ) → stall_in run.now ≢ Some q → S.reach shelf.new q ≡ S.reach shelf.old q) }
-    ensures write_fault { IfOk result (λ o. o.answer ≡ Answer.WriteFault → Rose (K.faults out.old) (K.faults out.new)) }
-    ensures told { S.told shelf.new ≡ S.told shelf.old }
-    ensures once { (q : List ℕ) → IsNotBoth run.now.samples.now (stall_in run.now) q
-        → IsInOrder (S.reach shelf.old q) (S.reach shelf.new q) }
-    ensures others { (q : List ℕ) → q ≢ run.now.samples.now → stall_in run.now ≢ Some q
-        → S.reach shelf.new q ≡ S.reach shelf.old q }
-    ensures shelf_later { S.faults shelf.old ≤ S.faults shelf.new }
-    ensures out_later { K.faults out.old ≤ K.faults out.new }
+        ((q : List ℕ) → stall_in run.now ≢ Some q → (S.view shelf.new).reach q ≡ (S.view shelf.old).reach q) }
+    ensures write_fault { IfOk result
+        (λ o. o.answer ≡ Answer.WriteFault → Rose (K.view out.old).faults (K.view out.new).faults) }
+    ensures orderly { IsOrderly (IsNotBoth run.now.samples.now (stall_in run.now))
+        (IsApart run.now.samples.now (stall_in run.now)) (S.view shelf.old) (S.view shelf.new) }
+    ensures out_later { (K.view out.old).faults ≤ (K.view out.new).faults }
 {
     let stall = read_stall(alloc, shelf, run.stall)?;
     let ready = make_ready(alloc, conf, before, run, stall)?;
@@ -62,33 +57,11 @@ fn run_on<const N: usize, const P: usize, S: Shelf, K: Sink>(
 
 /// A run of a configuration of either fabric that is over.
 #[derive(Drop)]
-pub enum Ran {
-    /// On the base fabric.
-    Base(Over<16, 8>),
-    /// On the wide fabric.
-    Wide(Over<32, 16>),
-}
-
-impl Ran {
+pub struct Ran {
     /// What it came to.
-    pub fn answer(&self) -> Answer
-        ensures { result ≡ answer_in self.now }
-    {
-        match self {
-            Ran::Base(over) => over.answer,
-            Ran::Wide(over) => over.answer,
-        }
-    }
-
-    /// Its machine, on a bench.
-    pub fn into_bench(self) -> Bench
-        ensures { result ≡ bench_in self }
-    {
-        match self {
-            Ran::Base(over) => Bench::Base(over.machine),
-            Ran::Wide(over) => Bench::Wide(over.machine),
-        }
-    }
+    pub answer: Answer,
+    /// Its machine.
+    pub bench: Bench,
 }
 
 /// Runs a configuration as it is asked for, on the fabric that it is for. Where the stall text is refused, or there is no memory,
@@ -102,29 +75,37 @@ pub fn run_either<S: Shelf, K: Sink>(
 ) -> Result<Ran, Answer>
     // Whatever the source that the configuration comes from.
     ensures ran { (source : Source) → count_in source ≡ origin.before
-        → IfOk result (λ r. IsRunOn origin.conf (job_on source run.now) (call
-        (view (S.told shelf.old) (S.reach shelf.old) (S.faults shelf.old))
-        (view (S.told shelf.new) (S.reach shelf.new) (S.faults shelf.new))
-        (K.told out.old) (K.told out.new) (K.faults out.old) (K.faults out.new)) (bench_in r) (answer_in r)) }
+        → IfOk result (λ r. IsRunOn origin.conf (job_on source run.now)
+        (call (S.view shelf.old) (S.view shelf.new) (K.view out.old) (K.view out.new)) r.bench r.answer) }
+    ensures left { IfOk result (λ r. r.bench ≢ Bench.Nothing) }
     ensures refused { IfErr result
-        (λ a. IsStallRefusal (S.told shelf.old) (stall_in run.now) (S.faults shelf.old) (S.faults shelf.new) a
+        (λ a. IsStallRefusal (S.view shelf.old).told (stall_in run.now) (S.view shelf.old).faults
+        (S.view shelf.new).faults a
         ⊎ (a ≡ Answer.Memory)) }
-    ensures shown { IfErr result (ShowsFault (S.faults shelf.old) (S.faults shelf.new)) }
-    ensures unwritten { OnErr result (K.told out.new ≡ K.told out.old) }
+    ensures shown { IfErr result (ShowsFault (S.view shelf.old).faults (S.view shelf.new).faults) }
+    ensures unwritten { OnErr result ((K.view out.new).told ≡ (K.view out.old).told) }
     ensures unread { OnErr result
-        ((q : List ℕ) → stall_in run.now ≢ Some q → S.reach shelf.new q ≡ S.reach shelf.old q) }
-    ensures told { S.told shelf.new ≡ S.told shelf.old }
-    ensures once { (q : List ℕ) → IsNotBoth run.now.samples.now (stall_in run.now) q
-        → IsInOrder (S.reach shelf.old q) (S.reach shelf.new q) }
-    ensures others { (q : List ℕ) → q ≢ run.now.samples.now → stall_in run.now ≢ Some q
-        → S.reach shelf.new q ≡ S.reach shelf.old q }
-    ensures shelf_later { S.faults shelf.old ≤ S.faults shelf.new }
-    ensures out_later { K.faults out.old ≤ K.faults out.new }
+        ((q : List ℕ) → stall_in run.now ≢ Some q → (S.view shelf.new).reach q ≡ (S.view shelf.old).reach q) }
+    ensures orderly { IsOrderly (IsNotBoth run.now.samples.now (stall_in run.now))
+        (IsApart run.now.samples.now (stall_in run.now)) (S.view shelf.old) (S.view shelf.new) }
+    ensures out_later { (K.view out.old).faults ≤ (K.view out.new).faults }
 {
     let Origin { conf, before } = origin;
     match conf {
-        Loadable::Base(conf) => Ok(Ran::Base(run_on(alloc, conf, before, run, shelf, out)?)),
-        Loadable::Wide(conf) => Ok(Ran::Wide(run_on(alloc, conf, before, run, shelf, out)?)),
+        Loadable::Base(conf) => {
+            let over = run_on(alloc, conf, before, run, shelf, out)?;
+            Ok(Ran {
+                answer: over.answer,
+                bench: Bench::Base(over.machine),
+            })
+        }
+        Loadable::Wide(conf) => {
+            let over = run_on(alloc, conf, before, run, shelf, out)?;
+            Ok(Ran {
+                answer: over.answer,
+                bench: Bench::Wide(over.machine),
+            })
+        }
     }
 }
 
@@ -140,24 +121,16 @@ pub fn run_from<S: Shelf, K: Sink>(
 ) -> Answer
     // Whatever the source that the configuration comes from.
     ensures ended { (source : Source) → count_in source ≡ origin.before → IsRunOf origin.conf (job_on source run.now)
-        (call
-        (view (S.told shelf.old) (S.reach shelf.old) (S.faults shelf.old))
-        (view (S.told shelf.new) (S.reach shelf.new) (S.faults shelf.new))
-        (K.told out.old) (K.told out.new) (K.faults out.old) (K.faults out.new)) bench.old bench.new result }
-    ensures told { S.told shelf.new ≡ S.told shelf.old }
-    ensures once { (q : List ℕ) → IsNotBoth run.now.samples.now (stall_in run.now) q
-        → IsInOrder (S.reach shelf.old q) (S.reach shelf.new q) }
-    ensures others { (q : List ℕ) → q ≢ run.now.samples.now → stall_in run.now ≢ Some q
-        → S.reach shelf.new q ≡ S.reach shelf.old q }
-    ensures shelf_later { S.faults shelf.old ≤ S.faults shelf.new }
-    ensures out_later { K.faults out.old ≤ K.faults out.new }
+        (call (S.view shelf.old) (S.view shelf.new) (K.view out.old) (K.view out.new)) bench.old bench.new result }
+    ensures orderly { IsOrderly (IsNotBoth run.now.samples.now (stall_in run.now))
+        (IsApart run.now.samples.now (stall_in run.now)) (S.view shelf.old) (S.view shelf.new) }
+    ensures out_later { (K.view out.old).faults ≤ (K.view out.new).faults }
 {
     match run_either(alloc, origin, run, shelf, out) {
         Err(answer) => answer,
         Ok(ran) => {
-            let answer = ran.answer();
-            *bench = ran.into_bench();
-            answer
+            *bench = ran.bench;
+            ran.answer
         }
     }
 }
@@ -172,17 +145,11 @@ pub fn run_loaded<S: Shelf, K: Sink>(
     out: &mut K,
     bench: &mut Bench,
 ) -> Answer
-    ensures ended { IsRunOf loaded (job_of job.now) (call
-        (view (S.told shelf.old) (S.reach shelf.old) (S.faults shelf.old))
-        (view (S.told shelf.new) (S.reach shelf.new) (S.faults shelf.new))
-        (K.told out.old) (K.told out.new) (K.faults out.old) (K.faults out.new)) bench.old bench.new result }
-    ensures told { S.told shelf.new ≡ S.told shelf.old }
-    ensures once { (q : List ℕ) → IsNotBoth (job_of job.now).second (job_of job.now).stall q
-        → IsInOrder (S.reach shelf.old q) (S.reach shelf.new q) }
-    ensures others { (q : List ℕ) → q ≢ (job_of job.now).second → IsNoStall (job_of job.now) q
-        → S.reach shelf.new q ≡ S.reach shelf.old q }
-    ensures shelf_later { S.faults shelf.old ≤ S.faults shelf.new }
-    ensures out_later { K.faults out.old ≤ K.faults out.new }
+    ensures ended { IsRunOf loaded (job_of job.now)
+        (call (S.view shelf.old) (S.view shelf.new) (K.view out.old) (K.view out.new)) bench.old bench.new result }
+    ensures orderly { IsOrderly (IsNotBoth (job_of job.now).second (job_of job.now).stall)
+        (IsApart (job_of job.now).second (job_of job.now).stall) (S.view shelf.old) (S.view shelf.new) }
+    ensures out_later { (K.view out.old).faults ≤ (K.view out.new).faults }
 {
     let origin = Origin {
         conf: loaded,
@@ -204,20 +171,13 @@ pub fn execute<S: Shelf, K: Sink>(
     bench: &mut Bench,
 ) -> Answer
     // What it came to: a refusal before the run, or the run.
-    ensures ended { HasCome (job_of job.now) (call
-        (view (S.told shelf.old) (S.reach shelf.old) (S.faults shelf.old))
-        (view (S.told shelf.new) (S.reach shelf.new) (S.faults shelf.new))
-        (K.told out.old) (K.told out.new) (K.faults out.old) (K.faults out.new)) bench.old bench.new result }
+    ensures ended { HasCome (job_of job.now)
+        (call (S.view shelf.old) (S.view shelf.new) (K.view out.old) (K.view out.new)) bench.old bench.new result }
 
-    ensures told { S.told shelf.new ≡ S.told shelf.old }
-
-    // Each file that the job names once is read in order, and no byte of it twice.
-    ensures once { (q : List ℕ) → IsNamedOnce (job_of job.now) q
-        → IsInOrder (S.reach shelf.old q) (S.reach shelf.new q) }
-    ensures others { (q : List ℕ) → q ≢ (job_of job.now).second → IsNeither (job_of job.now) q
-        → S.reach shelf.new q ≡ S.reach shelf.old q }
-    ensures shelf_later { S.faults shelf.old ≤ S.faults shelf.new }
-    ensures out_later { K.faults out.old ≤ K.faults out.new }
+    // Each file that the job names once is read in order, and no byte of it twice. No other file is read.
+    ensures orderly { IsOrderly (IsNamedOnce (job_of job.now)) (IsNotNamed (job_of job.now))
+        (S.view shelf.old) (S.view shelf.new) }
+    ensures out_later { (K.view out.old).faults ≤ (K.view out.new).faults }
 {
     match load(alloc, &job.source, shelf) {
         Err(answer) => answer,

@@ -16,21 +16,21 @@ pub fn read_file<S: Shelf>(
     limit: usize,
     cap: Cap,
 ) -> Result<Vec<u8>, Answer>
-    ensures text { IfOk result (λ v. IsText (S.told shelf.old) name.now v.items) }
+    ensures text { IfOk result (λ v. IsText (S.view shelf.old).told name.now v.items) }
     ensures short { IfOk result (λ v. length v.items ≤ limit) }
     ensures refused { IfErr result
-        (IsUnread limit cap (S.told shelf.old) name.now (S.faults shelf.old) (S.faults shelf.new)) }
-    ensures later { S.faults shelf.old ≤ S.faults shelf.new }
+        (IsUnread limit cap (S.view shelf.old).told name.now (S.view shelf.old).faults (S.view shelf.new).faults) }
+    ensures later { (S.view shelf.old).faults ≤ (S.view shelf.new).faults }
 
     // A read that fails is not tried again: it ends with ReadFault.
-    ensures steady { OnOk result (S.faults shelf.new ≡ S.faults shelf.old) }
-    ensures shown { IfErr result (ShowsFault (S.faults shelf.old) (S.faults shelf.new)) }
+    ensures steady { OnOk result ((S.view shelf.new).faults ≡ (S.view shelf.old).faults) }
+    ensures shown { IfErr result (ShowsFault (S.view shelf.old).faults (S.view shelf.new).faults) }
 
-    ensures same { S.told shelf.new ≡ S.told shelf.old }
+    ensures same { (S.view shelf.new).told ≡ (S.view shelf.old).told }
 
     // It is read in order and each byte of it once, at most 4,096 past the limit.
-    ensures once { IsReadOnce (limit + 4096) (S.reach shelf.old name.now) (S.reach shelf.new name.now) }
-    ensures others { (q : List ℕ) → q ≢ name.now → S.reach shelf.new q ≡ S.reach shelf.old q }
+    ensures once { IsReadOnce (limit + 4096) ((S.view shelf.old).reach name.now) ((S.view shelf.new).reach name.now) }
+    ensures others { (q : List ℕ) → q ≢ name.now → (S.view shelf.new).reach q ≡ (S.view shelf.old).reach q }
 {
     match read_all(alloc, shelf, name, limit) {
         Ok(bytes) => Ok(bytes),

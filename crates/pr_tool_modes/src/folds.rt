@@ -1,16 +1,14 @@
 //! A configuration that is run on samples for the checkpoint after them.
-ghost use Rattle.std.specs.Prelude.{◌≡◌, ◌≢◌, ◌≤◌, ◌+◌, ◌^◌, ℕ, List, Some, false, IfOk, IfErr};
+ghost use Rattle.std.specs.Prelude.{◌≡◌, ◌≢◌, ◌≤◌, ◌+◌, ◌^◌, ℕ, List, false, IfOk, IfErr};
 ghost use Rattle.pr_conf.specs.Configuration.{shape_of};
-ghost use Rattle.pr_move.specs.Untold.{untold};
+ghost use Rattle.pr_edge.specs.Tape.{untold};
 ghost use Rattle.pr_samples.specs.Feed.{name_of, most_of};
-ghost use Rattle.pr_machine.specs.Stands.{conf_of, stripes_of};
-ghost use Rattle.pr_run.specs.Setting.{view, stall_turns};
-ghost use Rattle.pr_tool_modes.specs.Calls.{call};
+ghost use Rattle.pr_tool_modes.specs.Calls.{call, IsOrderly};
 ghost use Rattle.pr_tool_modes.specs.Files.{IsInOrder};
-ghost use Rattle.pr_tool_modes.specs.Jobs.{job_on, job_of, stall_in, resumption_of, IsNoStall, IsNeither, IsNotBoth, IsNamedOnce, IsResumedOnce};
+ghost use Rattle.pr_tool_modes.specs.Jobs.{job_on, job_of, stall_in, resumption_of, IsNoStall, IsNotBoth, IsApart, IsNamedOnce, IsNotNamed, IsResumedOnce};
 ghost use Rattle.pr_tool_modes.specs.Ready.{IsReady};
 ghost use Rattle.pr_tool_modes.specs.Resumptions.{IsNoFile};
-ghost use Rattle.pr_tool_modes.specs.Runs.{course};
+ghost use Rattle.pr_tool_modes.specs.Runs.{course_from};
 ghost use Rattle.pr_tool_modes.specs.Sources.{Source, count_in, columns_in, registers_in, shape_in};
 ghost use Rattle.pr_tool_modes.specs.Texts.{IsPut};
 ghost use Rattle.pr_tool_modes.specs.Folds.{HasMarked, IsUnmarked, HasRunFor, IsUnfolded, IsFoldOf, IsFolded, HasExtended};
@@ -38,20 +36,16 @@ fn fold_all<const N: usize, const P: usize, S: Shelf>(
     requires ready { IsReady ready.machine ready.feed ready.stall (most_of ready.feed) (name_of ready.feed) }
     requires most { before + most_of ready.feed ≤ 2 ^ 40 }
     ensures marked { IfOk result
-        (λ v. HasMarked N P (course (conf_of ready.entry.machine) (stripes_of ready.entry.machine)
-        (stall_turns ready.entry.stall) false (most_of ready.entry.feed) (name_of ready.entry.feed)
-        (view (S.told shelf.old) (S.reach shelf.old) (S.faults shelf.old))
-        (view (S.told shelf.new) (S.reach shelf.new) (S.faults shelf.new)) untold untold) before v.items) }
-    ensures unmarked { IfErr result
-        (IsUnmarked (course (conf_of ready.entry.machine) (stripes_of ready.entry.machine)
-        (stall_turns ready.entry.stall) false (most_of ready.entry.feed) (name_of ready.entry.feed)
-        (view (S.told shelf.old) (S.reach shelf.old) (S.faults shelf.old))
-        (view (S.told shelf.new) (S.reach shelf.new) (S.faults shelf.new)) untold untold)) }
-    ensures told { S.told shelf.new ≡ S.told shelf.old }
-    ensures once { IsInOrder (S.reach shelf.old (name_of ready.entry.feed))
-        (S.reach shelf.new (name_of ready.entry.feed)) }
-    ensures others { (q : List ℕ) → q ≢ name_of ready.entry.feed → S.reach shelf.new q ≡ S.reach shelf.old q }
-    ensures later { S.faults shelf.old ≤ S.faults shelf.new }
+        (λ v. HasMarked N P
+        (course_from ready.entry false (S.view shelf.old) (S.view shelf.new) untold untold) before v.items) }
+    ensures unmarked { IfErr result (IsUnmarked
+        (course_from ready.entry false (S.view shelf.old) (S.view shelf.new) untold untold)) }
+    ensures told { (S.view shelf.new).told ≡ (S.view shelf.old).told }
+    ensures once { IsInOrder ((S.view shelf.old).reach (name_of ready.entry.feed))
+        ((S.view shelf.new).reach (name_of ready.entry.feed)) }
+    ensures others { (q : List ℕ) → q ≢ name_of ready.entry.feed
+        → (S.view shelf.new).reach q ≡ (S.view shelf.old).reach q }
+    ensures later { (S.view shelf.old).faults ≤ (S.view shelf.new).faults }
 {
     let Ready {
         mut machine,
@@ -83,18 +77,12 @@ fn fold_on<const N: usize, const P: usize, S: Shelf>(
     requires { before ≤ 2 ^ 40 }
     ensures marked { (source : Source) → count_in source ≡ before
         → IfOk result (λ v. HasRunFor (IsNoStall (job_on source run.now)) (shape_of conf.entry) (job_on source run.now)
-        (view (S.told shelf.old) (S.reach shelf.old) (S.faults shelf.old))
-        (view (S.told shelf.new) (S.reach shelf.new) (S.faults shelf.new)) (λ r. HasMarked N P r before v.items)) }
+        (S.view shelf.old) (S.view shelf.new) (λ r. HasMarked N P r before v.items)) }
     ensures refused { (source : Source) → count_in source ≡ before
         → IfErr result (IsUnfolded (shape_of conf.entry) (job_on source run.now)
-        (view (S.told shelf.old) (S.reach shelf.old) (S.faults shelf.old))
-        (view (S.told shelf.new) (S.reach shelf.new) (S.faults shelf.new))) }
-    ensures told { S.told shelf.new ≡ S.told shelf.old }
-    ensures once { (q : List ℕ) → IsNotBoth run.now.samples.now (stall_in run.now) q
-        → IsInOrder (S.reach shelf.old q) (S.reach shelf.new q) }
-    ensures others { (q : List ℕ) → q ≢ run.now.samples.now → stall_in run.now ≢ Some q
-        → S.reach shelf.new q ≡ S.reach shelf.old q }
-    ensures later { S.faults shelf.old ≤ S.faults shelf.new }
+        (S.view shelf.old) (S.view shelf.new)) }
+    ensures orderly { IsOrderly (IsNotBoth run.now.samples.now (stall_in run.now))
+        (IsApart run.now.samples.now (stall_in run.now)) (S.view shelf.old) (S.view shelf.new) }
 {
     let stall = read_stall(alloc, shelf, run.stall)?;
     let ready = make_ready(alloc, conf, before, run, stall)?;
@@ -110,19 +98,13 @@ fn fold_loaded<S: Shelf>(
 ) -> Result<Vec<u8>, Answer>
     ensures marked { (source : Source) → count_in source ≡ origin.before
         → IfOk result (λ v. HasRunFor (IsNoStall (job_on source run.now)) (shape_in origin.conf) (job_on source run.now)
-        (view (S.told shelf.old) (S.reach shelf.old) (S.faults shelf.old))
-        (view (S.told shelf.new) (S.reach shelf.new) (S.faults shelf.new))
+        (S.view shelf.old) (S.view shelf.new)
         (λ r. HasMarked (columns_in origin.conf) (registers_in origin.conf) r origin.before v.items)) }
     ensures refused { (source : Source) → count_in source ≡ origin.before
         → IfErr result (IsUnfolded (shape_in origin.conf) (job_on source run.now)
-        (view (S.told shelf.old) (S.reach shelf.old) (S.faults shelf.old))
-        (view (S.told shelf.new) (S.reach shelf.new) (S.faults shelf.new))) }
-    ensures told { S.told shelf.new ≡ S.told shelf.old }
-    ensures once { (q : List ℕ) → IsNotBoth run.now.samples.now (stall_in run.now) q
-        → IsInOrder (S.reach shelf.old q) (S.reach shelf.new q) }
-    ensures others { (q : List ℕ) → q ≢ run.now.samples.now → stall_in run.now ≢ Some q
-        → S.reach shelf.new q ≡ S.reach shelf.old q }
-    ensures later { S.faults shelf.old ≤ S.faults shelf.new }
+        (S.view shelf.old) (S.view shelf.new)) }
+    ensures orderly { IsOrderly (IsNotBoth run.now.samples.now (stall_in run.now))
+        (IsApart run.now.samples.now (stall_in run.now)) (S.view shelf.old) (S.view shelf.new) }
 {
     let Origin { conf, before } = origin;
     match conf {
@@ -133,8 +115,9 @@ fn fold_loaded<S: Shelf>(
 
 /// Writes a checkpoint.
 fn put_mark<K: Sink>(text: &[u8], out: &mut K) -> Answer
-    ensures put { IsPut text.now (K.told out.old) (K.told out.new) (K.faults out.old) (K.faults out.new) result }
-    ensures later { K.faults out.old ≤ K.faults out.new }
+    ensures put { IsPut text.now (K.view out.old).told (K.view out.new).told
+        (K.view out.old).faults (K.view out.new).faults result }
+    ensures later { (K.view out.old).faults ≤ (K.view out.new).faults }
 {
     match write_all(out, text) {
         Ok(()) => Answer::Ok,
@@ -152,17 +135,11 @@ fn fold_from<S: Shelf, K: Sink>(
     out: &mut K,
 ) -> Answer
     ensures ended { (source : Source) → count_in source ≡ origin.before
-        → IsFoldOf origin.conf origin.before (job_on source run.now) (call
-        (view (S.told shelf.old) (S.reach shelf.old) (S.faults shelf.old))
-        (view (S.told shelf.new) (S.reach shelf.new) (S.faults shelf.new))
-        (K.told out.old) (K.told out.new) (K.faults out.old) (K.faults out.new)) result }
-    ensures told { S.told shelf.new ≡ S.told shelf.old }
-    ensures once { (q : List ℕ) → IsNotBoth run.now.samples.now (stall_in run.now) q
-        → IsInOrder (S.reach shelf.old q) (S.reach shelf.new q) }
-    ensures others { (q : List ℕ) → q ≢ run.now.samples.now → stall_in run.now ≢ Some q
-        → S.reach shelf.new q ≡ S.reach shelf.old q }
-    ensures shelf_later { S.faults shelf.old ≤ S.faults shelf.new }
-    ensures out_later { K.faults out.old ≤ K.faults out.new }
+        → IsFoldOf origin.conf origin.before (job_on source run.now)
+        (call (S.view shelf.old) (S.view shelf.new) (K.view out.old) (K.view out.new)) result }
+    ensures orderly { IsOrderly (IsNotBoth run.now.samples.now (stall_in run.now))
+        (IsApart run.now.samples.now (stall_in run.now)) (S.view shelf.old) (S.view shelf.new) }
+    ensures out_later { (K.view out.old).faults ≤ (K.view out.new).faults }
 {
     match fold_loaded(alloc, origin, run, shelf) {
         Ok(text) => put_mark(&text, out),
@@ -176,19 +153,13 @@ fn fold_from<S: Shelf, K: Sink>(
 /// The source is read first, then the stall text, and then the samples. Where one of them is refused, or there is no memory,
 /// nothing is written.
 pub fn fold<S: Shelf, K: Sink>(alloc: Global, job: &Job<'_>, shelf: &mut S, out: &mut K) -> Answer
-    ensures ended { IsFolded (job_of job.now) (call
-        (view (S.told shelf.old) (S.reach shelf.old) (S.faults shelf.old))
-        (view (S.told shelf.new) (S.reach shelf.new) (S.faults shelf.new))
-        (K.told out.old) (K.told out.new) (K.faults out.old) (K.faults out.new)) result }
-    ensures told { S.told shelf.new ≡ S.told shelf.old }
+    ensures ended { IsFolded (job_of job.now)
+        (call (S.view shelf.old) (S.view shelf.new) (K.view out.old) (K.view out.new)) result }
 
-    // Each file that the job names once is read in order, and no byte of it twice.
-    ensures once { (q : List ℕ) → IsNamedOnce (job_of job.now) q
-        → IsInOrder (S.reach shelf.old q) (S.reach shelf.new q) }
-    ensures others { (q : List ℕ) → q ≢ (job_of job.now).second → IsNeither (job_of job.now) q
-        → S.reach shelf.new q ≡ S.reach shelf.old q }
-    ensures shelf_later { S.faults shelf.old ≤ S.faults shelf.new }
-    ensures out_later { K.faults out.old ≤ K.faults out.new }
+    // Each file that the job names once is read in order, and no byte of it twice. No other file is read.
+    ensures orderly { IsOrderly (IsNamedOnce (job_of job.now)) (IsNotNamed (job_of job.now))
+        (S.view shelf.old) (S.view shelf.new) }
+    ensures out_later { (K.view out.old).faults ≤ (K.view out.new).faults }
 {
     match load(alloc, &job.source, shelf) {
         Err(answer) => answer,
@@ -204,19 +175,13 @@ pub fn extend<S: Shelf, K: Sink>(
     shelf: &mut S,
     out: &mut K,
 ) -> Answer
-    ensures ended { HasExtended (resumption_of resumption.now) (call
-        (view (S.told shelf.old) (S.reach shelf.old) (S.faults shelf.old))
-        (view (S.told shelf.new) (S.reach shelf.new) (S.faults shelf.new))
-        (K.told out.old) (K.told out.new) (K.faults out.old) (K.faults out.new)) result }
-    ensures told { S.told shelf.new ≡ S.told shelf.old }
+    ensures ended { HasExtended (resumption_of resumption.now)
+        (call (S.view shelf.old) (S.view shelf.new) (K.view out.old) (K.view out.new)) result }
 
-    // Each file that it names once is read in order, and no byte of it twice.
-    ensures once { (q : List ℕ) → IsResumedOnce (resumption_of resumption.now) q
-        → IsInOrder (S.reach shelf.old q) (S.reach shelf.new q) }
-    ensures others { (q : List ℕ) → IsNoFile (resumption_of resumption.now) q
-        → S.reach shelf.new q ≡ S.reach shelf.old q }
-    ensures shelf_later { S.faults shelf.old ≤ S.faults shelf.new }
-    ensures out_later { K.faults out.old ≤ K.faults out.new }
+    // Each file that it names once is read in order, and no byte of it twice. No other file is read.
+    ensures orderly { IsOrderly (IsResumedOnce (resumption_of resumption.now)) (IsNoFile (resumption_of resumption.now))
+        (S.view shelf.old) (S.view shelf.new) }
+    ensures out_later { (K.view out.old).faults ≤ (K.view out.new).faults }
 {
     match read_checkpoint(alloc, shelf, resumption.checkpoint) {
         Err(answer) => answer,

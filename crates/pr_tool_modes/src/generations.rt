@@ -5,7 +5,6 @@ ghost use Rattle.pr_conf.specs.Shape.{Shape};
 ghost use Rattle.pr_machine.specs.Stands.{Stands, History, account_of};
 ghost use Rattle.pr_tool_modes.specs.Jobs.{job_of as job_in};
 ghost use Rattle.pr_tool_modes.specs.Lines.{OnBench};
-ghost use Rattle.pr_tool_modes.specs.Executions.{answer_in};
 ghost use Rattle.pr_tool_modes.specs.Generations.{generation_of, job_for, generated, first_line, last_line, Tells, TellsOn, IsUntold, HasGenerated, IsGenVerdict, IsGenerated};
 
 use crate::benches::Bench;
@@ -125,19 +124,21 @@ fn summary_of<const N: usize, const P: usize>(
     Ok(text)
 }
 
-/// The same of a run of either fabric.
+/// The same of the machine on a bench.
 fn summary_on(
     alloc: Global,
     turns: u32,
     units: usize,
-    ran: &Ran,
+    bench: &Bench,
     lines: &[u8],
 ) -> Result<Vec<u8>, AllocError>
-    ensures { IfOk result (λ v. TellsOn turns units lines.now v.items ran.now) }
+    requires { bench.now ≢ Bench.Nothing }
+    ensures { IfOk result (λ v. TellsOn turns units lines.now v.items bench.now) }
 {
-    match ran {
-        Ran::Base(over) => summary_of(alloc, turns, units, &over.machine, lines),
-        Ran::Wide(over) => summary_of(alloc, turns, units, &over.machine, lines),
+    match bench {
+        Bench::Nothing => unreachable!(),
+        Bench::Base(machine) => summary_of(alloc, turns, units, machine, lines),
+        Bench::Wide(machine) => summary_of(alloc, turns, units, machine, lines),
     }
 }
 
@@ -149,12 +150,13 @@ fn summary_if_good(
     ran: &Ran,
     lines: &[u8],
 ) -> Result<Vec<u8>, Answer>
-    ensures told { IfOk result (λ v. TellsOn turns units lines.now v.items ran.now) }
-    ensures good { OnOk result (answer_in ran.now ≡ Answer.Ok) }
-    ensures refused { IfErr result (λ a. IsUntold (answer_in ran.now) a) }
+    requires { ran.now.bench ≢ Bench.Nothing }
+    ensures told { IfOk result (λ v. TellsOn turns units lines.now v.items ran.now.bench) }
+    ensures good { OnOk result (ran.now.answer ≡ Answer.Ok) }
+    ensures refused { IfErr result (λ a. IsUntold ran.now.answer a) }
 {
-    match ran.answer() {
-        Answer::Ok => Ok(summary_on(alloc, turns, units, ran, lines)?),
+    match ran.answer {
+        Answer::Ok => Ok(summary_on(alloc, turns, units, &ran.bench, lines)?),
         Answer::WriteFault => Err(Answer::Memory),
         answer => Err(answer),
     }
@@ -180,7 +182,7 @@ fn run_generated(alloc: Global, generation: &Generation) -> Result<Generated, An
     let text = summary_if_good(alloc, generation.turns, made.units, &ran, lines.bytes())?;
     Ok(Generated {
         text,
-        bench: ran.into_bench(),
+        bench: ran.bench,
     })
 }
 
@@ -194,8 +196,9 @@ pub fn generate<K: Sink>(
     bench: &mut Bench,
 ) -> Answer
     ensures ended { IsGenerated (generation_of generation.now)
-        (K.told out.old) (K.told out.new) (K.faults out.old) (K.faults out.new) bench.old bench.new result }
-    ensures later { K.faults out.old ≤ K.faults out.new }
+        (K.view out.old).told (K.view out.new).told (K.view out.old).faults
+        (K.view out.new).faults bench.old bench.new result }
+    ensures later { (K.view out.old).faults ≤ (K.view out.new).faults }
 {
     let ran = match run_generated(alloc, generation) {
         Ok(ran) => ran,

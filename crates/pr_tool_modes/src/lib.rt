@@ -38,7 +38,7 @@ pub use laws::{behaviour_law, moving_law, verdict_law};
 pub use loadables::{Loadable, Origin};
 pub use moves::move_on;
 pub use pr_tool_answers::Answer;
-pub use programs::compile_on;
+pub use programs::{compile_answer, compile_on};
 pub use sources::load;
 pub use targets::Target;
 pub use texts::{Form, write_text};

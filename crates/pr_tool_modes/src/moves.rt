@@ -1,8 +1,6 @@
 //! Runs that go on from a checkpoint.
-ghost use Rattle.std.specs.Prelude.{◌≡◌, ◌≤◌, ℕ, List};
-ghost use Rattle.pr_run.specs.Setting.{view};
-ghost use Rattle.pr_tool_modes.specs.Calls.{call};
-ghost use Rattle.pr_tool_modes.specs.Files.{IsInOrder};
+ghost use Rattle.std.specs.Prelude.{◌≤◌};
+ghost use Rattle.pr_tool_modes.specs.Calls.{call, IsOrderly};
 ghost use Rattle.pr_tool_modes.specs.Jobs.{resumption_of, IsResumedOnce};
 ghost use Rattle.pr_tool_modes.specs.Resumptions.{HasMoved, IsNoFile};
 
@@ -26,20 +24,13 @@ pub fn move_on<S: Shelf, K: Sink>(
     bench: &mut Bench,
 ) -> Answer
     // What it came to: a refusal before the run, or the run.
-    ensures ended { HasMoved (resumption_of resumption.now) (call
-        (view (S.told shelf.old) (S.reach shelf.old) (S.faults shelf.old))
-        (view (S.told shelf.new) (S.reach shelf.new) (S.faults shelf.new))
-        (K.told out.old) (K.told out.new) (K.faults out.old) (K.faults out.new)) bench.old bench.new result }
+    ensures ended { HasMoved (resumption_of resumption.now)
+        (call (S.view shelf.old) (S.view shelf.new) (K.view out.old) (K.view out.new)) bench.old bench.new result }
 
-    ensures told { S.told shelf.new ≡ S.told shelf.old }
-
-    // Each file that it names once is read in order, and no byte of it twice.
-    ensures once { (q : List ℕ) → IsResumedOnce (resumption_of resumption.now) q
-        → IsInOrder (S.reach shelf.old q) (S.reach shelf.new q) }
-    ensures others { (q : List ℕ) → IsNoFile (resumption_of resumption.now) q
-        → S.reach shelf.new q ≡ S.reach shelf.old q }
-    ensures shelf_later { S.faults shelf.old ≤ S.faults shelf.new }
-    ensures out_later { K.faults out.old ≤ K.faults out.new }
+    // Each file that it names once is read in order, and no byte of it twice. No other file is read.
+    ensures orderly { IsOrderly (IsResumedOnce (resumption_of resumption.now)) (IsNoFile (resumption_of resumption.now))
+        (S.view shelf.old) (S.view shelf.new) }
+    ensures out_later { (K.view out.old).faults ≤ (K.view out.new).faults }
 {
     match read_checkpoint(alloc, shelf, resumption.checkpoint) {
         Err(answer) => answer,

@@ -33,10 +33,10 @@ fn answer_of_front(fault: FrontFault) -> Answer
 }
 
 /// The answer that a fault of compilation is.
-fn answer_of(fault: CompileFault) -> Answer
-    ensures { result ≡ compile_answer fault }
+pub fn compile_answer(fault: &CompileFault) -> Answer
+    ensures { result ≡ compile_answer fault.now }
 {
-    match fault {
+    match *fault {
         CompileFault::Syntax { token } => Answer::Syntax { token },
         CompileFault::Scope { rule, item } => Answer::Scope { rule, item },
         CompileFault::NoWidth { equation } => Answer::NoWidth { equation },
@@ -48,14 +48,16 @@ fn answer_of(fault: CompileFault) -> Answer
 
 /// Reads the program of a file, with its equations and their widths.
 pub fn load_program<S: Shelf>(alloc: Global, shelf: &mut S, name: &str) -> Result<Front, Answer>
-    ensures loaded { IfOk result (λ f. IsLoaded (S.told shelf.old) name.now f) }
-    ensures refused { IfErr result (IsNotLoaded (S.told shelf.old) name.now (S.faults shelf.old) (S.faults shelf.new)) }
-    ensures later { S.faults shelf.old ≤ S.faults shelf.new }
-    ensures steady { OnOk result (S.faults shelf.new ≡ S.faults shelf.old) }
-    ensures shown { IfErr result (ShowsFault (S.faults shelf.old) (S.faults shelf.new)) }
-    ensures same { S.told shelf.new ≡ S.told shelf.old }
-    ensures once { IsReadOnce (most_program_bytes + 4096) (S.reach shelf.old name.now) (S.reach shelf.new name.now) }
-    ensures others { (q : List ℕ) → q ≢ name.now → S.reach shelf.new q ≡ S.reach shelf.old q }
+    ensures loaded { IfOk result (λ f. IsLoaded (S.view shelf.old).told name.now f) }
+    ensures refused { IfErr result
+        (IsNotLoaded (S.view shelf.old).told name.now (S.view shelf.old).faults (S.view shelf.new).faults) }
+    ensures later { (S.view shelf.old).faults ≤ (S.view shelf.new).faults }
+    ensures steady { OnOk result ((S.view shelf.new).faults ≡ (S.view shelf.old).faults) }
+    ensures shown { IfErr result (ShowsFault (S.view shelf.old).faults (S.view shelf.new).faults) }
+    ensures same { (S.view shelf.new).told ≡ (S.view shelf.old).told }
+    ensures once { IsReadOnce (most_program_bytes + 4096) ((S.view shelf.old).reach name.now)
+        ((S.view shelf.new).reach name.now) }
+    ensures others { (q : List ℕ) → q ≢ name.now → (S.view shelf.new).reach q ≡ (S.view shelf.old).reach q }
 {
     let most = Cap::MOST_PROGRAM_BYTES;
     let text = read_file(alloc, shelf, name, most, Cap::ProgramBytes)?;
@@ -91,7 +93,7 @@ fn compile_text<const N: usize, const P: usize>(
 {
     match compile_counted::<N, P>(alloc, text, narrowed) {
         Ok(compiled) => Ok(compiled),
-        Err(fault) => Err(answer_of(fault)),
+        Err(fault) => Err(compile_answer(&fault)),
     }
 }
 
@@ -106,16 +108,18 @@ pub fn compile_on<const N: usize, const P: usize, S: Shelf>(
     requires most_columns { N ≤ 64 }
     requires registers { 2 ≤ P }
     requires most_registers { P ≤ 16 }
-    ensures compiled { IfOk result (λ c. HasCompiled (S.told shelf.old) name.now N P narrowed (shape_of c.conf)) }
-    ensures units { IfOk result (λ c. IsCounted (S.told shelf.old) name.now narrowed c.units) }
+    ensures compiled { IfOk result (λ c. HasCompiled (S.view shelf.old).told name.now N P narrowed (shape_of c.conf)) }
+    ensures units { IfOk result (λ c. IsCounted (S.view shelf.old).told name.now narrowed c.units) }
     ensures refused { IfErr result
-        (IsNotCompiled N P narrowed (S.told shelf.old) name.now (S.faults shelf.old) (S.faults shelf.new)) }
-    ensures later { S.faults shelf.old ≤ S.faults shelf.new }
-    ensures steady { OnOk result (S.faults shelf.new ≡ S.faults shelf.old) }
-    ensures shown { IfErr result (ShowsFault (S.faults shelf.old) (S.faults shelf.new)) }
-    ensures same { S.told shelf.new ≡ S.told shelf.old }
-    ensures once { IsReadOnce (most_program_bytes + 4096) (S.reach shelf.old name.now) (S.reach shelf.new name.now) }
-    ensures others { (q : List ℕ) → q ≢ name.now → S.reach shelf.new q ≡ S.reach shelf.old q }
+        (IsNotCompiled N P narrowed (S.view shelf.old).told name.now (S.view shelf.old).faults
+        (S.view shelf.new).faults) }
+    ensures later { (S.view shelf.old).faults ≤ (S.view shelf.new).faults }
+    ensures steady { OnOk result ((S.view shelf.new).faults ≡ (S.view shelf.old).faults) }
+    ensures shown { IfErr result (ShowsFault (S.view shelf.old).faults (S.view shelf.new).faults) }
+    ensures same { (S.view shelf.new).told ≡ (S.view shelf.old).told }
+    ensures once { IsReadOnce (most_program_bytes + 4096) ((S.view shelf.old).reach name.now)
+        ((S.view shelf.new).reach name.now) }
+    ensures others { (q : List ℕ) → q ≢ name.now → (S.view shelf.new).reach q ≡ (S.view shelf.old).reach q }
 {
     let most = Cap::MOST_PROGRAM_BYTES;
     let text = read_file(alloc, shelf, name, most, Cap::ProgramBytes)?;
@@ -130,18 +134,19 @@ pub fn compile_file<S: Shelf>(
     target: Target,
 ) -> Result<Made, Answer>
     ensures compiled { IfOk result
-        (λ m. IsOnFabric (S.told shelf.old) name.now target (columns_in m.loaded) (registers_in m.loaded)
+        (λ m. IsOnFabric (S.view shelf.old).told name.now target (columns_in m.loaded) (registers_in m.loaded)
         (shape_in m.loaded)) }
-    ensures units { IfOk result (λ m. IsCounted (S.told shelf.old) name.now target.narrowed m.units) }
+    ensures units { IfOk result (λ m. IsCounted (S.view shelf.old).told name.now target.narrowed m.units) }
     ensures refused { IfErr result
-        (IsNotCompiled (columns target.fabric) (registers target.fabric) target.narrowed (S.told shelf.old) name.now
-        (S.faults shelf.old) (S.faults shelf.new)) }
-    ensures later { S.faults shelf.old ≤ S.faults shelf.new }
-    ensures steady { OnOk result (S.faults shelf.new ≡ S.faults shelf.old) }
-    ensures shown { IfErr result (ShowsFault (S.faults shelf.old) (S.faults shelf.new)) }
-    ensures same { S.told shelf.new ≡ S.told shelf.old }
-    ensures once { IsReadOnce (most_program_bytes + 4096) (S.reach shelf.old name.now) (S.reach shelf.new name.now) }
-    ensures others { (q : List ℕ) → q ≢ name.now → S.reach shelf.new q ≡ S.reach shelf.old q }
+        (IsNotCompiled (columns target.fabric) (registers target.fabric) target.narrowed
+        (S.view shelf.old).told name.now (S.view shelf.old).faults (S.view shelf.new).faults) }
+    ensures later { (S.view shelf.old).faults ≤ (S.view shelf.new).faults }
+    ensures steady { OnOk result ((S.view shelf.new).faults ≡ (S.view shelf.old).faults) }
+    ensures shown { IfErr result (ShowsFault (S.view shelf.old).faults (S.view shelf.new).faults) }
+    ensures same { (S.view shelf.new).told ≡ (S.view shelf.old).told }
+    ensures once { IsReadOnce (most_program_bytes + 4096) ((S.view shelf.old).reach name.now)
+        ((S.view shelf.new).reach name.now) }
+    ensures others { (q : List ℕ) → q ≢ name.now → (S.view shelf.new).reach q ≡ (S.view shelf.old).reach q }
 {
     match target.fabric {
         Fabric::Base => {

@@ -50,19 +50,20 @@ fn results_in<S: Shelf>(
     requires row { length row.old ≡ vec_len front.now.flat.outputs }
     ensures results { IfOk result
         (λ r. r.end ≢ Got.ReadFault
-        → HasEvaluated (S.told shelf.old) front.now.scoped.program feed.old feed.new r.text.items r.end) }
-    ensures there { IfOk result (λ r. r.end ≢ Got.ReadFault → IsMissing (S.told shelf.old) (name_of feed.old) → ⊥) }
+        → HasEvaluated (S.view shelf.old).told front.now.scoped.program feed.old feed.new r.text.items r.end) }
+    ensures there { IfOk result
+        (λ r. r.end ≢ Got.ReadFault → IsMissing (S.view shelf.old).told (name_of feed.old) → ⊥) }
     ensures cause { IfOk result
         (λ r. r.end ≡ Got.ReadFault
-        → HasReadCause (S.told shelf.old) (name_of feed.old) (S.faults shelf.old) (S.faults shelf.new)) }
-    ensures steady { IfOk result (λ r. r.end ≢ Got.ReadFault → S.faults shelf.new ≡ S.faults shelf.old) }
-    ensures kept { OnErr result (S.faults shelf.new ≡ S.faults shelf.old) }
+        → HasReadCause (S.view shelf.old).told (name_of feed.old) (S.view shelf.old).faults (S.view shelf.new).faults) }
+    ensures steady { IfOk result (λ r. r.end ≢ Got.ReadFault → (S.view shelf.new).faults ≡ (S.view shelf.old).faults) }
+    ensures kept { OnErr result ((S.view shelf.new).faults ≡ (S.view shelf.old).faults) }
     ensures file { SameFile feed.old feed.new }
-    ensures later { S.faults shelf.old ≤ S.faults shelf.new }
-    ensures same { S.told shelf.new ≡ S.told shelf.old }
-    ensures reached { S.reach shelf.old (name_of feed.old) ≡ Some (place_of feed.old)
-        → S.reach shelf.new (name_of feed.old) ≡ Some (place_of feed.new) }
-    ensures others { (q : List ℕ) → q ≢ name_of feed.old → S.reach shelf.new q ≡ S.reach shelf.old q }
+    ensures later { (S.view shelf.old).faults ≤ (S.view shelf.new).faults }
+    ensures same { (S.view shelf.new).told ≡ (S.view shelf.old).told }
+    ensures reached { (S.view shelf.old).reach (name_of feed.old) ≡ Some (place_of feed.old)
+        → (S.view shelf.new).reach (name_of feed.old) ≡ Some (place_of feed.new) }
+    ensures others { (q : List ℕ) → q ≢ name_of feed.old → (S.view shelf.new).reach q ≡ (S.view shelf.old).reach q }
 {
     let mut evaluator = Evaluator::new(alloc, &front.flat)?;
     let mut text = Vec::new(alloc);
@@ -89,19 +90,20 @@ fn evaluate<S: Shelf>(
     requires feed { IsShortFeed (inputs_of front.now.scoped.program) feed.old }
     ensures results { IfOk result
         (λ r. r.end ≢ Got.ReadFault
-        → HasEvaluated (S.told shelf.old) front.now.scoped.program feed.old feed.new r.text.items r.end) }
-    ensures there { IfOk result (λ r. r.end ≢ Got.ReadFault → IsMissing (S.told shelf.old) (name_of feed.old) → ⊥) }
+        → HasEvaluated (S.view shelf.old).told front.now.scoped.program feed.old feed.new r.text.items r.end) }
+    ensures there { IfOk result
+        (λ r. r.end ≢ Got.ReadFault → IsMissing (S.view shelf.old).told (name_of feed.old) → ⊥) }
     ensures cause { IfOk result
         (λ r. r.end ≡ Got.ReadFault
-        → HasReadCause (S.told shelf.old) (name_of feed.old) (S.faults shelf.old) (S.faults shelf.new)) }
-    ensures steady { IfOk result (λ r. r.end ≢ Got.ReadFault → S.faults shelf.new ≡ S.faults shelf.old) }
-    ensures kept { OnErr result (S.faults shelf.new ≡ S.faults shelf.old) }
+        → HasReadCause (S.view shelf.old).told (name_of feed.old) (S.view shelf.old).faults (S.view shelf.new).faults) }
+    ensures steady { IfOk result (λ r. r.end ≢ Got.ReadFault → (S.view shelf.new).faults ≡ (S.view shelf.old).faults) }
+    ensures kept { OnErr result ((S.view shelf.new).faults ≡ (S.view shelf.old).faults) }
     ensures file { SameFile feed.old feed.new }
-    ensures later { S.faults shelf.old ≤ S.faults shelf.new }
-    ensures same { S.told shelf.new ≡ S.told shelf.old }
-    ensures reached { S.reach shelf.old (name_of feed.old) ≡ Some (place_of feed.old)
-        → S.reach shelf.new (name_of feed.old) ≡ Some (place_of feed.new) }
-    ensures others { (q : List ℕ) → q ≢ name_of feed.old → S.reach shelf.new q ≡ S.reach shelf.old q }
+    ensures later { (S.view shelf.old).faults ≤ (S.view shelf.new).faults }
+    ensures same { (S.view shelf.new).told ≡ (S.view shelf.old).told }
+    ensures reached { (S.view shelf.old).reach (name_of feed.old) ≡ Some (place_of feed.old)
+        → (S.view shelf.new).reach (name_of feed.old) ≡ Some (place_of feed.new) }
+    ensures others { (q : List ℕ) → q ≢ name_of feed.old → (S.view shelf.new).reach q ≡ (S.view shelf.old).reach q }
 {
     let mut sample = vec![in alloc; 0; front.scoped.inputs.len()]?;
     let mut row = vec![in alloc; 0; front.flat.outputs.len()]?;
@@ -119,18 +121,19 @@ pub fn results_of<S: Shelf>(
     requires flat { HasEquations front.now.scoped.program front.now.flat }
     requires widths { AreWidths (equations_of front.now.scoped.program).equations front.now.widths }
     ensures results { IfOk result
-        (λ r. HasLines (S.told shelf.old) samples.now front.now.scoped.program r.text.items r.end) }
+        (λ r. HasLines (S.view shelf.old).told samples.now front.now.scoped.program r.text.items r.end) }
     ensures refused { IfErr result
-        (IsUnread 16777216 Cap.SampleBytes (S.told shelf.old) samples.now (S.faults shelf.old) (S.faults shelf.new)) }
+        (IsUnread 16777216 Cap.SampleBytes (S.view shelf.old).told samples.now (S.view shelf.old).faults
+        (S.view shelf.new).faults) }
 
     // A read that fails is not tried again: it ends with ReadFault.
-    ensures steady { OnOk result (S.faults shelf.new ≡ S.faults shelf.old) }
-    ensures shown { IfErr result (ShowsFault (S.faults shelf.old) (S.faults shelf.new)) }
+    ensures steady { OnOk result ((S.view shelf.new).faults ≡ (S.view shelf.old).faults) }
+    ensures shown { IfErr result (ShowsFault (S.view shelf.old).faults (S.view shelf.new).faults) }
 
-    ensures later { S.faults shelf.old ≤ S.faults shelf.new }
-    ensures same { S.told shelf.new ≡ S.told shelf.old }
-    ensures once { IsInOrder (S.reach shelf.old samples.now) (S.reach shelf.new samples.now) }
-    ensures others { (q : List ℕ) → q ≢ samples.now → S.reach shelf.new q ≡ S.reach shelf.old q }
+    ensures later { (S.view shelf.old).faults ≤ (S.view shelf.new).faults }
+    ensures same { (S.view shelf.new).told ≡ (S.view shelf.old).told }
+    ensures once { IsInOrder ((S.view shelf.old).reach samples.now) ((S.view shelf.new).reach samples.now) }
+    ensures others { (q : List ℕ) → q ≢ samples.now → (S.view shelf.new).reach q ≡ (S.view shelf.old).reach q }
 {
     let inputs = &front.scoped.inputs;
     let mut feed = match Feed::make_bounded(

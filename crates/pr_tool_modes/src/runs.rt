@@ -2,11 +2,9 @@
 ghost use Rattle.std.specs.Prelude.{◌≡◌, ◌≢◌, ◌≤◌, ℕ, List};
 ghost use Rattle.pr_edge.specs.Count.{Rose};
 ghost use Rattle.pr_samples.specs.Feed.{name_of, most_of};
-ghost use Rattle.pr_machine.specs.Stands.{conf_of, stripes_of};
-ghost use Rattle.pr_run.specs.Setting.{view, stall_turns};
 ghost use Rattle.pr_tool_modes.specs.Files.{IsInOrder};
 ghost use Rattle.pr_tool_modes.specs.Ready.{IsReady};
-ghost use Rattle.pr_tool_modes.specs.Runs.{answer_by, course, IsRun};
+ghost use Rattle.pr_tool_modes.specs.Runs.{answer_by, course_from, IsRun};
 
 use crate::ready::Ready;
 use pr_edge::{Shelf, Sink};
@@ -44,18 +42,16 @@ pub fn run_all<const N: usize, const P: usize, S: Shelf, K: Sink>(
     out: &mut K,
 ) -> Over<N, P>
     requires { IsReady ready.machine ready.feed ready.stall (most_of ready.feed) (name_of ready.feed) }
-    ensures ran { IsRun (course (conf_of ready.entry.machine) (stripes_of ready.entry.machine)
-        (stall_turns ready.entry.stall) log (most_of ready.entry.feed) (name_of ready.entry.feed)
-        (view (S.told shelf.old) (S.reach shelf.old) (S.faults shelf.old))
-        (view (S.told shelf.new) (S.reach shelf.new) (S.faults shelf.new))
-        (K.told out.old) (K.told out.new)) result.machine result.answer }
-    ensures write_fault { result.answer ≡ Answer.WriteFault → Rose (K.faults out.old) (K.faults out.new) }
-    ensures told { S.told shelf.new ≡ S.told shelf.old }
-    ensures once { IsInOrder (S.reach shelf.old (name_of ready.entry.feed))
-        (S.reach shelf.new (name_of ready.entry.feed)) }
-    ensures others { (q : List ℕ) → q ≢ name_of ready.entry.feed → S.reach shelf.new q ≡ S.reach shelf.old q }
-    ensures shelf_later { S.faults shelf.old ≤ S.faults shelf.new }
-    ensures out_later { K.faults out.old ≤ K.faults out.new }
+    ensures ran { IsRun (course_from ready.entry log (S.view shelf.old) (S.view shelf.new)
+        (K.view out.old).told (K.view out.new).told) result.machine result.answer }
+    ensures write_fault { result.answer ≡ Answer.WriteFault → Rose (K.view out.old).faults (K.view out.new).faults }
+    ensures told { (S.view shelf.new).told ≡ (S.view shelf.old).told }
+    ensures once { IsInOrder ((S.view shelf.old).reach (name_of ready.entry.feed))
+        ((S.view shelf.new).reach (name_of ready.entry.feed)) }
+    ensures others { (q : List ℕ) → q ≢ name_of ready.entry.feed
+        → (S.view shelf.new).reach q ≡ (S.view shelf.old).reach q }
+    ensures shelf_later { (S.view shelf.old).faults ≤ (S.view shelf.new).faults }
+    ensures out_later { (K.view out.old).faults ≤ (K.view out.new).faults }
 {
     let Ready {
         mut machine,

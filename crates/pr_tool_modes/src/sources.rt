@@ -17,16 +17,19 @@ use std::alloc::Global;
 /// is compiled for.
 pub fn load<S: Shelf>(alloc: Global, source: &Source<'_>, shelf: &mut S) -> Result<Loadable, Answer>
     ensures gives { IfOk result
-        (λ l. Gives (S.told shelf.old) (source_of source.now) (columns_in l) (registers_in l) (shape_in l)) }
+        (λ l. Gives (S.view shelf.old).told (source_of source.now) (columns_in l) (registers_in l) (shape_in l)) }
     ensures refused { IfErr result
-        (IsSourceRefusal (S.told shelf.old) (source_of source.now) (S.faults shelf.old) (S.faults shelf.new)) }
-    ensures later { S.faults shelf.old ≤ S.faults shelf.new }
-    ensures steady { OnOk result (S.faults shelf.new ≡ S.faults shelf.old) }
-    ensures shown { IfErr result (ShowsFault (S.faults shelf.old) (S.faults shelf.new)) }
-    ensures same { S.told shelf.new ≡ S.told shelf.old }
+        (IsSourceRefusal (S.view shelf.old).told (source_of source.now) (S.view shelf.old).faults
+        (S.view shelf.new).faults) }
+    ensures later { (S.view shelf.old).faults ≤ (S.view shelf.new).faults }
+    ensures steady { OnOk result ((S.view shelf.new).faults ≡ (S.view shelf.old).faults) }
+    ensures shown { IfErr result (ShowsFault (S.view shelf.old).faults (S.view shelf.new).faults) }
+    ensures same { (S.view shelf.new).told ≡ (S.view shelf.old).told }
     ensures once { IsReadOnce (most_bytes (source_of source.now) + 4096)
-        (S.reach shelf.old (name_in (source_of source.now))) (S.reach shelf.new (name_in (source_of source.now))) }
-    ensures others { (q : List ℕ) → q ≢ name_in (source_of source.now) → S.reach shelf.new q ≡ S.reach shelf.old q }
+        ((S.view shelf.old).reach (name_in (source_of source.now)))
+        ((S.view shelf.new).reach (name_in (source_of source.now))) }
+    ensures others { (q : List ℕ) → q ≢ name_in (source_of source.now) → (S.view shelf.new).reach q
+        ≡ (S.view shelf.old).reach q }
 {
     match *source {
         Source::File { name } => read_configuration(alloc, shelf, name),

@@ -17,19 +17,20 @@ use std::alloc::Global;
 
 /// The text of a stall file; without one it is empty.
 fn read_text<S: Shelf>(alloc: Global, shelf: &mut S, name: Option<&str>) -> Result<Vec<u8>, Answer>
-    ensures text { IfOk result (λ v. IsStallText (S.told shelf.old) (option_map (λ s. s.now) name.entry) v.items) }
+    ensures text { IfOk result (λ v. IsStallText (S.view shelf.old).told (option_map (λ s. s.now) name.entry) v.items) }
     ensures short { IfOk result (λ v. length v.items ≤ 1048576) }
     ensures refused { IfErr result
         (λ a. IsSomeAnd (option_map (λ s. s.now) name.entry)
-        (λ n. IsUnread 1048576 Cap.StallBytes (S.told shelf.old) n (S.faults shelf.old) (S.faults shelf.new) a)) }
-    ensures later { S.faults shelf.old ≤ S.faults shelf.new }
-    ensures steady { OnOk result (S.faults shelf.new ≡ S.faults shelf.old) }
-    ensures shown { IfErr result (ShowsFault (S.faults shelf.old) (S.faults shelf.new)) }
-    ensures same { S.told shelf.new ≡ S.told shelf.old }
+        (λ n. IsUnread 1048576 Cap.StallBytes (S.view shelf.old).told n (S.view shelf.old).faults
+        (S.view shelf.new).faults a)) }
+    ensures later { (S.view shelf.old).faults ≤ (S.view shelf.new).faults }
+    ensures steady { OnOk result ((S.view shelf.new).faults ≡ (S.view shelf.old).faults) }
+    ensures shown { IfErr result (ShowsFault (S.view shelf.old).faults (S.view shelf.new).faults) }
+    ensures same { (S.view shelf.new).told ≡ (S.view shelf.old).told }
     ensures once { (q : List ℕ) → option_map (λ s. s.now) name.entry ≡ Some q
-        → IsReadOnce (most_stall_bytes + 4096) (S.reach shelf.old q) (S.reach shelf.new q) }
+        → IsReadOnce (most_stall_bytes + 4096) ((S.view shelf.old).reach q) ((S.view shelf.new).reach q) }
     ensures others { (q : List ℕ) → option_map (λ s. s.now) name.entry ≢ Some q
-        → S.reach shelf.new q ≡ S.reach shelf.old q }
+        → (S.view shelf.new).reach q ≡ (S.view shelf.old).reach q }
 {
     match name {
         None => Ok(Vec::new(alloc)),
@@ -44,19 +45,19 @@ pub fn read_stall<S: Shelf>(
     name: Option<&str>,
 ) -> Result<Stall, Answer>
     ensures stall { IfOk result
-        (λ s. HasStall (S.told shelf.old) (option_map (λ s. s.now) name.entry) (stall_turns s)) }
+        (λ s. HasStall (S.view shelf.old).told (option_map (λ s. s.now) name.entry) (stall_turns s)) }
     ensures few { IfOk result (λ s. length (turns_left s) ≤ 1048576) }
     ensures refused { IfErr result
-        (λ a. IsStallRefusal (S.told shelf.old) (option_map (λ s. s.now) name.entry) (S.faults shelf.old)
-        (S.faults shelf.new) a) }
-    ensures later { S.faults shelf.old ≤ S.faults shelf.new }
-    ensures steady { OnOk result (S.faults shelf.new ≡ S.faults shelf.old) }
-    ensures shown { IfErr result (ShowsFault (S.faults shelf.old) (S.faults shelf.new)) }
-    ensures same { S.told shelf.new ≡ S.told shelf.old }
+        (λ a. IsStallRefusal (S.view shelf.old).told (option_map (λ s. s.now) name.entry) (S.view shelf.old).faults
+        (S.view shelf.new).faults a) }
+    ensures later { (S.view shelf.old).faults ≤ (S.view shelf.new).faults }
+    ensures steady { OnOk result ((S.view shelf.new).faults ≡ (S.view shelf.old).faults) }
+    ensures shown { IfErr result (ShowsFault (S.view shelf.old).faults (S.view shelf.new).faults) }
+    ensures same { (S.view shelf.new).told ≡ (S.view shelf.old).told }
     ensures once { (q : List ℕ) → option_map (λ s. s.now) name.entry ≡ Some q
-        → IsReadOnce (most_stall_bytes + 4096) (S.reach shelf.old q) (S.reach shelf.new q) }
+        → IsReadOnce (most_stall_bytes + 4096) ((S.view shelf.old).reach q) ((S.view shelf.new).reach q) }
     ensures others { (q : List ℕ) → option_map (λ s. s.now) name.entry ≢ Some q
-        → S.reach shelf.new q ≡ S.reach shelf.old q }
+        → (S.view shelf.new).reach q ≡ (S.view shelf.old).reach q }
 {
     let text = read_text(alloc, shelf, name)?;
     match Stall::make(text) {

@@ -2,7 +2,6 @@
 ghost use Rattle.std.specs.Prelude.{◌≡◌, ◌≢◌, ◌≤◌, ◌+◌, ℕ, List, IfOk};
 ghost use Rattle.pr_edge.specs.Files.{IsReadOnce};
 ghost use Rattle.pr_conf.specs.Configuration.{shape_of};
-ghost use Rattle.pr_run.specs.Setting.{view};
 ghost use Rattle.pr_tool_modes.specs.Calls.{call};
 ghost use Rattle.pr_tool_modes.specs.Jobs.{source_of};
 ghost use Rattle.pr_tool_modes.specs.Sources.{name_in, most_bytes, columns_in, registers_in, shape_in};
@@ -55,8 +54,8 @@ fn loaded_text(alloc: Global, loaded: &Loadable, form: Form) -> Result<Vec<u8>, 
 /// Writes a text of a configuration. It is made whole before its first byte is written.
 fn put_text<K: Sink>(alloc: Global, loaded: &Loadable, form: Form, out: &mut K) -> Answer
     ensures put { IsPut (text_in form (columns_in loaded.now) (registers_in loaded.now) (shape_in loaded.now))
-        (K.told out.old) (K.told out.new) (K.faults out.old) (K.faults out.new) result }
-    ensures later { K.faults out.old ≤ K.faults out.new }
+        (K.view out.old).told (K.view out.new).told (K.view out.old).faults (K.view out.new).faults result }
+    ensures later { (K.view out.old).faults ≤ (K.view out.new).faults }
 {
     let text = match loaded_text(alloc, loaded, form) {
         Ok(text) => text,
@@ -77,19 +76,19 @@ pub fn write_text<S: Shelf, K: Sink>(
     out: &mut K,
 ) -> Answer
     // What it came to: there is no configuration and nothing is written, or its text was to be written.
-    ensures ended { IsTexted form (source_of source.now) (call
-        (view (S.told shelf.old) (S.reach shelf.old) (S.faults shelf.old))
-        (view (S.told shelf.new) (S.reach shelf.new) (S.faults shelf.new))
-        (K.told out.old) (K.told out.new) (K.faults out.old) (K.faults out.new)) result }
+    ensures ended { IsTexted form (source_of source.now)
+        (call (S.view shelf.old) (S.view shelf.new) (K.view out.old) (K.view out.new)) result }
 
-    ensures told { S.told shelf.new ≡ S.told shelf.old }
+    ensures told { (S.view shelf.new).told ≡ (S.view shelf.old).told }
 
     // The file of the source is read once.
     ensures once { IsReadOnce (most_bytes (source_of source.now) + 4096)
-        (S.reach shelf.old (name_in (source_of source.now))) (S.reach shelf.new (name_in (source_of source.now))) }
-    ensures others { (q : List ℕ) → q ≢ name_in (source_of source.now) → S.reach shelf.new q ≡ S.reach shelf.old q }
-    ensures shelf_later { S.faults shelf.old ≤ S.faults shelf.new }
-    ensures out_later { K.faults out.old ≤ K.faults out.new }
+        ((S.view shelf.old).reach (name_in (source_of source.now)))
+        ((S.view shelf.new).reach (name_in (source_of source.now))) }
+    ensures others { (q : List ℕ) → q ≢ name_in (source_of source.now) → (S.view shelf.new).reach q
+        ≡ (S.view shelf.old).reach q }
+    ensures shelf_later { (S.view shelf.old).faults ≤ (S.view shelf.new).faults }
+    ensures out_later { (K.view out.old).faults ≤ (K.view out.new).faults }
 {
     match load(alloc, source, shelf) {
         Err(answer) => answer,

@@ -13,7 +13,7 @@ use Rattle.pr_samples.specs.Feed.{name_of, fed, Tells, SameFile}
 use Rattle.pr_run.specs.Turns.{EndsBy}
 use Rattle.pr_share.specs.Fed.{HasFed}
 use Rattle.pr_share.specs.Items.{conf_in, last_of, Given, has_failed, read_faults, IsShared}
-use Rattle.pr_share_list.specs.List.{Entry}
+use Rattle.pr_tool_share.specs.Entries.{Entry}
 use Rattle.pr_tool_answers.specs.declared.answers.Answer.{Answer}
 use Rattle.pr_tool_modes.specs.Evaluations.{answer_by}
 use Rattle.pr_tool_modes.specs.Ready.{IsFeedOf}

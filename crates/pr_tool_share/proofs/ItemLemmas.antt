@@ -10,7 +10,7 @@ use Rattle.pr_conf.specs.Shape.{Shape}
 use Rattle.pr_samples.specs.Feed.{name_of}
 use Rattle.pr_samples.specs.Lines.{words_of, without_return, begins_apart}
 use Rattle.pr_share.specs.Items.{conf_in, IsReady, AreReady, names_of, IsNoneOf}
-use Rattle.pr_share_list.specs.List.{Entry, entry_of, entry_by, counts, list_lines, IsListed}
+use Rattle.pr_tool_share.specs.Entries.{Entry, entry_of, entry_by, counts, list_lines, IsListed}
 use Rattle.pr_tool_words.specs.Lawful.{number_in}
 use Rattle.pr_tool_answers.specs.declared.answers.Answer.{Answer}
 use Rattle.pr_tool_modes.specs.Files.{ShowsFault}

@@ -1,3 +1,7 @@
+pub mod WordFacts
+pub mod ListLaws
+pub mod QuotaFacts
+pub mod ListReading
 pub mod ListVerdicts
 pub mod ItemLemmas
 pub mod OrderedItems

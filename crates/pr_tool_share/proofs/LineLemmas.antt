@@ -22,7 +22,7 @@ use Rattle.pr_run.specs.Turns.{EndsBy, MayFollow}
 use Rattle.pr_share.specs.Fed.{HasFed}
 use Rattle.pr_share.specs.Turns.{pieces}
 use Rattle.pr_share.specs.Items.{conf_in, Given, part_of, parts_of, has_failed, read_faults, MayBecome, MayAllBecome}
-use Rattle.pr_share_list.specs.List.{Entry}
+use Rattle.pr_tool_share.specs.Entries.{Entry}
 use Rattle.pr_share_text.specs.Text.{Part, HaveQuotas, share_text}
 use Rattle.pr_share_text.proofs.RoundLaws.{own_lines}
 use Rattle.pr_tool_modes.specs.Programs.{inputs_of, HasProgram}

@@ -3,8 +3,8 @@ use Rattle.std.proofs.Common.{◌≡◌, ◌+◌, ◌∙◌, ℕ, List, [], ◌�
 use Rattle.pr_base.specs.declared.caps.Cap.{Cap}
 use Rattle.pr_edge.specs.Files.{Told, HasReadCause}
 use Rattle.pr_conf.specs.Shape.{Shape}
-use Rattle.pr_share_list.specs.List.{Entry, IsListed}
-use Rattle.pr_share_list.proofs.ListLaws.{one_list, one_line, not_both}
+use Rattle.pr_tool_share.specs.Entries.{Entry, IsListed}
+use Rattle.pr_tool_share.proofs.ListLaws.{one_list, one_line, not_both}
 use Rattle.pr_tool_answers.specs.declared.answers.Answer.{Answer}
 use Rattle.pr_tool_answers.specs.Owed.{IsOwed}
 use Rattle.pr_tool_answers.proofs.OwedLemmas.{owed_by}

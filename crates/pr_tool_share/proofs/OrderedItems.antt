@@ -2,7 +2,7 @@
 use Rattle.std.proofs.Common.{◌≡◌, ◌≢◌, ◌<◌, ◌∙◌, ℕ, List, Option, Some, slice_get, sym, subst, inl, inr, arith}
 use Rattle.std.specs.Prelude.{IsSome}
 use Rattle.pr_edge.specs.Files.{IsReadOnce}
-use Rattle.pr_share_list.specs.List.{Entry}
+use Rattle.pr_tool_share.specs.Entries.{Entry}
 use Rattle.pr_tool_modes.specs.Files.{IsInOrder}
 use Rattle.pr_tool_modes.proofs.OrderLemmas.{same_name, order_once}
 use Rattle.pr_tool_share.specs.Lists.{IsOneProgram}

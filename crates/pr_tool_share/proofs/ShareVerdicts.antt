@@ -3,7 +3,7 @@ use Rattle.std.proofs.Common.{◌≡◌, ◌⊎◌, ◌≤◌, ◌∙◌, ℕ, B
 use Rattle.pr_edge.specs.Files.{Told}
 use Rattle.pr_conf.specs.Shape.{Shape}
 use Rattle.pr_share.specs.Items.{World, world, AreShared, read_faults}
-use Rattle.pr_share_list.specs.List.{Entry}
+use Rattle.pr_tool_share.specs.Entries.{Entry}
 use Rattle.pr_tool_answers.specs.declared.answers.Answer.{Answer}
 use Rattle.pr_tool_answers.specs.Owed.{IsOwed}
 use Rattle.pr_tool_answers.proofs.OwedLemmas.{owed_by}

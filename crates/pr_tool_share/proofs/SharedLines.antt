@@ -13,7 +13,7 @@ use Rattle.pr_samples.specs.declared.feed.Got.{Got}
 use Rattle.pr_share.specs.Fed.{HasFed}
 use Rattle.pr_share.specs.Items.{conf_in, Given, World, world, parts_of, read_faults, AreShared, AreStopped}
 use Rattle.pr_share.proofs.ListFacts.{got_at, got_within}
-use Rattle.pr_share_list.specs.List.{Entry}
+use Rattle.pr_tool_share.specs.Entries.{Entry}
 use Rattle.pr_share_text.specs.Text.{share_text}
 use Rattle.pr_tool_answers.specs.declared.answers.Answer.{Answer}
 use Rattle.pr_tool_modes.specs.Calls.{Call}

@@ -4,7 +4,7 @@ use Rattle.pr_edge.specs.Files.{Told}
 use Rattle.pr_conf.specs.Shape.{Shape}
 use Rattle.pr_share.specs.declared.items.ShareItem.{ShareItem}
 use Rattle.pr_share.specs.Items.{conf_in, last_of}
-use Rattle.pr_share_list.specs.List.{Entry}
+use Rattle.pr_tool_share.specs.Entries.{Entry}
 use Rattle.pr_tool_answers.specs.declared.answers.Answer.{Answer}
 use Rattle.pr_tool_modes.specs.Evaluations.{answer_by}
 use Rattle.pr_tool_modes.specs.Ready.{IsFeedOf}

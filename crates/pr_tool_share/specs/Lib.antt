@@ -1,3 +1,5 @@
+pub mod Entries
+pub mod EntryLines
 pub mod Lists
 pub mod Ends
 pub mod Items

@@ -7,7 +7,7 @@ use Rattle.pr_edge.specs.Count.{RoseBy, IsSteady}
 use Rattle.pr_edge.specs.Tape.{Appends, AppendsFront}
 use Rattle.pr_lang.specs.declared.trees.Program.{Program}
 use Rattle.pr_lang_meaning.specs.Programs.{out}
-use Rattle.pr_share_list.specs.List.{Entry}
+use Rattle.pr_tool_share.specs.Entries.{Entry}
 use Rattle.pr_share_text.specs.Text.{Part, share_text, lines_of_program}
 use Rattle.pr_tool_answers.specs.declared.answers.Answer.{Answer}
 use Rattle.pr_tool_answers.specs.declared.answers.Cause.{Cause}

@@ -5,7 +5,7 @@ use Rattle.pr_edge.specs.Files.{Told}
 use Rattle.pr_base.specs.declared.fabrics.Fabric.{Fabric}
 use Rattle.pr_base.specs.Limits.{most_list_bytes}
 use Rattle.pr_conf.specs.Shape.{Shape}
-use Rattle.pr_share_list.specs.List.{Entry, IsListed, IsBadAt}
+use Rattle.pr_tool_share.specs.Entries.{Entry, IsListed, IsBadAt}
 use Rattle.pr_tool_answers.specs.declared.answers.Answer.{Answer}
 use Rattle.pr_tool_answers.specs.declared.answers.Cause.{Cause}
 use Rattle.pr_tool_modes.specs.declared.targets.Target.{Target}

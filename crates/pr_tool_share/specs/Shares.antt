@@ -6,7 +6,7 @@ use Rattle.pr_machine.specs.declared.machine.Bare.{Bare}
 use Rattle.pr_machine.specs.declared.machine.Idle.{Idle}
 use Rattle.pr_machine.specs.Stands.{bare_stripes}
 use Rattle.pr_share.specs.Items.{World, world, AreShared, AreStopped}
-use Rattle.pr_share_list.specs.List.{Entry}
+use Rattle.pr_tool_share.specs.Entries.{Entry}
 use Rattle.pr_tool_answers.specs.declared.answers.Answer.{Answer}
 use Rattle.pr_tool_modes.specs.Calls.{Call}
 use Rattle.pr_tool_modes.specs.Files.{ShowsFault}

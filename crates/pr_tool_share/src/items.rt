@@ -3,19 +3,19 @@ ghost use Rattle.std.specs.Prelude.{◌≡◌, ◌≢◌, ◌≤◌, ◌+◌, �
 ghost use Rattle.pr_base.specs.Limits.{most_program_bytes};
 ghost use Rattle.pr_edge.specs.Files.{IsReadOnce};
 ghost use Rattle.pr_conf.specs.Configuration.{shape_of};
-ghost use Rattle.pr_share_list.specs.List.{entry_in};
 ghost use Rattle.pr_tool_modes.specs.Files.{IsInOrder, ShowsFault};
 ghost use Rattle.pr_tool_modes.specs.Sources.{Gives, IsSourceRefusal};
+ghost use Rattle.pr_tool_share.specs.Entries.{entry_in};
 ghost use Rattle.pr_tool_share.specs.Lists.{source_in, IsProgramRefusal, IsNoProgram, IsOneProgram};
 ghost use Rattle.pr_tool_share.specs.Items.{IsParkedFor, IsItemOf, AreItemsOf};
 
+use crate::entries::Entry;
 use crate::parts::part_answer;
 use pr_conf::Configuration;
 use pr_edge::Shelf;
 use pr_machine::{ParkRefused, Parked};
 use pr_samples::Feed;
 use pr_share::ShareItem;
-use pr_share_list::Entry;
 use pr_tool_answers::Answer;
 use pr_tool_modes::compile_on;
 use std::alloc::Global;
@@ -26,17 +26,19 @@ fn compile<S: Shelf>(
     shelf: &mut S,
     entry: &Entry,
 ) -> Result<Configuration<16, 8>, Answer>
-    ensures compiled { IfOk result (λ c. Gives (S.told shelf.old) (source_in (entry_in entry.now)) 16 8 (shape_of c)) }
+    ensures compiled { IfOk result
+        (λ c. Gives (S.view shelf.old).told (source_in (entry_in entry.now)) 16 8 (shape_of c)) }
     ensures refused { IfErr result
-        (IsSourceRefusal (S.told shelf.old) (source_in (entry_in entry.now)) (S.faults shelf.old)
-        (S.faults shelf.new)) }
-    ensures later { S.faults shelf.old ≤ S.faults shelf.new }
-    ensures steady { OnOk result (S.faults shelf.new ≡ S.faults shelf.old) }
-    ensures shown { IfErr result (ShowsFault (S.faults shelf.old) (S.faults shelf.new)) }
-    ensures same { S.told shelf.new ≡ S.told shelf.old }
-    ensures once { IsReadOnce (most_program_bytes + 4096)
-        (S.reach shelf.old (entry_in entry.now).program) (S.reach shelf.new (entry_in entry.now).program) }
-    ensures others { (q : List ℕ) → q ≢ (entry_in entry.now).program → S.reach shelf.new q ≡ S.reach shelf.old q }
+        (IsSourceRefusal (S.view shelf.old).told (source_in (entry_in entry.now)) (S.view shelf.old).faults
+        (S.view shelf.new).faults) }
+    ensures later { (S.view shelf.old).faults ≤ (S.view shelf.new).faults }
+    ensures steady { OnOk result ((S.view shelf.new).faults ≡ (S.view shelf.old).faults) }
+    ensures shown { IfErr result (ShowsFault (S.view shelf.old).faults (S.view shelf.new).faults) }
+    ensures same { (S.view shelf.new).told ≡ (S.view shelf.old).told }
+    ensures once { IsReadOnce (most_program_bytes + 4096) ((S.view shelf.old).reach (entry_in entry.now).program)
+        ((S.view shelf.new).reach (entry_in entry.now).program) }
+    ensures others { (q : List ℕ) → q ≢ (entry_in entry.now).program → (S.view shelf.new).reach q
+        ≡ (S.view shelf.old).reach q }
 {
     let compiled = compile_on::<16, 8, S>(alloc, shelf, &entry.program, false)?;
     Ok(compiled.conf)
@@ -65,17 +67,18 @@ fn make_item<S: Shelf>(
     shelf: &mut S,
     entry: &Entry,
 ) -> Result<ShareItem<16, 8>, Answer>
-    ensures ready { IfOk result (λ i. IsItemOf (S.told shelf.old) (entry_in entry.now) i) }
+    ensures ready { IfOk result (λ i. IsItemOf (S.view shelf.old).told (entry_in entry.now) i) }
     ensures refused { IfErr result
-        (IsSourceRefusal (S.told shelf.old) (source_in (entry_in entry.now)) (S.faults shelf.old)
-        (S.faults shelf.new)) }
-    ensures later { S.faults shelf.old ≤ S.faults shelf.new }
-    ensures steady { OnOk result (S.faults shelf.new ≡ S.faults shelf.old) }
-    ensures shown { IfErr result (ShowsFault (S.faults shelf.old) (S.faults shelf.new)) }
-    ensures same { S.told shelf.new ≡ S.told shelf.old }
-    ensures once { IsReadOnce (most_program_bytes + 4096)
-        (S.reach shelf.old (entry_in entry.now).program) (S.reach shelf.new (entry_in entry.now).program) }
-    ensures others { (q : List ℕ) → q ≢ (entry_in entry.now).program → S.reach shelf.new q ≡ S.reach shelf.old q }
+        (IsSourceRefusal (S.view shelf.old).told (source_in (entry_in entry.now)) (S.view shelf.old).faults
+        (S.view shelf.new).faults) }
+    ensures later { (S.view shelf.old).faults ≤ (S.view shelf.new).faults }
+    ensures steady { OnOk result ((S.view shelf.new).faults ≡ (S.view shelf.old).faults) }
+    ensures shown { IfErr result (ShowsFault (S.view shelf.old).faults (S.view shelf.new).faults) }
+    ensures same { (S.view shelf.new).told ≡ (S.view shelf.old).told }
+    ensures once { IsReadOnce (most_program_bytes + 4096) ((S.view shelf.old).reach (entry_in entry.now).program)
+        ((S.view shelf.new).reach (entry_in entry.now).program) }
+    ensures others { (q : List ℕ) → q ≢ (entry_in entry.now).program → (S.view shelf.new).reach q
+        ≡ (S.view shelf.old).reach q }
 {
     let conf = compile(alloc, shelf, entry)?;
     let item = park(alloc, entry, conf)?;
@@ -89,18 +92,18 @@ pub(crate) fn make_items<S: Shelf>(
     entries: &[Entry],
 ) -> Result<Vec<ShareItem<16, 8>>, Answer>
     requires { length entries.now ≤ 8 }
-    ensures ready { IfOk result (λ items. AreItemsOf (S.told shelf.old) (map entry_in entries.now) items.items) }
+    ensures ready { IfOk result (λ items. AreItemsOf (S.view shelf.old).told (map entry_in entries.now) items.items) }
     ensures refused { IfErr result
-        (λ a. IsProgramRefusal (S.told shelf.old) (S.faults shelf.old) (S.faults shelf.new) 0
+        (λ a. IsProgramRefusal (S.view shelf.old).told (S.view shelf.old).faults (S.view shelf.new).faults 0
         (map entry_in entries.now) a ⊎ (a ≡ Answer.Memory)) }
-    ensures later { S.faults shelf.old ≤ S.faults shelf.new }
-    ensures steady { OnOk result (S.faults shelf.new ≡ S.faults shelf.old) }
-    ensures shown { IfErr result (ShowsFault (S.faults shelf.old) (S.faults shelf.new)) }
-    ensures same { S.told shelf.new ≡ S.told shelf.old }
+    ensures later { (S.view shelf.old).faults ≤ (S.view shelf.new).faults }
+    ensures steady { OnOk result ((S.view shelf.new).faults ≡ (S.view shelf.old).faults) }
+    ensures shown { IfErr result (ShowsFault (S.view shelf.old).faults (S.view shelf.new).faults) }
+    ensures same { (S.view shelf.new).told ≡ (S.view shelf.old).told }
     ensures once { (q : List ℕ) → IsOneProgram (map entry_in entries.now) q
-        → IsInOrder (S.reach shelf.old q) (S.reach shelf.new q) }
+        → IsInOrder ((S.view shelf.old).reach q) ((S.view shelf.new).reach q) }
     ensures others { (q : List ℕ) → IsNoProgram (map entry_in entries.now) q
-        → S.reach shelf.new q ≡ S.reach shelf.old q }
+        → (S.view shelf.new).reach q ≡ (S.view shelf.old).reach q }
 {
     let mut items = Vec::new(alloc);
     for number in 0..entries.len() {

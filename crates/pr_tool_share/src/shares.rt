@@ -1,7 +1,6 @@
 //! A list of programs that take turns.
 ghost use Rattle.std.specs.Prelude.{◌≡◌, ◌≤◌, ◌^◌, ◌⊎◌, ℕ, List, IfOk, IfErr, OnErr, length};
 ghost use Rattle.pr_edge.specs.Files.{Told};
-ghost use Rattle.pr_run.specs.Setting.{view};
 ghost use Rattle.pr_machine.specs.Stands.{bare_stripes};
 ghost use Rattle.pr_share.specs.Items.{World, world, AreReady, names_of, IsNoneOf};
 ghost use Rattle.pr_tool_modes.specs.Calls.{call};
@@ -62,13 +61,14 @@ fn take_turns<S: Shelf, K: Sink>(
     requires few { length items.old ≤ 8 }
     requires ready { AreReady items.old }
     ensures turned { HaveTurned (bare_stripes machine) items.old items.new
-        (world (S.told shelf.old) (S.faults shelf.old) (K.told out.old))
-        (world (S.told shelf.new) (S.faults shelf.new) (K.told out.new))
-        (K.faults out.old) (K.faults out.new) result }
-    ensures told { S.told shelf.new ≡ S.told shelf.old }
-    ensures others { (q : List ℕ) → IsNoneOf (names_of items.old) q → S.reach shelf.new q ≡ S.reach shelf.old q }
-    ensures shelf_later { S.faults shelf.old ≤ S.faults shelf.new }
-    ensures out_later { K.faults out.old ≤ K.faults out.new }
+        (world (S.view shelf.old).told (S.view shelf.old).faults (K.view out.old).told)
+        (world (S.view shelf.new).told (S.view shelf.new).faults (K.view out.new).told)
+        (K.view out.old).faults (K.view out.new).faults result }
+    ensures told { (S.view shelf.new).told ≡ (S.view shelf.old).told }
+    ensures others { (q : List ℕ) → IsNoneOf (names_of items.old) q → (S.view shelf.new).reach q
+        ≡ (S.view shelf.old).reach q }
+    ensures shelf_later { (S.view shelf.old).faults ≤ (S.view shelf.new).faults }
+    ensures out_later { (K.view out.old).faults ≤ (K.view out.new).faults }
 {
     match share(machine, items, shelf, out, room) {
         ShareEnd::WriteFault => Answer::WriteFault,
@@ -88,23 +88,21 @@ pub fn share_list<S: Shelf, K: Sink>(
     out: &mut K,
 ) -> Answer
     // What it came to: a refusal before the turns, or the turns.
-    ensures shared { IsSharedBy sharing.now.list.now sharing.now.stripes (call
-        (view (S.told shelf.old) (S.reach shelf.old) (S.faults shelf.old))
-        (view (S.told shelf.new) (S.reach shelf.new) (S.faults shelf.new))
-        (K.told out.old) (K.told out.new) (K.faults out.old) (K.faults out.new)) result }
+    ensures shared { IsSharedBy sharing.now.list.now sharing.now.stripes
+        (call (S.view shelf.old) (S.view shelf.new) (K.view out.old) (K.view out.new)) result }
 
-    ensures told { S.told shelf.new ≡ S.told shelf.old }
+    ensures told { (S.view shelf.new).told ≡ (S.view shelf.old).told }
 
     // The list, and each program of it, is read in order, and no byte of it twice. Its name is named once, and no samples
     // have it.
-    ensures once { (q : List ℕ) → IsListedOnce (S.told shelf.old) sharing.now.list.now q
-        → IsInOrder (S.reach shelf.old q) (S.reach shelf.new q) }
+    ensures once { (q : List ℕ) → IsListedOnce (S.view shelf.old).told sharing.now.list.now q
+        → IsInOrder ((S.view shelf.old).reach q) ((S.view shelf.new).reach q) }
 
     // Only the list is read, and the files that it names.
-    ensures others { (q : List ℕ) → IsUnlisted (S.told shelf.old) sharing.now.list.now q
-        → S.reach shelf.new q ≡ S.reach shelf.old q }
-    ensures shelf_later { S.faults shelf.old ≤ S.faults shelf.new }
-    ensures out_later { K.faults out.old ≤ K.faults out.new }
+    ensures others { (q : List ℕ) → IsUnlisted (S.view shelf.old).told sharing.now.list.now q
+        → (S.view shelf.new).reach q ≡ (S.view shelf.old).reach q }
+    ensures shelf_later { (S.view shelf.old).faults ≤ (S.view shelf.new).faults }
+    ensures out_later { (K.view out.old).faults ≤ (K.view out.new).faults }
 {
     let entries = match load_list(alloc, shelf, sharing.list) {
         Ok(entries) => entries,

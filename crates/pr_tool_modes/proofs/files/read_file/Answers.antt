@@ -6,4 +6,4 @@ pub returns-in-Err-TooLong-clause-refused : goal.returns-in-Err-TooLong-clause-r
 returns-in-Err-TooLong-clause-refused g c =
     let read = c.in-Err-TooLong.ensures in
     let long = c.in-Err-TooLong.field-0-is in
-    inl (refl, long_file (g.S.Shelf.told c.args.shelf.now) c.args.name.now c.args.limit (read.long (rw long refl)) (λ missing. let fault = (read.missing missing).0 in cc))
+    inl (refl, long_file (g.S.Shelf.view c.args.shelf.now).told c.args.name.now c.args.limit (read.long (rw long refl)) (λ missing. let fault = (read.missing missing).0 in cc))

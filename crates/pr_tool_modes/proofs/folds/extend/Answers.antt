@@ -1,25 +1,28 @@
 use Rattle.std.proofs.Common.{refl}
-use Rattle.pr_run.specs.Setting.{view}
 use Rattle.pr_tool_modes.specs.Calls.{call}
-use Rattle.pr_tool_modes.specs.Jobs.{resumption_of, resumed}
+use Rattle.pr_tool_modes.specs.Jobs.{IsNotBoth, IsApart, IsResumedOnce, resumption_of, resumed}
+use Rattle.pr_tool_modes.specs.Resumptions.{IsNoFile}
 use Rattle.pr_tool_modes.specs.Sources.{Mark}
 use Rattle.pr_tool_modes.proofs.FoldVerdicts.{folded_of}
-use Rattle.pr_tool_modes.proofs.OrderLemmas.{order_once, order_one, order_after}
+use Rattle.pr_tool_modes.proofs.OrderLemmas.{order_once, orderly_one, orderly_after}
 use Rattle.pr_tool_modes.proofs.folds.extend.Goals as goal
 
 pub returns-in-Ok-clause-ended : goal.returns-in-Ok-clause-ended
 returns-in-Ok-clause-ended g c =
     let origin = c.in-Ok.origin in
-    let before = view (g.S.Shelf.told c.args.shelf.now) (g.S.Shelf.reach c.args.shelf.now) (g.S.Shelf.faults c.args.shelf.now) in
-    let mid = view (g.S.Shelf.told c.read_checkpoint.new.shelf) (g.S.Shelf.reach c.read_checkpoint.new.shelf) (g.S.Shelf.faults c.read_checkpoint.new.shelf) in
-    let now = view (g.S.Shelf.told c.fold_from.new.shelf) (g.S.Shelf.reach c.fold_from.new.shelf) (g.S.Shelf.faults c.fold_from.new.shelf) in
-    let k = call before now (g.K.Sink.told c.args.out.now) (g.K.Sink.told c.fold_from.new.out) (g.K.Sink.faults c.args.out.now) (g.K.Sink.faults c.fold_from.new.out) in
+    let mid = g.S.Shelf.view c.read_checkpoint.new.shelf in
+    let k = call (g.S.Shelf.view c.args.shelf.now) (g.S.Shelf.view c.fold_from.new.shelf) (g.K.Sink.view c.args.out.now) (g.K.Sink.view c.fold_from.new.out) in
     let ended = c.fold_from.ensures.ended (Mark c.args.resumption.now.checkpoint.now origin.before) refl in
     (origin.before, folded_of (resumed (resumption_of c.args.resumption.now) origin.before) k mid origin.conf origin.before c.fold_from.result c.in-Ok.ensures.read refl c.read_checkpoint.ensures.same c.in-Ok.ensures.steady c.read_checkpoint.ensures.others ended)
 
-pub returns-in-Err-clause-once : goal.returns-in-Err-clause-once
-returns-in-Err-clause-once g c = λ q once. order_one (g.S.Shelf.reach c.args.shelf.now) (g.S.Shelf.reach c.read_checkpoint.new.shelf) c.args.resumption.now.checkpoint.now q (order_once _ _ _ c.read_checkpoint.ensures.once) c.read_checkpoint.ensures.others
+pub returns-in-Err-clause-orderly : goal.returns-in-Err-clause-orderly
+returns-in-Err-clause-orderly g c =
+    let r = resumption_of c.args.resumption.now in
+    orderly_one (IsResumedOnce r) (IsNoFile r) (g.S.Shelf.view c.args.shelf.now) (g.S.Shelf.view c.read_checkpoint.new.shelf) r.name
+    c.read_checkpoint.ensures.same (order_once _ _ _ c.read_checkpoint.ensures.once) c.read_checkpoint.ensures.others c.read_checkpoint.ensures.later (λ q other. other.0)
 
-pub returns-in-Ok-clause-once : goal.returns-in-Ok-clause-once
-returns-in-Ok-clause-once g c = λ q once. order_after (g.S.Shelf.reach c.args.shelf.now) (g.S.Shelf.reach c.read_checkpoint.new.shelf) (g.S.Shelf.reach c.fold_from.new.shelf) _ c.args.resumption.now.checkpoint.now q c.read_checkpoint.ensures.once c.read_checkpoint.ensures.others
-    (λ e. c.fold_from.ensures.others q (once.0 e).0 (once.0 e).1) (c.fold_from.ensures.once q once.1)
+pub returns-in-Ok-clause-orderly : goal.returns-in-Ok-clause-orderly
+returns-in-Ok-clause-orderly g c =
+    let r = resumption_of c.args.resumption.now in
+    orderly_after (IsResumedOnce r) (IsNoFile r) (IsNotBoth r.second r.stall) (IsApart r.second r.stall) (g.S.Shelf.view c.args.shelf.now) (g.S.Shelf.view c.read_checkpoint.new.shelf) (g.S.Shelf.view c.fold_from.new.shelf) _ r.name
+    c.read_checkpoint.ensures.same c.read_checkpoint.ensures.once c.read_checkpoint.ensures.others c.read_checkpoint.ensures.later c.fold_from.ensures.orderly (λ q once. once) (λ q other. (other.0, (other.1, other.2)))

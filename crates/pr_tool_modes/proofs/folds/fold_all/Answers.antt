@@ -1,7 +1,6 @@
 use Rattle.std.proofs.Common.{false}
-use Rattle.pr_move.specs.Untold.{untold}
+use Rattle.pr_edge.specs.Tape.{untold}
 use Rattle.pr_run.specs.declared.ending.RunEnd.{RunEnd}
-use Rattle.pr_run.specs.Setting.{view}
 use Rattle.pr_run.proofs.WholeRuns.{set_of}
 use Rattle.pr_tool_modes.proofs.FoldLemmas.{marked}
 use Rattle.pr_tool_modes.proofs.RunLemmas.{Begun, course_of, run_of}
@@ -10,8 +9,8 @@ use Rattle.pr_tool_modes.proofs.folds.fold_all.Goals as goal
 pub returns-in-Ok-clause-marked : goal.returns-in-Ok-clause-marked
 returns-in-Ok-clause-marked g c =
     let ready = c.args.ready in
-    let start = view (g.S.Shelf.told c.args.shelf.now) (g.S.Shelf.reach c.args.shelf.now) (g.S.Shelf.faults c.args.shelf.now) in
-    let now = view (g.S.Shelf.told c.finish.new.shelf) (g.S.Shelf.reach c.finish.new.shelf) (g.S.Shelf.faults c.finish.new.shelf) in
+    let start = g.S.Shelf.view c.args.shelf.now in
+    let now = g.S.Shelf.view c.finish.new.shelf in
     let b : Begun g.row.N g.row.P = record { machine = ready.machine; stall = ready.stall; log = false; feed = ready.feed; start = start; now = now; old = untold; new = untold; ready = c.requires.ready } in
     let set = set_of ready.machine ready.stall ready.feed start untold false c.requires.ready.opened.inputs c.requires.ready.few c.requires.ready.opened.fresh.few in
     let run = run_of b c.finish.new.machine c.finish.new.feed (RunEnd.Done c.in-Done.cycles c.in-Done.stalls c.in-Done.results) c.in-Done.ensures.ran in
@@ -20,8 +19,8 @@ returns-in-Ok-clause-marked g c =
 pub returns-in-Done-clause-unmarked : goal.returns-in-Done-clause-unmarked
 returns-in-Done-clause-unmarked g c =
     let ready = c.args.ready in
-    let start = view (g.S.Shelf.told c.args.shelf.now) (g.S.Shelf.reach c.args.shelf.now) (g.S.Shelf.faults c.args.shelf.now) in
-    let now = view (g.S.Shelf.told c.finish.new.shelf) (g.S.Shelf.reach c.finish.new.shelf) (g.S.Shelf.faults c.finish.new.shelf) in
+    let start = g.S.Shelf.view c.args.shelf.now in
+    let now = g.S.Shelf.view c.finish.new.shelf in
     let b : Begun g.row.N g.row.P = record { machine = ready.machine; stall = ready.stall; log = false; feed = ready.feed; start = start; now = now; old = untold; new = untold; ready = c.requires.ready } in
     let run = run_of b c.finish.new.machine c.finish.new.feed (RunEnd.Done c.in-Done.cycles c.in-Done.stalls c.in-Done.results) c.in-Done.ensures.ran in
     record { rows = run.rows; all = run.end.0 }
@@ -29,8 +28,8 @@ returns-in-Done-clause-unmarked g c =
 pub returns-in-BadSample-clause-unmarked : goal.returns-in-BadSample-clause-unmarked
 returns-in-BadSample-clause-unmarked g c =
     let ready = c.args.ready in
-    let start = view (g.S.Shelf.told c.args.shelf.now) (g.S.Shelf.reach c.args.shelf.now) (g.S.Shelf.faults c.args.shelf.now) in
-    let now = view (g.S.Shelf.told c.finish.new.shelf) (g.S.Shelf.reach c.finish.new.shelf) (g.S.Shelf.faults c.finish.new.shelf) in
+    let start = g.S.Shelf.view c.args.shelf.now in
+    let now = g.S.Shelf.view c.finish.new.shelf in
     let b : Begun g.row.N g.row.P = record { machine = ready.machine; stall = ready.stall; log = false; feed = ready.feed; start = start; now = now; old = untold; new = untold; ready = c.requires.ready } in
     let run = run_of b c.finish.new.machine c.finish.new.feed (RunEnd.BadSample c.in-BadSample.line) c.in-BadSample.ensures.ran in
     record { rows = run.rows; all = run.end.0 }
@@ -38,8 +37,8 @@ returns-in-BadSample-clause-unmarked g c =
 pub returns-clause-unmarked : goal.returns-clause-unmarked
 returns-clause-unmarked g c =
     let ready = c.args.ready in
-    let start = view (g.S.Shelf.told c.args.shelf.now) (g.S.Shelf.reach c.args.shelf.now) (g.S.Shelf.faults c.args.shelf.now) in
-    let now = view (g.S.Shelf.told c.finish.new.shelf) (g.S.Shelf.reach c.finish.new.shelf) (g.S.Shelf.faults c.finish.new.shelf) in
+    let start = g.S.Shelf.view c.args.shelf.now in
+    let now = g.S.Shelf.view c.finish.new.shelf in
     let b : Begun g.row.N g.row.P = record { machine = ready.machine; stall = ready.stall; log = false; feed = ready.feed; start = start; now = now; old = untold; new = untold; ready = c.requires.ready } in
     let run = run_of b c.finish.new.machine c.finish.new.feed (RunEnd.Limit c.in-Limit.which) c.in-Limit.ensures.ran in
     record { rows = run.rows; all = run.end.0 }

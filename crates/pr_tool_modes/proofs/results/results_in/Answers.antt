@@ -17,8 +17,8 @@ use Rattle.pr_tool_modes.proofs.results.results_in.Goals as goal
 
 pub samples-init : goal.samples-init
 samples-init g c = record {
-  done = subst (HasDone (g.S.Shelf.told c.args.shelf.now) (shapes_of c.args.front.now.flat.equations.items) c.args.front.now.flat.outputs.items c.args.front.now.widths c.args.feed.now c.args.feed.now c.in_ok-evaluator.evaluator) (sym c.new-text.ensures.items)
-      (done_nothing (g.S.Shelf.told c.args.shelf.now) (shapes_of c.args.front.now.flat.equations.items) c.args.front.now.flat.outputs.items c.args.front.now.widths (inputs_of c.args.front.now.scoped.program) c.args.feed.now c.in_ok-evaluator.evaluator c.requires.feed (c.in_ok-evaluator.ensures c.args.front.now.widths));
+  done = subst (HasDone (g.S.Shelf.view c.args.shelf.now).told (shapes_of c.args.front.now.flat.equations.items) c.args.front.now.flat.outputs.items c.args.front.now.widths c.args.feed.now c.args.feed.now c.in_ok-evaluator.evaluator) (sym c.new-text.ensures.items)
+      (done_nothing (g.S.Shelf.view c.args.shelf.now).told (shapes_of c.args.front.now.flat.equations.items) c.args.front.now.flat.outputs.items c.args.front.now.widths (inputs_of c.args.front.now.scoped.program) c.args.feed.now c.in_ok-evaluator.evaluator c.requires.feed (c.in_ok-evaluator.ensures c.args.front.now.widths));
   there = λ missing. c.requires.feed.fresh.bytes;
   sample = c.requires.sample;
   row = c.requires.row;
@@ -47,7 +47,7 @@ next-requires-in-Sample-clause-sample g c =
     let inputs : widths_of f' ≡ input_widths equations =
     c.next.ensures.file.widths ∙ (c.samples.invariant.file.widths ∙ (c.requires.feed.inputs
     ∙ (sym c.args.front.now.scoped.declared ∙ (inputs-scoped c.args.front.now.scoped ∙ (sym (inputs-of-equations program c.args.front.now.scoped.lawful) ∙ sym (ap input_widths c.requires.flat.equations)))))) in
-    lawful_next (g.S.Shelf.told c.args.shelf.now) (input_widths equations) c.args.feed.now f f' c.samples.invariant.done.rows c.next.new.into c.samples.invariant.done.reads seen inputs
+    lawful_next (g.S.Shelf.view c.args.shelf.now).told (input_widths equations) c.args.feed.now f f' c.samples.invariant.done.rows c.next.new.into c.samples.invariant.done.reads seen inputs
 
 pub next-requires-in-Sample-clause-stands : goal.next-requires-in-Sample-clause-stands
 next-requires-in-Sample-clause-stands g c = record { samples = c.samples.invariant.done.rows; stands = c.samples.invariant.done.stands }
@@ -56,7 +56,7 @@ pub samples-preserved : goal.samples-preserved
 samples-preserved g c =
     let f = c.samples.feed in
     let f' = c.next.new.self in
-    let told = g.S.Shelf.told c.args.shelf.now in
+    let told = (g.S.Shelf.view c.args.shelf.now).told in
     let done = c.samples.invariant.done in
     let flat = c.args.front.now.flat in
     let same = same_later c.args.feed.now f f' c.samples.invariant.file c.next.ensures.file in
@@ -94,7 +94,7 @@ returns-in_default-clause-results g c = λ no_fault.
     }) in
     record {
       rows = done.rows;
-      reads = done_all (g.S.Shelf.told c.args.shelf.now) c.args.feed.now f f' done.rows c.next.new.into c.next.result done.reads same c.next.ensures.given seen c.in_default.not-Sample no_fault;
+      reads = done_all (g.S.Shelf.view c.args.shelf.now).told c.args.feed.now f f' done.rows c.next.new.into c.next.result done.reads same c.next.ensures.given seen c.in_default.not-Sample no_fault;
       lines = done.lines ∙ ap written means;
     }
 
@@ -103,7 +103,7 @@ returns-in_default-clause-there g c = λ no_fault missing. no_fault (c.next.ensu
 
 pub returns-in_default-clause-cause : goal.returns-in_default-clause-cause
 returns-in_default-clause-cause g c = λ fault.
-    cause_earlier (g.S.Shelf.told c.args.shelf.now) (name_of c.args.feed.now) _ _ _ c.samples.invariant.later (rw (c.samples.invariant.file.name, c.samples.invariant.same) at (c.next.ensures.cause fault))
+    cause_earlier (g.S.Shelf.view c.args.shelf.now).told (name_of c.args.feed.now) _ _ _ c.samples.invariant.later (rw (c.samples.invariant.file.name, c.samples.invariant.same) at (c.next.ensures.cause fault))
 
 pub returns-in_default-clause-steady : goal.returns-in_default-clause-steady
 returns-in_default-clause-steady g c = λ no_fault. c.next.ensures.steady no_fault ∙ c.samples.invariant.steady

@@ -8,16 +8,16 @@ use Rattle.pr_tool_modes.proofs.results.results_in.Given as goal
 
 abbrev pub invariant-samples : goal.invariant-samples
 invariant-samples g l = record {
-  done : HasDone (g.S.Shelf.told l.initial.shelf) (shapes_of l.front.flat.equations.items) l.front.flat.outputs.items l.front.widths l.initial.feed l.feed l.evaluator l.text.items;
-  there : IsMissing (g.S.Shelf.told l.initial.shelf) (name_of l.initial.feed) → reads_nothing l.feed;
+  done : HasDone (g.S.Shelf.view l.initial.shelf).told (shapes_of l.front.flat.equations.items) l.front.flat.outputs.items l.front.widths l.initial.feed l.feed l.evaluator l.text.items;
+  there : IsMissing (g.S.Shelf.view l.initial.shelf).told (name_of l.initial.feed) → reads_nothing l.feed;
   sample : length l.sample ≡ vec_len l.front.scoped.inputs;
   row : length l.row ≡ vec_len l.front.flat.outputs;
   file : SameFile l.initial.feed l.feed;
-  steady : g.S.Shelf.faults l.shelf ≡ g.S.Shelf.faults l.initial.shelf;
-  later : g.S.Shelf.faults l.initial.shelf ≤ g.S.Shelf.faults l.shelf;
-  same : g.S.Shelf.told l.shelf ≡ g.S.Shelf.told l.initial.shelf;
-  reached : g.S.Shelf.reach l.initial.shelf (name_of l.initial.feed) ≡ Some (place_of l.initial.feed) → g.S.Shelf.reach l.shelf (name_of l.initial.feed) ≡ Some (place_of l.feed);
-  others : (q : List ℕ) → q ≢ name_of l.initial.feed → g.S.Shelf.reach l.shelf q ≡ g.S.Shelf.reach l.initial.shelf q;
+  steady : (g.S.Shelf.view l.shelf).faults ≡ (g.S.Shelf.view l.initial.shelf).faults;
+  later : (g.S.Shelf.view l.initial.shelf).faults ≤ (g.S.Shelf.view l.shelf).faults;
+  same : (g.S.Shelf.view l.shelf).told ≡ (g.S.Shelf.view l.initial.shelf).told;
+  reached : (g.S.Shelf.view l.initial.shelf).reach (name_of l.initial.feed) ≡ Some (place_of l.initial.feed) → (g.S.Shelf.view l.shelf).reach (name_of l.initial.feed) ≡ Some (place_of l.feed);
+  others : (q : List ℕ) → q ≢ name_of l.initial.feed → (g.S.Shelf.view l.shelf).reach q ≡ (g.S.Shelf.view l.initial.shelf).reach q;
 }
 
 abbrev pub decreases-samples : goal.decreases-samples

@@ -31,7 +31,7 @@ returns-in-Ok-true-clause-refused g c =
     let last = subst (λ (t : Told). (bytes : List ℕ) → IsSeen t bytes f → ReadsOn t bytes f f' (λ file. c.in-Ok-true.field-0 ≡ nat_lt (limit_of f) (length file))) c.evaluate.ensures.same c.in-Ok-true.ensures.seen in
     inl (
       refl,
-      long_of (g.S.Shelf.told c.args.shelf.now) c.args.samples.now c.args.front.now.scoped.program first f f' results.text.items results.end (c.in-Ok-evaluate.ensures.results no_fault) named (λ missing. c.in-Ok-evaluate.ensures.there no_fault (rw (← c.in-Ok.ensures.name) at missing))
+      long_of (g.S.Shelf.view c.args.shelf.now).told c.args.samples.now c.args.front.now.scoped.program first f f' results.text.items results.end (c.in-Ok-evaluate.ensures.results no_fault) named (λ missing. c.in-Ok-evaluate.ensures.there no_fault (rw (← c.in-Ok.ensures.name) at missing))
           (limit_of f) c.in-Ok-true.field-0 (c.evaluate.ensures.file.limit ∙ c.in-Ok.ensures.limit) c.in-Ok-true.field-0-test last,
     )
 
@@ -50,7 +50,7 @@ returns-in-Ok-false-clause-results g c =
       limit = c.in-Ok.ensures.limit;
       most = c.in-Ok.ensures.most;
     } in
-    lines_of_short (g.S.Shelf.told c.args.shelf.now) c.args.samples.now c.args.front.now.scoped.program first f f' results.text.items results.end (c.in-Ok-evaluate.ensures.results no_fault) named (λ missing. c.in-Ok-evaluate.ensures.there no_fault (rw (← c.in-Ok.ensures.name) at missing))
+    lines_of_short (g.S.Shelf.view c.args.shelf.now).told c.args.samples.now c.args.front.now.scoped.program first f f' results.text.items results.end (c.in-Ok-evaluate.ensures.results no_fault) named (λ missing. c.in-Ok-evaluate.ensures.there no_fault (rw (← c.in-Ok.ensures.name) at missing))
     (limit_of f) c.in-Ok-false.field-0 (c.evaluate.ensures.file.limit ∙ c.in-Ok.ensures.limit) c.in-Ok-false.field-0-test short last
 
 pub returns-in-Ok-false-clause-steady : goal.returns-in-Ok-false-clause-steady

@@ -1,5 +1,4 @@
 use Rattle.std.proofs.Common.{sym, subst}
-use Rattle.pr_run.specs.Setting.{view}
 use Rattle.pr_tool_answers.specs.declared.answers.Answer.{Answer}
 use Rattle.pr_tool_modes.specs.Runs.{IsRun}
 use Rattle.pr_tool_modes.proofs.RunLemmas.{Begun, course_of, run_of}
@@ -13,10 +12,10 @@ returns-clause-ran g c =
       stall = ready.stall;
       log = c.args.log;
       feed = ready.feed;
-      start = view (g.S.Shelf.told c.args.shelf.now) (g.S.Shelf.reach c.args.shelf.now) (g.S.Shelf.faults c.args.shelf.now);
-      now = view (g.S.Shelf.told c.run-end.new.shelf) (g.S.Shelf.reach c.run-end.new.shelf) (g.S.Shelf.faults c.run-end.new.shelf);
-      old = g.K.Sink.told c.args.out.now;
-      new = g.K.Sink.told c.run-end.new.out;
+      start = g.S.Shelf.view c.args.shelf.now;
+      now = g.S.Shelf.view c.run-end.new.shelf;
+      old = (g.K.Sink.view c.args.out.now).told;
+      new = (g.K.Sink.view c.run-end.new.out).told;
       ready = c.requires;
     } in
     subst (λ (a : Answer). IsRun (course_of b) c.run-end.new.machine a) (sym c.answer_of.ensures) (run_of b c.run-end.new.machine c.run-end.new.feed c.run-end.result c.run-end.ensures.ran)

@@ -2,7 +2,7 @@ use Rattle.std.proofs.Common.{◌≡◌, ◌++◌, ◌+◌, ◌∷◌, [], ℕ, 
 use Rattle.std.proofs.lemmas.Option.{slice_get-map}
 use Rattle.pr_edge.specs.Files.{Told}
 use Rattle.pr_share.proofs.ListFacts.{got_from}
-use Rattle.pr_share_list.specs.List.{entry_in}
+use Rattle.pr_tool_share.specs.Entries.{entry_in}
 use Rattle.pr_tool_answers.specs.declared.answers.Answer.{Answer}
 use Rattle.pr_tool_modes.specs.Files.{ShowsFault}
 use Rattle.pr_tool_modes.specs.Sources.{IsSourceRefusal}
@@ -16,10 +16,10 @@ use Rattle.pr_tool_share.proofs.items.make_items.Goals as goal
 pub returns-in-Err-clause-refused : goal.returns-in-Err-clause-refused
 returns-in-Err-clause-refused g c =
     let inv = c.loop-number.invariant in
-    let told = g.S.Shelf.told c.args.shelf.now in
-    let before = g.S.Shelf.faults c.args.shelf.now in
-    let mid = g.S.Shelf.faults c.loop-number.shelf in
-    let now = g.S.Shelf.faults c.make_item.new.shelf in
+    let told = (g.S.Shelf.view c.args.shelf.now).told in
+    let before = (g.S.Shelf.view c.args.shelf.now).faults in
+    let mid = (g.S.Shelf.view c.loop-number.shelf).faults in
+    let now = (g.S.Shelf.view c.make_item.new.shelf).faults in
     let number = c.loop-number.number in
     let entry = c.index-entries-number.result in
     let entries = map entry_in c.args.entries.now in
@@ -32,9 +32,9 @@ returns-in-Err-clause-refused g c =
 
 pub returns-in-Err-clause-shown : goal.returns-in-Err-clause-shown
 returns-in-Err-clause-shown g c =
-    let before = g.S.Shelf.faults c.args.shelf.now in
-    let mid = g.S.Shelf.faults c.loop-number.shelf in
-    let now = g.S.Shelf.faults c.make_item.new.shelf in
+    let before = (g.S.Shelf.view c.args.shelf.now).faults in
+    let mid = (g.S.Shelf.view c.loop-number.shelf).faults in
+    let now = (g.S.Shelf.view c.make_item.new.shelf).faults in
     let shown = shown_earlier before mid now c.in-Err.answer c.loop-number.invariant.steady c.in-Err.ensures.shown in
     subst (λ (a : Answer). ShowsFault before now a) (sym c.part_answer.ensures) (part_shown _ before now c.in-Err.answer shown)
 
@@ -44,7 +44,7 @@ returns-then-is_err-clause-shown g c = inr (c.in-Ok.ensures.steady ∙ c.loop-nu
 pub loop-number-preserved : goal.loop-number-preserved
 loop-number-preserved g c =
     let inv = c.loop-number.invariant in
-    let told = g.S.Shelf.told c.args.shelf.now in
+    let told = (g.S.Shelf.view c.args.shelf.now).told in
     let number = c.loop-number.number in
     let entry = c.index-entries-number.result in
     let entries = map entry_in c.args.entries.now in
@@ -59,7 +59,7 @@ loop-number-preserved g c =
       steady = c.in-Ok.ensures.steady ∙ inv.steady;
       same = c.make_item.ensures.same ∙ inv.same;
       unread = λ q none. c.make_item.ensures.others q (none number (entry_in entry) (omega (arith, one)) here) ∙ inv.unread q (λ i x lt. none i x (omega (arith, one, lt)));
-      once = λ q one. order_item _ (g.S.Shelf.reach c.args.shelf.now) (g.S.Shelf.reach c.loop-number.shelf) (g.S.Shelf.reach c.make_item.new.shelf) entries number (entry_in entry) q here (inv.unread q) (inv.once q one) c.make_item.ensures.once c.make_item.ensures.others one;
+      once = λ q one. order_item _ (g.S.Shelf.view c.args.shelf.now).reach (g.S.Shelf.view c.loop-number.shelf).reach (g.S.Shelf.view c.make_item.new.shelf).reach entries number (entry_in entry) q here (inv.unread q) (inv.once q one) c.make_item.ensures.once c.make_item.ensures.others one;
       others = λ q none. c.make_item.ensures.others q (none number (entry_in entry) here) ∙ inv.others q none;
     }
 
@@ -89,7 +89,7 @@ returns-in-Err-clause-once g c = λ q one.
     let entries = map entry_in c.args.entries.now in
     let here : slice_get entries number ≡ Some (entry_in entry) =
     slice_get-map entry_in c.args.entries.now number ∙ ap (option_map entry_in) (got_from c.args.entries.now number entry c.loop-number-test.true c.index-entries-number.is) in
-    order_item _ (g.S.Shelf.reach c.args.shelf.now) (g.S.Shelf.reach c.loop-number.shelf) (g.S.Shelf.reach c.make_item.new.shelf) entries number (entry_in entry) q here (inv.unread q) (inv.once q one) c.make_item.ensures.once c.make_item.ensures.others one
+    order_item _ (g.S.Shelf.view c.args.shelf.now).reach (g.S.Shelf.view c.loop-number.shelf).reach (g.S.Shelf.view c.make_item.new.shelf).reach entries number (entry_in entry) q here (inv.unread q) (inv.once q one) c.make_item.ensures.once c.make_item.ensures.others one
 
 pub returns-then-is_err-clause-once : goal.returns-then-is_err-clause-once
 returns-then-is_err-clause-once g c = λ q one.
@@ -99,4 +99,4 @@ returns-then-is_err-clause-once g c = λ q one.
     let entries = map entry_in c.args.entries.now in
     let here : slice_get entries number ≡ Some (entry_in entry) =
     slice_get-map entry_in c.args.entries.now number ∙ ap (option_map entry_in) (got_from c.args.entries.now number entry c.loop-number-test.true c.index-entries-number.is) in
-    order_item _ (g.S.Shelf.reach c.args.shelf.now) (g.S.Shelf.reach c.loop-number.shelf) (g.S.Shelf.reach c.make_item.new.shelf) entries number (entry_in entry) q here (inv.unread q) (inv.once q one) c.make_item.ensures.once c.make_item.ensures.others one
+    order_item _ (g.S.Shelf.view c.args.shelf.now).reach (g.S.Shelf.view c.loop-number.shelf).reach (g.S.Shelf.view c.make_item.new.shelf).reach entries number (entry_in entry) q here (inv.unread q) (inv.once q one) c.make_item.ensures.once c.make_item.ensures.others one

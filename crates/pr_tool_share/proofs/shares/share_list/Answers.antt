@@ -1,8 +1,8 @@
 use Rattle.std.proofs.Common.{◌≡◌, ◌≢◌, ◌⊎◌, ◌∙◌, ℕ, List, Option, length, map, refl, sym, ap, subst, arith, inl, inr}
 use Rattle.pr_edge.specs.Files.{Told}
 use Rattle.pr_share.specs.Items.{world, AreReady, names_of, IsNoneOf}
-use Rattle.pr_share_list.specs.List.{Entry, entry_in}
-use Rattle.pr_share_list.specs.declared.lines.Entry.{Entry as Named}
+use Rattle.pr_tool_share.specs.Entries.{Entry, entry_in}
+use Rattle.pr_tool_share.specs.declared.entries.Entry.{Entry as Named}
 use Rattle.pr_tool_answers.specs.declared.answers.Answer.{Answer}
 use Rattle.pr_tool_modes.specs.Files.{IsInOrder}
 use Rattle.pr_tool_modes.proofs.FileLemmas.{shown_earlier}
@@ -18,14 +18,14 @@ returns-in-Err-clause-shared g c = inl (record { cause = inl c.in-Err.ensures.re
 
 pub returns-in-Err-make_items-clause-shared : goal.returns-in-Err-make_items-clause-shared
 returns-in-Err-make_items-clause-shared g c =
-    let told = g.S.Shelf.told c.args.shelf.now in
-    let before = g.S.Shelf.faults c.args.shelf.now in
-    let mid = g.S.Shelf.faults c.load_list.new.shelf in
-    let now = g.S.Shelf.faults c.make_items.new.shelf in
+    let told = (g.S.Shelf.view c.args.shelf.now).told in
+    let before = (g.S.Shelf.view c.args.shelf.now).faults in
+    let mid = (g.S.Shelf.view c.load_list.new.shelf).faults in
+    let now = (g.S.Shelf.view c.make_items.new.shelf).faults in
     let entries = map entry_in c.in-Ok.entries.items in
     let a = c.in-Err-make_items.answer in
-    let refused = subst (λ (xs : List Named). IsProgramRefusal (g.S.Shelf.told c.load_list.new.shelf) mid now 0 (map entry_in xs) a ⊎ (a ≡ Answer.Memory)) c.deref.ensures.value c.in-Err-make_items.ensures.refused in
-    let unread : (q : List ℕ) → q ≢ c.args.sharing.now.list.now → ((es : List Entry) → HasList told c.args.sharing.now.list.now es → IsNoProgram es q) → g.S.Shelf.reach c.make_items.new.shelf q ≡ g.S.Shelf.reach c.args.shelf.now q =
+    let refused = subst (λ (xs : List Named). IsProgramRefusal (g.S.Shelf.view c.load_list.new.shelf).told mid now 0 (map entry_in xs) a ⊎ (a ≡ Answer.Memory)) c.deref.ensures.value c.in-Err-make_items.ensures.refused in
+    let unread : (q : List ℕ) → q ≢ c.args.sharing.now.list.now → ((es : List Entry) → HasList told c.args.sharing.now.list.now es → IsNoProgram es q) → (g.S.Shelf.view c.make_items.new.shelf).reach q ≡ (g.S.Shelf.view c.args.shelf.now).reach q =
     λ q other programs. c.make_items.ensures.others q (subst (λ (xs : List Named). IsNoProgram (map entry_in xs) q) (sym c.deref.ensures.value) (programs _ c.in-Ok.ensures.list)) ∙ c.load_list.ensures.others q other in
     let shown = shown_earlier before mid now a c.in-Ok.ensures.steady c.in-Err-make_items.ensures.shown in
     elim refused [
@@ -53,7 +53,7 @@ take_turns-requires-clause-few g c =
 pub take_turns-requires-clause-ready : goal.take_turns-requires-clause-ready
 take_turns-requires-clause-ready g c =
     let least = listed_quotas _ _ c.in-Ok.ensures.list.listed in
-    let ready = subst (λ (xs : List Named). AreItemsOf (g.S.Shelf.told c.load_list.new.shelf) (map entry_in xs) c.in-Ok-make_items.items.items) c.deref.ensures.value c.in-Ok-make_items.ensures.ready in
+    let ready = subst (λ (xs : List Named). AreItemsOf (g.S.Shelf.view c.load_list.new.shelf).told (map entry_in xs) c.in-Ok-make_items.items.items) c.deref.ensures.value c.in-Ok-make_items.ensures.ready in
     subst (λ (xs : List Item). AreReady xs) (sym c.deref_mut.ensures.value) (are_ready _ (map entry_in c.in-Ok.entries.items) c.in-Ok-make_items.items.items ready least)
 
 pub returns-in-Err-make_items-clause-others : goal.returns-in-Err-make_items-clause-others
@@ -64,7 +64,7 @@ returns-in-Err-make_items-clause-others g c = λ q none.
 pub returns-in-Ok-make_place-clause-others : goal.returns-in-Ok-make_place-clause-others
 returns-in-Ok-make_place-clause-others g c = λ q none.
     let programs = subst (λ (xs : List Named). IsNoProgram (map entry_in xs) q) (sym c.deref.ensures.value) (none.no_program _ c.in-Ok.ensures.list) in
-    let ready = subst (λ (xs : List Named). AreItemsOf (g.S.Shelf.told c.load_list.new.shelf) (map entry_in xs) c.in-Ok-make_items.items.items) c.deref.ensures.value c.in-Ok-make_items.ensures.ready in
+    let ready = subst (λ (xs : List Named). AreItemsOf (g.S.Shelf.view c.load_list.new.shelf).told (map entry_in xs) c.in-Ok-make_items.items.items) c.deref.ensures.value c.in-Ok-make_items.ensures.ready in
     let names = items_unnamed _ (map entry_in c.in-Ok.entries.items) c.in-Ok-make_items.items.items q ready (none.no_samples _ c.in-Ok.ensures.list) in
     c.take_turns.ensures.others q (subst (λ (xs : List Item). IsNoneOf (names_of xs) q) (sym c.deref_mut.ensures.value) names) ∙ (c.make_items.ensures.others q programs ∙ c.load_list.ensures.others q none.other)
 
@@ -83,24 +83,24 @@ returns-clause-others g c = λ q none.
 
 pub returns-in-Ok-make_place-clause-shared : goal.returns-in-Ok-make_place-clause-shared
 returns-in-Ok-make_place-clause-shared g c =
-    let told = g.S.Shelf.told c.args.shelf.now in
-    let start = g.S.Shelf.faults c.make_items.new.shelf in
-    let now = g.S.Shelf.faults c.take_turns.new.shelf in
-    let old = g.K.Sink.told c.args.out.now in
-    let new = g.K.Sink.told c.take_turns.new.out in
-    let before = g.K.Sink.faults c.args.out.now in
-    let after = g.K.Sink.faults c.take_turns.new.out in
+    let told = (g.S.Shelf.view c.args.shelf.now).told in
+    let start = (g.S.Shelf.view c.make_items.new.shelf).faults in
+    let now = (g.S.Shelf.view c.take_turns.new.shelf).faults in
+    let old = (g.K.Sink.view c.args.out.now).told in
+    let new = (g.K.Sink.view c.take_turns.new.out).told in
+    let before = (g.K.Sink.view c.args.out.now).faults in
+    let after = (g.K.Sink.view c.take_turns.new.out).faults in
     let entries = map entry_in c.in-Ok.entries.items in
     let firsts = c.in-Ok-make_items.items.items in
     let items = c.take_turns.new.items in
-    let same : g.S.Shelf.told c.make_items.new.shelf ≡ told = c.make_items.ensures.same ∙ c.load_list.ensures.same in
-    let ready = subst (λ (xs : List Named). AreItemsOf (g.S.Shelf.told c.load_list.new.shelf) (map entry_in xs) firsts) c.deref.ensures.value c.in-Ok-make_items.ensures.ready in
-    let mid = g.S.Shelf.told c.make_items.new.shelf in
+    let same : (g.S.Shelf.view c.make_items.new.shelf).told ≡ told = c.make_items.ensures.same ∙ c.load_list.ensures.same in
+    let ready = subst (λ (xs : List Named). AreItemsOf (g.S.Shelf.view c.load_list.new.shelf).told (map entry_in xs) firsts) c.deref.ensures.value c.in-Ok-make_items.ensures.ready in
+    let mid = (g.S.Shelf.view c.make_items.new.shelf).told in
     let stripes = c.args.sharing.now.stripes in
-    let on = subst (λ (n : ℕ). HaveTurned n c.deref_mut.result.now items (world mid start old) (world (g.S.Shelf.told c.take_turns.new.shelf) now new) before after c.take_turns.result) c.in-Ok-make_place.ensures c.take_turns.ensures.turned in
+    let on = subst (λ (n : ℕ). HaveTurned n c.deref_mut.result.now items (world mid start old) (world (g.S.Shelf.view c.take_turns.new.shelf).told now new) before after c.take_turns.result) c.in-Ok-make_place.ensures c.take_turns.ensures.turned in
     let later = subst (λ (t : Told). HaveTurned stripes c.deref_mut.result.now items (world mid start old) (world t now new) before after c.take_turns.result) (c.take_turns.ensures.told ∙ same) on in
     let same_told = subst (λ (t : Told). HaveTurned stripes c.deref_mut.result.now items (world t start old) (world told now new) before after c.take_turns.result) same later in
-    let first = g.S.Shelf.faults c.args.shelf.now in
+    let first = (g.S.Shelf.view c.args.shelf.now).faults in
     let turned = subst (λ (n : ℕ). HaveTurned stripes c.deref_mut.result.now items (world told n old) (world told now new) before after c.take_turns.result) (c.in-Ok-make_items.ensures.steady ∙ c.in-Ok.ensures.steady) same_told in
     inr (record {
       entries = entries;
@@ -112,22 +112,22 @@ returns-in-Ok-make_place-clause-shared g c =
     })
 
 pub returns-in-Err-clause-once : goal.returns-in-Err-clause-once
-returns-in-Err-clause-once g c = λ q once. order_one (g.S.Shelf.reach c.args.shelf.now) (g.S.Shelf.reach c.load_list.new.shelf) c.args.sharing.now.list.now q (order_once _ _ _ c.load_list.ensures.once) c.load_list.ensures.others
+returns-in-Err-clause-once g c = λ q once. order_one (g.S.Shelf.view c.args.shelf.now).reach (g.S.Shelf.view c.load_list.new.shelf).reach c.args.sharing.now.list.now q (order_once _ _ _ c.load_list.ensures.once) c.load_list.ensures.others
 
 pub returns-in-Err-make_items-clause-once : goal.returns-in-Err-make_items-clause-once
 returns-in-Err-make_items-clause-once g c = λ q once.
     let one = subst (λ (xs : List Named). IsOneProgram (map entry_in xs) q) (sym c.deref.ensures.value) (once.one_program _ c.in-Ok.ensures.list) in
-    order_after (g.S.Shelf.reach c.args.shelf.now) (g.S.Shelf.reach c.load_list.new.shelf) (g.S.Shelf.reach c.make_items.new.shelf) _ c.args.sharing.now.list.now q c.load_list.ensures.once c.load_list.ensures.others (λ e. c.make_items.ensures.others q (subst (λ (xs : List Named). IsNoProgram (map entry_in xs) q) (sym c.deref.ensures.value) (once.no_program e _ c.in-Ok.ensures.list))) (c.make_items.ensures.once q one)
+    order_after (g.S.Shelf.view c.args.shelf.now).reach (g.S.Shelf.view c.load_list.new.shelf).reach (g.S.Shelf.view c.make_items.new.shelf).reach _ c.args.sharing.now.list.now q c.load_list.ensures.once c.load_list.ensures.others (λ e. c.make_items.ensures.others q (subst (λ (xs : List Named). IsNoProgram (map entry_in xs) q) (sym c.deref.ensures.value) (once.no_program e _ c.in-Ok.ensures.list))) (c.make_items.ensures.once q one)
 
 pub returns-clause-once : goal.returns-clause-once
 returns-clause-once g c = λ q once.
     let one = subst (λ (xs : List Named). IsOneProgram (map entry_in xs) q) (sym c.deref.ensures.value) (once.one_program _ c.in-Ok.ensures.list) in
-    order_after (g.S.Shelf.reach c.args.shelf.now) (g.S.Shelf.reach c.load_list.new.shelf) (g.S.Shelf.reach c.make_items.new.shelf) _ c.args.sharing.now.list.now q c.load_list.ensures.once c.load_list.ensures.others (λ e. c.make_items.ensures.others q (subst (λ (xs : List Named). IsNoProgram (map entry_in xs) q) (sym c.deref.ensures.value) (once.no_program e _ c.in-Ok.ensures.list))) (c.make_items.ensures.once q one)
+    order_after (g.S.Shelf.view c.args.shelf.now).reach (g.S.Shelf.view c.load_list.new.shelf).reach (g.S.Shelf.view c.make_items.new.shelf).reach _ c.args.sharing.now.list.now q c.load_list.ensures.once c.load_list.ensures.others (λ e. c.make_items.ensures.others q (subst (λ (xs : List Named). IsNoProgram (map entry_in xs) q) (sym c.deref.ensures.value) (once.no_program e _ c.in-Ok.ensures.list))) (c.make_items.ensures.once q one)
 
 pub returns-in-Ok-make_place-clause-once : goal.returns-in-Ok-make_place-clause-once
 returns-in-Ok-make_place-clause-once g c = λ q once.
     let one = subst (λ (xs : List Named). IsOneProgram (map entry_in xs) q) (sym c.deref.ensures.value) (once.one_program _ c.in-Ok.ensures.list) in
-    let ready = subst (λ (xs : List Named). AreItemsOf (g.S.Shelf.told c.load_list.new.shelf) (map entry_in xs) c.in-Ok-make_items.items.items) c.deref.ensures.value c.in-Ok-make_items.ensures.ready in
+    let ready = subst (λ (xs : List Named). AreItemsOf (g.S.Shelf.view c.load_list.new.shelf).told (map entry_in xs) c.in-Ok-make_items.items.items) c.deref.ensures.value c.in-Ok-make_items.ensures.ready in
     let names = items_unnamed _ (map entry_in c.in-Ok.entries.items) c.in-Ok-make_items.items.items q ready (once.no_samples _ c.in-Ok.ensures.list) in
     let last = c.take_turns.ensures.others q (subst (λ (xs : List Item). IsNoneOf (names_of xs) q) (sym c.deref_mut.ensures.value) names) in
-    subst (λ (r : Option ℕ). IsInOrder (g.S.Shelf.reach c.args.shelf.now q) r) (sym last) (order_after (g.S.Shelf.reach c.args.shelf.now) (g.S.Shelf.reach c.load_list.new.shelf) (g.S.Shelf.reach c.make_items.new.shelf) _ c.args.sharing.now.list.now q c.load_list.ensures.once c.load_list.ensures.others (λ e. c.make_items.ensures.others q (subst (λ (xs : List Named). IsNoProgram (map entry_in xs) q) (sym c.deref.ensures.value) (once.no_program e _ c.in-Ok.ensures.list))) (c.make_items.ensures.once q one))
+    subst (λ (r : Option ℕ). IsInOrder ((g.S.Shelf.view c.args.shelf.now).reach q) r) (sym last) (order_after (g.S.Shelf.view c.args.shelf.now).reach (g.S.Shelf.view c.load_list.new.shelf).reach (g.S.Shelf.view c.make_items.new.shelf).reach _ c.args.sharing.now.list.now q c.load_list.ensures.once c.load_list.ensures.others (λ e. c.make_items.ensures.others q (subst (λ (xs : List Named). IsNoProgram (map entry_in xs) q) (sym c.deref.ensures.value) (once.no_program e _ c.in-Ok.ensures.list))) (c.make_items.ensures.once q one))

@@ -1,4 +1,0 @@
-pub mod WordFacts
-pub mod ListLaws
-pub mod QuotaFacts
-pub mod Reading

@@ -1,5 +1,0 @@
-use Rattle.pr_tool_verdicts.proofs.Plans.{one_verdict}
-use Rattle.pr_tool_verdicts.proofs.words_verdict_law.Goals as goal
-
-pub returns : goal.returns
-returns c = one_verdict
