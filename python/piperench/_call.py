@@ -34,8 +34,8 @@ _SET_PIPE_SIZE = 1031
 WAIT = b""
 
 
-# What the launchers tell of a build, and the line of `pipelens` that names the call which tells more.
-_ASIDE = re.compile(r"(piperench|pipelens): |`pipelens why .* tells more$")
+# What the launchers tell of a build, and the lines of `pipelens` that name options that help, or the call which tells more.
+_ASIDE = re.compile(r"(piperench|pipelens): |(With|On) `--.*` the program fits\.$|`pipelens why .* tells more$")
 
 
 @dataclass(frozen=True)

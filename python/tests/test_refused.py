@@ -52,6 +52,13 @@ class Refusals(unittest.TestCase):
             self.assertEqual((caught.exception.status, caught.exception.note), (3, WRONG[1][2]))
             self.assertEqual(caught.exception.place.line, 2)
 
+    def test_options_that_help_are_no_note(self) -> None:
+        program = Program("input x:64;\nrec s:64 = 1 by (s@1 ^ x) & s@1;\noutput y = s{31..0};")
+        for call in program.cost, program.graph:
+            with self.assertRaises(Refused) as caught:
+                call()
+            self.assertEqual((caught.exception.status, caught.exception.note), (5, "no fit: unit 3"))
+
     def test_findings(self) -> None:
         (finding,) = Program(WRONG[1][0]).why()
         self.assertEqual((finding.severity, finding.place.line, finding.place.column, finding.place.end_column), ("error", 2, 12, 13))

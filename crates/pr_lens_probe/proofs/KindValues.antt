@@ -24,7 +24,6 @@ use Rattle.pr_lang_meaning.specs.Expressions.{Sense, combined, constant_shift, m
 use Rattle.pr_expand_spec.specs.Making.{Equations, Made, with_equation}
 use Rattle.pr_expand_spec.specs.Expressions as made
 use Rattle.pr_expand_spec.specs.Expressions.{Plan, declared_at_operator, declared_else, plan_of, plan_step}
-use Rattle.pr_expand.proofs.Layers.{binary_law}
 use Rattle.pr_probe.specs.Probes.{KeepsRules, reference, scene}
 use Rattle.pr_probe.proofs.References.{plan-is, ref_to}
 use Rattle.pr_probe.proofs.Scope.{reference-walked}
@@ -57,6 +56,10 @@ number-planned n = fold-roll-Expr Plan plan_step (Expr-F.Number n)
 binary-assigned : (o : BinOp) (l r : Box Expr) (v : made.Visible) (env : made.Streams) (es : Equations) → made.assigned None (Binary o l r) v env es ≡ made.combined o (constant_shift o ((plan_of r.value).amount v.known)) (plan_of l.value) (plan_of r.value) v env es
 unfolding expressions.roll-Expr denote.Hole.Carrier.roll
 binary-assigned o l r v env es = ap (λ (p : Plan). declared_else p.is_operator None (declared_at_operator p.is_operator None (p.making v env es))) (fold-roll-Expr Plan plan_step (Expr-F.Binary o l r))
+
+binary-made : (o : BinOp) (l r : Box Expr) (v : made.Visible) (env : made.Streams) (es : Equations) → (plan_of (Binary o l r)).making v env es ≡ made.combined o (constant_shift o ((plan_of r.value).amount v.known)) (plan_of l.value) (plan_of r.value) v env es
+unfolding expressions.roll-Expr denote.Hole.Carrier.roll
+binary-made o l r v env es = ap (λ (p : Plan). p.making v env es) (fold-roll-Expr Plan plan_step (Expr-F.Binary o l r))
 
 -- ---- widths
 zero-wide : number_width 0 ≡ 1
@@ -134,7 +137,7 @@ module _ (name : List ℕ) (index : Option ℕ) (top nothing shown amount : Box 
       let known = v.known in
       let first : ((plan_of top.value).making v env es).equations ≡ (with_equation (op.Right 127) (((plan_of shown.value).making v env es).given ∷ []) None ((plan_of shown.value).making v env es).equations).equations =
       ap (λ (e : Expr). ((plan_of e).making v env es).equations) top_is
-      ∙ (ap (λ (x : Made). x.equations) (binary_law binary.Right shown amount v env es)
+      ∙ (ap (λ (x : Made). x.equations) (binary-made binary.Right shown amount v env es)
       ∙ ap (λ (a : Plan). (made.combined binary.Right (constant_shift binary.Right (a.amount known)) (plan_of shown.value) a v env es).equations) (ap plan_of amount_is ∙ number-planned 127)) in
       let none : ((plan_of shown.value).making v env es).equations ≡ es =
       ap (λ (e : Expr). ((plan_of e).making v env es).equations) shown_is

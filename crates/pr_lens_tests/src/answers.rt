@@ -91,3 +91,115 @@ $ pipelens look p
 fn notes(rt: HostRuntime) -> Result<(), AllocError> {
     check_calls(&rt, rt.alloc(), "", NOTES)
 }
+
+/// Programs that are refused, with the lines for the options that make each fit. The recurrence takes eight or sixteen
+/// columns for each of its two operators, and as many for what it keeps; four of each where only 32 bits reach the output.
+const HELPED: &str = "\
+$ pipelens cost p
+input x:64;
+rec s:64 = 1 by (s@1 ^ x) & s@1;
+output y = s{31..0};
+= 5
+! no fit: unit 3
+With `--narrow` the program fits.
+On `--fabric wide` the program fits.
+`pipelens why p` tells more
+$ pipelens cost p
+input x:128;
+rec s:128 = 1 by (s@1 ^ x) & s@1;
+output y = s{31..0};
+= 5
+! no fit: unit 3
+With `--narrow` the program fits.
+`pipelens why p` tells more
+$ pipelens graph p --fabric wide
+input x:128;
+rec s:128 = 1 by (s@1 ^ x) & s@1;
+output y = s{31..0};
+= 5
+! no fit: unit 3
+With `--narrow` the program fits.
+`pipelens why p --fabric wide` tells more
+$ pipelens graph p
+input x:64;
+rec s:64 = 1 by (s@1 ^ x) & s@1;
+output y = s;
+= 5
+! no fit: unit 3
+On `--fabric wide` the program fits.
+`pipelens why p` tells more
+$ pipelens cost p --json --narrow
+input x:64;
+rec s:64 = 1 by (s@1 ^ x) & s@1;
+output y = s;
+= 5
+! no fit: unit 3
+On `--fabric wide` the program fits.
+`pipelens why p --narrow` tells more
+$ pipelens rtl p
+input a:128;
+input b:128;
+output y:128 = a + b;
+= 6
+! limit: input-bytes 16
+On `--fabric wide` the program fits.
+`pipelens why p` tells more
+$ pipelens testbench p s
+input x:64;
+rec s:64 = 1 by (s@1 ^ x) & s@1;
+output y = s;
+---
+1
+= 5
+! no fit: unit 3
+On `--fabric wide` the program fits.
+`pipelens why p` tells more
+";
+
+#[test]
+fn helped(rt: HostRuntime) -> Result<(), AllocError> {
+    check_calls(&rt, rt.alloc(), "", HELPED)
+}
+
+/// Programs that no option helps, or that are refused for another reason.
+const UNHELPED: &str = "\
+$ pipelens cost p
+input x:128;
+rec s:128 = 1 by (s@1 ^ x) & s@1;
+output y = s;
+= 5
+! no fit: unit 3
+`pipelens why p` tells more
+$ pipelens graph p --fabric wide --narrow
+input x:128;
+rec s:128 = 1 by (s@1 ^ x) & s@1;
+output y = s;
+= 5
+! no fit: unit 3
+`pipelens why p --fabric wide --narrow` tells more
+$ pipelens graph p
+input a:128;
+input b:128;
+input c:128;
+output y = a;
+= 6
+! limit: input-bytes 16
+`pipelens why p` tells more
+$ pipelens cost p
+input x:8;
+output y = x{8..0};
+= 4
+! no width: equation 1
+`pipelens why p` tells more
+$ pipelens graph p
+input x:8;
+output y = z;
+= 3
+! scope: rule 2 item 1
+`pipelens why p` tells more
+";
+
+#[test]
+fn unhelped(rt: HostRuntime) -> Result<(), AllocError> {
+    check_calls(&rt, rt.alloc(), "", UNHELPED)
+}

@@ -20,7 +20,7 @@ use Rattle.pr_lens_log.specs.Windows.{part_of}
 use Rattle.pr_lens_tool.specs.declared.orders.Drawing.{Drawing}
 use Rattle.pr_lens_tool.specs.declared.orders.Drawing.TheVariants.{Wave, Chart}
 use Rattle.pr_lens_tool.specs.declared.outcomes.Outcome.{Outcome}
-use Rattle.pr_lens_tool.specs.declared.outcomes.Outcome.TheVariants.{Plain, Explained, Streamed, Usage, BadLog, NoCycle, Unshown, LongLog, LongModule, LongBench, NoStream}
+use Rattle.pr_lens_tool.specs.declared.outcomes.Outcome.TheVariants.{Plain, Refused, Explained, Streamed, Usage, BadLog, NoCycle, Unshown, LongLog, LongModule, LongBench, NoStream}
 use Rattle.pr_lens_tool.specs.Outcomes.{Shows}
 use Rattle.pr_lens_tool.specs.Logs.{HasLog, HasShortText, HasText, HasUnshown, IsDrawing, IsNoLog, IsReadOnFrom, IsReadTo, IsUndrawn, choice_of, drawn_text, most_log_bytes, outcome_of}
 
@@ -155,6 +155,7 @@ module _ (window : Window) (told : Told) (name : List ℕ) where
   -- a log that is not read is not drawn
   pub undrawn_unread : (before now : ℕ) (o : Outcome) → IsNoLog told name before now o → IsUndrawn window told name before now o
   undrawn_unread before now (Plain answer) h = h
+  undrawn_unread before now (Refused answer help) h = absurd h
   undrawn_unread before now (Explained answer) h = h
   undrawn_unread before now (Streamed answer) h = h
   undrawn_unread before now Usage h = h

@@ -1,5 +1,5 @@
 -- What is told of programs, from what is known of its parts.
-use Rattle.std.proofs.Common.{◌≡◌, ℕ, Bool, not, List, [], Option, Result, Ok, Err, IfOk, IfErr, refl, subst}
+use Rattle.std.proofs.Common.{◌≡◌, ℕ, Bool, not, List, [], Option, Result, Ok, Err, IfOk, IfErr, refl, sym, subst}
 use Rattle.pr_compile.specs.declared.faults.CompileFault.{CompileFault}
 use Rattle.pr_compile.specs.declared.faults.CompileFault.TheVariants.{Syntax, Scope, NoWidth, NoFit, Limit, Memory}
 use Rattle.pr_compile.specs.Refusals.{IsCompileAnswer}
@@ -15,7 +15,9 @@ use Rattle.pr_lens_tool.specs.Asked.{AskedTarget}
 use Rattle.pr_lens_show.specs.declared.findings.Finding.{Finding}
 use Rattle.pr_lens_show.specs.Findings.{IsPut}
 use Rattle.pr_tool.specs.Notes.{note_of}
-use Rattle.pr_lens_tool.specs.Programs.{AreSavings, IsCosted, IsExplanation, IsFinding, IsWhy, bounds_for, savings_in}
+use Rattle.pr_lens_tool.specs.declared.outcomes.Outcome.{Outcome}
+use Rattle.pr_lens_tool.specs.declared.outcomes.Outcome.TheVariants.{Plain}
+use Rattle.pr_lens_tool.specs.Programs.{AreSavings, IsCosted, IsExplanation, IsFinding, IsUnanswered, IsWhy, bounds_for, savings_in}
 
 pub explanation_told : (target : AskedTarget) (json : Bool) (text : List ℕ) (e : Explanation) (answer : Answer) (f : Finding) (old written : List ℕ) → old ≡ [] → IsFinding e (note_of (bounds_for target.fabric) answer) f
     → IsPut json target.file text f old written → IsExplanation target json text e answer written
@@ -49,3 +51,8 @@ saved_by N P narrowed text (Err (Scope number item)) is refused = record { fault
 saved_by N P narrowed text (Err (NoWidth equation)) is refused = record { fault = NoWidth equation; refused = refused }
 saved_by N P narrowed text (Err (NoFit unit)) is refused = record { fault = NoFit unit; refused = refused }
 saved_by N P narrowed text (Err (Limit which)) is refused = record { fault = Limit which; refused = refused }
+
+-- ---- why nothing is told
+-- memory was wanting
+pub memory_wanting : (N P : ℕ) (narrowed : Bool) (text : List ℕ) (outcome : Outcome) → outcome ≡ Plain Answer.Memory → IsUnanswered N P narrowed text outcome
+memory_wanting N P narrowed text outcome is = subst (IsUnanswered N P narrowed text) (sym is) refl

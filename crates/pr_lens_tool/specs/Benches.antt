@@ -16,7 +16,7 @@ use Rattle.pr_lens_bench.specs.declared.trials.NoBench.{NoBench}
 use Rattle.pr_lens_bench.specs.declared.trials.NoBench.TheVariants.{Long, Ended}
 use Rattle.pr_lens_bench.specs.Benches.{IsBench, IsUnbenched}
 use Rattle.pr_lens_tool.specs.declared.outcomes.Outcome.{Outcome}
-use Rattle.pr_lens_tool.specs.declared.outcomes.Outcome.TheVariants.{Plain, Streamed, LongBench}
+use Rattle.pr_lens_tool.specs.declared.outcomes.Outcome.TheVariants.{Plain, Refused, Streamed, LongBench}
 use Rattle.pr_lens_tool.specs.Modules.{IsCompilation}
 use Rattle.pr_lens_tool.specs.Asked.{AskedTarget}
 use Rattle.pr_lens_tool.specs.Programs.{IsUntold}
@@ -50,7 +50,8 @@ IsBenchOf told target samples name seed written = HasBenchOf told target name se
 
 -- why none is: the program is refused, the samples end otherwise, or the bench has too many bytes
 abbrev pub IsNoBenchOf : Told → AskedTarget → (samples name : Text) → ℕ → ℕ → ℕ → Outcome → Type 0
-IsNoBenchOf told target samples name seed before now (Plain answer) = IsUntold told target before now answer
+IsNoBenchOf told target samples name seed before now (Plain answer) = IsUntold told target before now (Plain answer)
+IsNoBenchOf told target samples name seed before now (Refused answer help) = IsUntold told target before now (Refused answer help)
 IsNoBenchOf told target samples name seed before now (Streamed answer) = HasBenchOf told target name seed (λ program plan. IsUnbenched told samples program plan before now (Ended answer))
 IsNoBenchOf told target samples name seed before now LongBench = HasBenchOf told target name seed (λ program plan. IsUnbenched told samples program plan before now Long)
 IsNoBenchOf told target samples name seed before now outcome = ⊥

@@ -20,14 +20,9 @@ IsMade (OfProgram question) told target outcome written = IsToldOf question told
 IsMade (OfLog drawing window) told target outcome written = (outcome ≡ Plain Answer.Ok) × IsDrawing drawing window told target.file written
 IsMade (Bench samples name seed) told target outcome written = (outcome ≡ Plain Answer.Ok) × IsBenchOf told target samples name seed written
 
--- an answer of `piperench`
-abbrev pub IsPlain : (Answer → Type 0) → Outcome → Type 0
-IsPlain P (Plain answer) = P answer
-IsPlain P outcome = ⊥
-
 -- why none is
 abbrev pub IsUnmade : AskedProduct → Told → AskedTarget → ℕ → ℕ → Outcome → Type 0
-IsUnmade (OfProgram question) told target before now outcome = IsPlain (IsUntold told target before now) outcome
+IsUnmade (OfProgram question) told target before now outcome = IsUntold told target before now outcome
 IsUnmade (OfLog drawing window) told target before now outcome = IsUndrawn window told target.file before now outcome
 IsUnmade (Bench samples name seed) told target before now outcome = IsNoBenchOf told target samples name seed before now outcome
 

@@ -9,12 +9,13 @@ use Rattle.pr_tool_answers.specs.Statuses as answers
 use Rattle.pr_tool.specs.declared.notes.Bounds.{Bounds}
 use Rattle.pr_tool.specs.Notes.{note_of}
 use Rattle.pr_lens_tool.specs.declared.outcomes.Outcome.{Outcome}
-use Rattle.pr_lens_tool.specs.declared.outcomes.Outcome.TheVariants.{Plain, Explained, Streamed, Usage, BadLog, NoCycle, Unshown, LongLog, LongModule, LongBench, NoStream}
+use Rattle.pr_lens_tool.specs.declared.outcomes.Outcome.TheVariants.{Plain, Refused, Explained, Streamed, Usage, BadLog, NoCycle, Unshown, LongLog, LongModule, LongBench, NoStream}
 use Rattle.pr_lens_tool.specs.declared.outcomes.Reply.{Reply}
 
 -- the status with which the process ends
 abbrev pub status_of : Outcome → ℕ
 status_of (Plain answer) = answers.status_of answer
+status_of (Refused answer help) = answers.status_of answer
 status_of (Explained answer) = answers.status_of answer
 status_of (Streamed answer) = answers.status_of answer
 status_of Usage = 2
@@ -40,6 +41,7 @@ unshown_line first last = codes "no such cycle: the log has cycles " ++ decimal 
 -- of an outcome, with the limits that it tells
 abbrev pub line_by : Bounds → Outcome → List ℕ
 line_by bounds (Plain answer) = note_of bounds answer
+line_by bounds (Refused answer help) = note_of bounds answer
 line_by bounds (Explained answer) = []
 line_by bounds (Streamed answer) = note_of bounds answer
 line_by bounds Usage = codes "usage: pipelens TASK FILE [SAMPLES] [--fabric F] [--narrow] [--samples N] [--json] [--csv] [--signed NAME,..] [--no-warnings] [--name MODULE] [--seed N] [--from T] [--to T]; pipelens --help says more\n"

@@ -10,8 +10,8 @@ use Rattle.pr_compile.specs.declared.faults.CompileFault.TheVariants.{Memory}
 use Rattle.pr_compile.specs.Refusals.{IsRefused}
 use Rattle.pr_edge.specs.Files.{Told}
 use Rattle.pr_tool_answers.specs.declared.answers.Answer.{Answer}
-use Rattle.pr_tool_modes.specs.Files.{IsText}
-use Rattle.pr_tool_modes.specs.Programs.{IsNotCompiled, compile_answer}
+use Rattle.pr_tool_modes.specs.Files.{HasRefused, IsText, IsUnread}
+use Rattle.pr_tool_modes.specs.Programs.{compile_answer}
 use Rattle.pr_tool.specs.declared.notes.Bounds.{Bounds}
 use Rattle.pr_tool.specs.Notes.{note_of}
 use Rattle.pr_lens_show.specs.declared.findings.Finding.{Finding}
@@ -19,7 +19,8 @@ use Rattle.pr_lens_show.specs.declared.findings.Severity.{Severity}
 use Rattle.pr_lens_show.specs.Findings.{IsPut}
 use Rattle.pr_lens_why.specs.declared.explaining.Explanation.{Explanation}
 use Rattle.pr_lens_why.specs.Codes.{code_of}
-use Rattle.pr_lens_why.specs.Messages.{HasConfiguration}
+use Rattle.pr_lens_why.specs.declared.helps.Help.{Help}
+use Rattle.pr_lens_why.specs.Helps.{HasConfiguration, HasRefusal, IsHelp}
 use Rattle.pr_lens_why.specs.Verdicts.{IsExplained}
 use Rattle.pr_lens_cost.specs.declared.amounts.Cost.{Cost as ProgramCost}
 use Rattle.pr_lens_cost.specs.declared.tables.Savings.{Savings}
@@ -29,7 +30,7 @@ use Rattle.pr_lens_graph.specs.declared.layouts.Layout.{Layout}
 use Rattle.pr_lens_graph.specs.Graphs.{graph_of}
 use Rattle.pr_lens_graph.specs.Layouts.{IsLayout}
 use Rattle.pr_lens_tool.specs.declared.outcomes.Outcome.{Outcome}
-use Rattle.pr_lens_tool.specs.declared.outcomes.Outcome.TheVariants.{Plain, Explained}
+use Rattle.pr_lens_tool.specs.declared.outcomes.Outcome.TheVariants.{Plain, Refused, Explained}
 use Rattle.pr_lens_tool.specs.Accepted.{TellsAccepted}
 use Rattle.pr_lens_tool.specs.Asked.{AskedQuestion, AskedTarget, Cost, Graph, Rtl, Why}
 use Rattle.pr_lens_tool.specs.Modules.{IsModuleOrLong}
@@ -79,11 +80,6 @@ pub record IsSaving (N P : ℕ) (narrowed : Bool) (text : List ℕ) (savings : S
   pub units : savings.units ≡ cost.units
   pub stages : savings.stages ≡ length cost.stages.items
 
--- a text is refused
-pub record HasRefusal (N P : ℕ) (narrowed : Bool) (text : List ℕ) : Type 0 where
-  pub fault : CompileFault
-  pub refused : IsRefused N P narrowed text fault
-
 -- what compiling this way saves, where the text is accepted so
 abbrev pub AreSavings : ℕ → ℕ → Bool → List ℕ → Option Savings → Type 0
 AreSavings N P narrowed text (Some savings) = IsSaving N P narrowed text savings
@@ -125,6 +121,23 @@ pub record IsToldOf (question : AskedQuestion) (told : Told) (target : AskedTarg
   pub short : length text ≤ most_program_bytes
   pub is : IsTold question (columns target.fabric) (registers target.fabric) target text outcome written
 
--- why nothing is told of it, as `piperench` refuses it
-abbrev pub IsUntold : Told → AskedTarget → ℕ → ℕ → Answer → Type 0
-IsUntold told target before now answer = IsNotCompiled (columns target.fabric) (registers target.fabric) target.narrowed told target.file before now answer
+-- ---- why nothing is told
+-- a text is refused, and these options make it fit
+pub record IsRefusedWith (N P : ℕ) (narrowed : Bool) (text : List ℕ) (answer : Answer) (help : Help) : Type 0 where
+  pub fault : CompileFault
+  pub refused : IsRefused N P narrowed text fault
+  pub answers : answer ≡ compile_answer fault
+  pub helps : IsHelp N P narrowed text fault help
+
+-- of a text: it is refused, or memory was wanting
+abbrev pub IsUnanswered : ℕ → ℕ → Bool → List ℕ → Outcome → Type 0
+IsUnanswered N P narrowed text (Plain answer) = answer ≡ Answer.Memory
+IsUnanswered N P narrowed text (Refused answer help) = IsRefusedWith N P narrowed text answer help
+IsUnanswered N P narrowed text outcome = ⊥
+
+-- of the program of a file: the file was not read whole, or its text is refused as `piperench` refuses it
+abbrev pub IsUntold : Told → AskedTarget → ℕ → ℕ → Outcome → Type 0
+IsUntold told target before now (Plain answer) = IsUnread most_program_bytes Cap.ProgramBytes told target.file before now answer
+IsUntold told target before now (Refused answer help) =
+    HasRefused most_program_bytes (λ text a. IsRefusedWith (columns target.fabric) (registers target.fabric) target.narrowed text a help) told target.file answer
+IsUntold told target before now outcome = ⊥

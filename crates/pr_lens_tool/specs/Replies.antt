@@ -1,15 +1,17 @@
 -- What is told of an answer to an order, with the name of the file.
-use Rattle.std.specs.Prelude.{◌≡◌, ℕ, Bool, List, [], ◌++◌, codes, if◌then◌else◌, Option, Some, None, option_and_then, option_map, IfOk, slice_get}
+use Rattle.std.specs.Prelude.{◌≡◌, ℕ, Bool, false, List, [], ◌++◌, codes, if◌then◌else◌, Option, Some, None, option_and_then, option_map, IfOk, slice_get}
 use Rattle.pr_base.specs.declared.caps.Cap.{Cap}
 use Rattle.pr_base.specs.declared.fabrics.Fabric.{Fabric}
 use Rattle.pr_tool_answers.specs.declared.answers.Answer.{Answer}
 use Rattle.pr_tool.specs.declared.notes.Bounds.{Bounds}
 use Rattle.pr_tool.specs.Notes.{note_of}
 use Rattle.pr_lens_tool.specs.declared.outcomes.Outcome.{Outcome}
-use Rattle.pr_lens_tool.specs.declared.outcomes.Outcome.TheVariants.{NoStream, Plain, Streamed}
+use Rattle.pr_lens_tool.specs.declared.outcomes.Outcome.TheVariants.{NoStream, Plain, Refused, Streamed}
 use Rattle.pr_lens_tool.specs.declared.outcomes.Reply.{Reply}
 use Rattle.pr_lens_tool.specs.Outcomes.{line_by, own_line}
 use Rattle.pr_lens_tool.specs.Asked.{Asked, AskedTarget, AskedTask, Bench, Signals, Whole}
+use Rattle.pr_lens_why.specs.declared.helps.Help.{Help}
+use Rattle.pr_lens_why.specs.Helps.{help_text}
 use Rattle.pr_lens_show.specs.Names.{name_text, word_of}
 use Rattle.pr_lens_tracks.specs.Names.{names_in}
 use Rattle.pr_lens_tool.specs.Programs.{bounds_for}
@@ -26,8 +28,13 @@ narrow_words narrowed = if narrowed then codes " --narrow" else []
 unfoldable pub why_line : AskedTarget → List ℕ
 why_line target = codes "`pipelens why " ++ word_of target.file ++ fabric_words target.fabric ++ narrow_words target.narrowed ++ codes "` tells more\n"
 
-abbrev pub refused_line : AskedTarget → Answer → List ℕ
-refused_line target answer = note_of (bounds_for target.fabric) answer ++ why_line target
+-- the answer, which options make it fit, and this call
+abbrev pub refused_line : AskedTarget → Answer → Help → List ℕ
+refused_line target answer help = note_of (bounds_for target.fabric) answer ++ help_text help ++ why_line target
+
+-- of a program that no option helps
+abbrev pub bare_line : AskedTarget → Answer → List ℕ
+bare_line target answer = refused_line target answer (record { narrow = false; wide = false })
 
 -- ---- a file that cannot be read
 abbrev pub fault_line : List ℕ → List ℕ
@@ -58,16 +65,17 @@ foreign_line task place = option_map stream_line (signed_at task place)
 -- ---- either; other answers have their own line
 abbrev pub answer_line : AskedTarget → Answer → Option (List ℕ)
 answer_line target Answer.ReadFault = Some (fault_line target.file)
-answer_line target (Answer.Syntax token) = Some (refused_line target (Answer.Syntax token))
-answer_line target (Answer.Scope rule item) = Some (refused_line target (Answer.Scope rule item))
-answer_line target (Answer.NoWidth equation) = Some (refused_line target (Answer.NoWidth equation))
-answer_line target (Answer.NoFit unit) = Some (refused_line target (Answer.NoFit unit))
+answer_line target (Answer.Syntax token) = Some (bare_line target (Answer.Syntax token))
+answer_line target (Answer.Scope rule item) = Some (bare_line target (Answer.Scope rule item))
+answer_line target (Answer.NoWidth equation) = Some (bare_line target (Answer.NoWidth equation))
+answer_line target (Answer.NoFit unit) = Some (bare_line target (Answer.NoFit unit))
 answer_line target (Answer.Limit Cap.ProgramBytes) = None
-answer_line target (Answer.Limit which) = Some (refused_line target (Answer.Limit which))
+answer_line target (Answer.Limit which) = Some (bare_line target (Answer.Limit which))
 answer_line target answer = None
 
 abbrev pub line_for : Asked → Outcome → Option (List ℕ)
 line_for asked (Plain answer) = answer_line asked.target answer
+line_for asked (Refused answer help) = Some (refused_line asked.target answer help)
 line_for asked (Streamed Answer.ReadFault) = option_map fault_line (samples_of asked.task)
 line_for asked (NoStream place) = foreign_line asked.task place
 line_for asked outcome = None

@@ -1,22 +1,22 @@
 //! The bench for the module of a program.
 
-ghost use Rattle.std.specs.Prelude.{◌≡◌, ◌≢◌, ◌≤◌, ◌⊎◌, ℕ, List, length, IfOk, IfErr, OnOk};
+ghost use Rattle.std.specs.Prelude.{◌≡◌, ◌≢◌, ◌≤◌, ℕ, List, length, IfOk, IfErr, OnOk};
 ghost use Rattle.pr_base.specs.Fabrics.{columns, registers};
 ghost use Rattle.pr_conf.specs.Configuration.{shape_of};
 ghost use Rattle.pr_tool_answers.specs.declared.answers.Answer.{Answer};
 ghost use Rattle.pr_tool_modes.specs.Files.{IsInOrder};
-ghost use Rattle.pr_tool_modes.specs.Programs.{IsUncompiled};
 ghost use Rattle.pr_lens_bench.specs.Reading.{IsFit};
 ghost use Rattle.pr_lens_bench.specs.Benches.{IsBench, IsUnbenched};
 ghost use Rattle.pr_lens_tool.specs.declared.outcomes.Outcome.TheVariants.{Plain};
 ghost use Rattle.pr_lens_tool.specs.Asked.{target_in};
 ghost use Rattle.pr_lens_tool.specs.Outcomes.{Shows};
+ghost use Rattle.pr_lens_tool.specs.Programs.{IsUnanswered};
 ghost use Rattle.pr_lens_tool.specs.Benches.{IsBenchOf, IsNoBenchOf, IsPlan, IsPlanned, IsUntried};
 
 use crate::compiling::{Compilation, compilation_of};
 use crate::orders::Target;
 use crate::outcomes::{Outcome, Output};
-use crate::programs::answer_of;
+use crate::refusals::refusal_of;
 use pr_base::{Cap, Fabric};
 use pr_conf::Configuration;
 use pr_edge::Shelf;
@@ -52,7 +52,7 @@ fn planned<const N: usize, const P: usize>(
     name: &str,
     seed: u32,
     text: &[u8],
-) -> Result<Trial, Answer>
+) -> Result<Trial, Outcome>
     requires short { length text.now ≤ 1048576 }
     requires columns { 1 ≤ N }
     requires most_columns { N ≤ 64 }
@@ -61,11 +61,11 @@ fn planned<const N: usize, const P: usize>(
     ensures planned { IfOk result (λ t.
         IsPlanned N P narrowed name.now seed text.now t.front.scoped.program t.plan) }
     ensures fit { IfOk result IsFit }
-    ensures refused { IfErr result (λ a. IsUncompiled N P narrowed text.now a ⊎ (a ≡ Answer.Memory)) }
+    ensures refused { IfErr result (IsUnanswered N P narrowed text.now) }
 {
     let made = match compilation_of::<N, P>(alloc, text, narrowed) {
         Ok(made) => made,
-        Err(fault) => return Err(answer_of(&fault)),
+        Err(fault) => return Err(refusal_of::<N, P>(alloc, text, narrowed, &fault)),
     };
     let Compilation { front, conf } = made;
     let plan = plan_of::<N, P>(alloc, name, seed, &front.scoped.program, &conf)?;
@@ -79,14 +79,13 @@ fn planned_on(
     name: &str,
     seed: u32,
     text: &[u8],
-) -> Result<Trial, Answer>
+) -> Result<Trial, Outcome>
     requires { length text.now ≤ 1048576 }
     ensures planned { IfOk result (λ t. IsPlanned (columns target.now.fabric) (registers target.now.fabric)
         target.now.narrowed name.now seed text.now t.front.scoped.program t.plan) }
     ensures fit { IfOk result IsFit }
-    ensures refused { IfErr result (λ a.
-        IsUncompiled (columns target.now.fabric) (registers target.now.fabric) target.now.narrowed text.now a
-        ⊎ (a ≡ Answer.Memory)) }
+    ensures refused { IfErr result
+        (IsUnanswered (columns target.now.fabric) (registers target.now.fabric) target.now.narrowed text.now) }
 {
     match target.fabric {
         Fabric::Base => planned::<16, 8>(alloc, target.narrowed, name, seed, text),
@@ -104,16 +103,16 @@ fn tried<S: Shelf>(
     requires { IsFit trial.now }
     ensures well { IfOk result (λ o. o.outcome ≡ Plain Answer.Ok) }
     ensures made { IfOk result (λ o.
-        IsBench (S.told shelf.old) samples.now trial.now.front.scoped.program trial.now.plan o.text.items) }
+        IsBench (S.view shelf.old).told samples.now trial.now.front.scoped.program trial.now.plan o.text.items) }
     ensures refused { IfErr result (λ o. IsUntried
-        (IsUnbenched (S.told shelf.old) samples.now trial.now.front.scoped.program trial.now.plan
-        (S.faults shelf.old) (S.faults shelf.new)) o) }
-    ensures steady { OnOk result (S.faults shelf.new ≡ S.faults shelf.old) }
-    ensures shown { IfErr result (Shows (S.faults shelf.old) (S.faults shelf.new)) }
-    ensures later { S.faults shelf.old ≤ S.faults shelf.new }
-    ensures same { S.told shelf.new ≡ S.told shelf.old }
-    ensures once { IsInOrder (S.reach shelf.old samples.now) (S.reach shelf.new samples.now) }
-    ensures others { (q : List ℕ) → q ≢ samples.now → S.reach shelf.new q ≡ S.reach shelf.old q }
+        (IsUnbenched (S.view shelf.old).told samples.now trial.now.front.scoped.program trial.now.plan
+        (S.view shelf.old).faults (S.view shelf.new).faults) o) }
+    ensures steady { OnOk result ((S.view shelf.new).faults ≡ (S.view shelf.old).faults) }
+    ensures shown { IfErr result (Shows (S.view shelf.old).faults (S.view shelf.new).faults) }
+    ensures later { (S.view shelf.old).faults ≤ (S.view shelf.new).faults }
+    ensures same { (S.view shelf.new).told ≡ (S.view shelf.old).told }
+    ensures once { IsInOrder ((S.view shelf.old).reach samples.now) ((S.view shelf.new).reach samples.now) }
+    ensures others { (q : List ℕ) → q ≢ samples.now → (S.view shelf.new).reach q ≡ (S.view shelf.old).reach q }
 {
     match bench(alloc, trial, samples, shelf) {
         Ok(text) => Ok(Output {
@@ -137,28 +136,25 @@ pub fn bench_of<S: Shelf>(
 ) -> Result<Output, Outcome>
     ensures well { IfOk result (λ o. o.outcome ≡ Plain Answer.Ok) }
     ensures made { IfOk result (λ o.
-        IsBenchOf (S.told shelf.old) (target_in target.now) samples.now name.now seed o.text.items) }
-    ensures refused { IfErr result (IsNoBenchOf (S.told shelf.old) (target_in target.now) samples.now name.now seed
-        (S.faults shelf.old) (S.faults shelf.new)) }
-    ensures steady { OnOk result (S.faults shelf.new ≡ S.faults shelf.old) }
-    ensures shown { IfErr result (Shows (S.faults shelf.old) (S.faults shelf.new)) }
-    ensures later { S.faults shelf.old ≤ S.faults shelf.new }
-    ensures same { S.told shelf.new ≡ S.told shelf.old }
+        IsBenchOf (S.view shelf.old).told (target_in target.now) samples.now name.now seed o.text.items) }
+    ensures refused { IfErr result (IsNoBenchOf (S.view shelf.old).told (target_in target.now) samples.now name.now seed
+        (S.view shelf.old).faults (S.view shelf.new).faults) }
+    ensures steady { OnOk result ((S.view shelf.new).faults ≡ (S.view shelf.old).faults) }
+    ensures shown { IfErr result (Shows (S.view shelf.old).faults (S.view shelf.new).faults) }
+    ensures later { (S.view shelf.old).faults ≤ (S.view shelf.new).faults }
+    ensures same { (S.view shelf.new).told ≡ (S.view shelf.old).told }
 
     // A file that is not both the program and the samples is read in order, and no byte of it twice.
     ensures once { (q : List ℕ) → (q ≡ (target_in target.now).file → q ≢ samples.now)
-        → IsInOrder (S.reach shelf.old q) (S.reach shelf.new q) }
+        → IsInOrder ((S.view shelf.old).reach q) ((S.view shelf.new).reach q) }
     ensures others { (q : List ℕ) → q ≢ (target_in target.now).file → q ≢ samples.now
-        → S.reach shelf.new q ≡ S.reach shelf.old q }
+        → (S.view shelf.new).reach q ≡ (S.view shelf.old).reach q }
 {
     let most = Cap::MOST_PROGRAM_BYTES;
     let text = match read_file(alloc, shelf, target.file, most, Cap::ProgramBytes) {
         Ok(text) => text,
         Err(answer) => return Err(Outcome::Plain(answer)),
     };
-    let trial = match planned_on(alloc, target, name, seed, &text) {
-        Ok(trial) => trial,
-        Err(answer) => return Err(Outcome::Plain(answer)),
-    };
+    let trial = planned_on(alloc, target, name, seed, &text)?;
     tried(alloc, &trial, samples, shelf)
 }

@@ -4,9 +4,9 @@ ghost use Rattle.std.specs.Prelude.{◌≡◌, ◌≢◌, ◌≤◌, ◌+◌, �
 ghost use Rattle.pr_base.specs.Limits.{most_program_bytes};
 ghost use Rattle.pr_edge.specs.Files.{IsReadOnce};
 ghost use Rattle.pr_tool_answers.specs.declared.answers.Answer.{Answer};
-ghost use Rattle.pr_lens_signals.specs.Calls.{call};
+ghost use Rattle.pr_lens_signals.specs.Calls.{seen};
 ghost use Rattle.pr_lens_tool.specs.declared.outcomes.Outcome.TheVariants.{Plain};
-ghost use Rattle.pr_tool_modes.specs.Files.{IsInOrder, ShowsFault};
+ghost use Rattle.pr_tool_modes.specs.Files.{IsInOrder};
 ghost use Rattle.pr_lens_tool.specs.Asked.{Whole, asked_in, product_in, question_in, target_in};
 ghost use Rattle.pr_lens_tool.specs.Files.{IsOnce, IsOnceFile, IsOther, IsOtherFile};
 ghost use Rattle.pr_lens_tool.specs.Orders.{asked_by};
@@ -60,27 +60,31 @@ usage: pipelens TASK FILE [SAMPLES] [--fabric F] [--narrow] [--samples N] [--jso
                  `wave` and `chart` show the cycles from the first to the last of these numbers
 ";
 
-/// What is asked of the program of a file; else the answer to it.
+/// What is asked of the program of a file; else what the call comes to.
 fn of_file<S: Shelf>(
     alloc: Global,
     target: &Target,
     question: Question,
     shelf: &mut S,
-) -> Result<Output, Answer>
+) -> Result<Output, Outcome>
     ensures told { IfOk result (λ o. IsToldOf
-        (question_in question.entry) (S.told shelf.old) (target_in target.now) o.outcome o.text.items) }
+        (question_in question.entry) (S.view shelf.old).told (target_in target.now) o.outcome o.text.items) }
     ensures refused { IfErr result
-        (IsUntold (S.told shelf.old) (target_in target.now) (S.faults shelf.old) (S.faults shelf.new)) }
-    ensures steady { OnOk result (S.faults shelf.new ≡ S.faults shelf.old) }
-    ensures shown { IfErr result (ShowsFault (S.faults shelf.old) (S.faults shelf.new)) }
-    ensures later { S.faults shelf.old ≤ S.faults shelf.new }
-    ensures same { S.told shelf.new ≡ S.told shelf.old }
+        (IsUntold (S.view shelf.old).told (target_in target.now) (S.view shelf.old).faults (S.view shelf.new).faults) }
+    ensures steady { OnOk result ((S.view shelf.new).faults ≡ (S.view shelf.old).faults) }
+    ensures shown { IfErr result (Shows (S.view shelf.old).faults (S.view shelf.new).faults) }
+    ensures later { (S.view shelf.old).faults ≤ (S.view shelf.new).faults }
+    ensures same { (S.view shelf.new).told ≡ (S.view shelf.old).told }
     ensures once { IsReadOnce (most_program_bytes + 4096)
-        (S.reach shelf.old (target_in target.now).file) (S.reach shelf.new (target_in target.now).file) }
-    ensures others { (q : List ℕ) → q ≢ (target_in target.now).file → S.reach shelf.new q ≡ S.reach shelf.old q }
+        ((S.view shelf.old).reach (target_in target.now).file) ((S.view shelf.new).reach (target_in target.now).file) }
+    ensures others { (q : List ℕ) → q ≢ (target_in target.now).file → (S.view shelf.new).reach q
+        ≡ (S.view shelf.old).reach q }
 {
     let most = Cap::MOST_PROGRAM_BYTES;
-    let text = read_file(alloc, shelf, target.file, most, Cap::ProgramBytes)?;
+    let text = match read_file(alloc, shelf, target.file, most, Cap::ProgramBytes) {
+        Ok(text) => text,
+        Err(answer) => return Err(Outcome::Plain(answer)),
+    };
     match target.fabric {
         Fabric::Base => of_program::<16, 8>(alloc, target, question, &text),
         Fabric::Wide => of_program::<32, 16>(alloc, target, question, &text),
@@ -95,23 +99,20 @@ fn made<S: Shelf>(
     shelf: &mut S,
 ) -> Result<Output, Outcome>
     ensures made { IfOk result (λ o.
-        IsMade (product_in product.entry) (S.told shelf.old) (target_in target.now) o.outcome o.text.items) }
+        IsMade (product_in product.entry) (S.view shelf.old).told (target_in target.now) o.outcome o.text.items) }
     ensures unmade { IfErr result (IsUnmade (product_in product.entry)
-        (S.told shelf.old) (target_in target.now) (S.faults shelf.old) (S.faults shelf.new)) }
-    ensures steady { OnOk result (S.faults shelf.new ≡ S.faults shelf.old) }
-    ensures shown { IfErr result (Shows (S.faults shelf.old) (S.faults shelf.new)) }
-    ensures later { S.faults shelf.old ≤ S.faults shelf.new }
-    ensures same { S.told shelf.new ≡ S.told shelf.old }
+        (S.view shelf.old).told (target_in target.now) (S.view shelf.old).faults (S.view shelf.new).faults) }
+    ensures steady { OnOk result ((S.view shelf.new).faults ≡ (S.view shelf.old).faults) }
+    ensures shown { IfErr result (Shows (S.view shelf.old).faults (S.view shelf.new).faults) }
+    ensures later { (S.view shelf.old).faults ≤ (S.view shelf.new).faults }
+    ensures same { (S.view shelf.new).told ≡ (S.view shelf.old).told }
     ensures once { (q : List ℕ) → IsOnceFile (Whole (product_in product.entry)) (target_in target.now) q
-        → IsInOrder (S.reach shelf.old q) (S.reach shelf.new q) }
+        → IsInOrder ((S.view shelf.old).reach q) ((S.view shelf.new).reach q) }
     ensures others { (q : List ℕ) → IsOtherFile (Whole (product_in product.entry)) (target_in target.now) q
-        → S.reach shelf.new q ≡ S.reach shelf.old q }
+        → (S.view shelf.new).reach q ≡ (S.view shelf.old).reach q }
 {
     match product {
-        Product::OfProgram(question) => match of_file(alloc, target, question, shelf) {
-            Ok(output) => Ok(output),
-            Err(answer) => Err(Outcome::Plain(answer)),
-        },
+        Product::OfProgram(question) => of_file(alloc, target, question, shelf),
         Product::OfLog { drawing, window } => of_log(alloc, drawing, window, shelf, target.file),
         Product::Bench {
             samples,
@@ -123,9 +124,9 @@ fn made<S: Shelf>(
 
 /// Writes a text whole; what the call comes to, where that is this outcome unless a write fails.
 fn written<K: Sink>(out: &mut K, text: &[u8], outcome: Outcome) -> Outcome
-    ensures written { IsWritten (K.told out.old) (K.told out.new) (K.faults out.old) (K.faults out.new)
-        text.now outcome result }
-    ensures later { K.faults out.old ≤ K.faults out.new }
+    ensures written { IsWritten (K.view out.old).told (K.view out.new).told (K.view out.old).faults
+        (K.view out.new).faults text.now outcome result }
+    ensures later { (K.view out.old).faults ≤ (K.view out.new).faults }
 {
     match write_all(out, text) {
         Ok(()) => outcome,
@@ -135,17 +136,16 @@ fn written<K: Sink>(out: &mut K, text: &[u8], outcome: Outcome) -> Outcome
 
 /// Does what is asked for, and says what it comes to.
 fn follow<S: Shelf, K: Sink>(alloc: Global, order: &Order, shelf: &mut S, out: &mut K) -> Outcome
-    ensures followed { IsFollowed (asked_in order.now) (call
-        (S.told shelf.old) (S.faults shelf.old) (S.faults shelf.new)
-        (K.told out.old) (K.told out.new) (K.faults out.old) (K.faults out.new)) result }
-    ensures shown { Shows (S.faults shelf.old) (S.faults shelf.new) result }
-    ensures told { S.told shelf.new ≡ S.told shelf.old }
-    ensures shelf_later { S.faults shelf.old ≤ S.faults shelf.new }
-    ensures out_later { K.faults out.old ≤ K.faults out.new }
+    ensures followed { IsFollowed (asked_in order.now)
+        (seen (S.view shelf.old) (S.view shelf.new) (K.view out.old) (K.view out.new)) result }
+    ensures shown { Shows (S.view shelf.old).faults (S.view shelf.new).faults result }
+    ensures told { (S.view shelf.new).told ≡ (S.view shelf.old).told }
+    ensures shelf_later { (S.view shelf.old).faults ≤ (S.view shelf.new).faults }
+    ensures out_later { (K.view out.old).faults ≤ (K.view out.new).faults }
     ensures once { (q : List ℕ) → IsOnceFile (asked_in order.now).task (asked_in order.now).target q
-        → IsInOrder (S.reach shelf.old q) (S.reach shelf.new q) }
+        → IsInOrder ((S.view shelf.old).reach q) ((S.view shelf.new).reach q) }
     ensures others { (q : List ℕ) → IsOtherFile (asked_in order.now).task (asked_in order.now).target q
-        → S.reach shelf.new q ≡ S.reach shelf.old q }
+        → (S.view shelf.new).reach q ≡ (S.view shelf.old).reach q }
 {
     match order.task {
         Task::Signals { samples, style } => {
@@ -169,23 +169,23 @@ pub fn pipelens<S: Shelf, K: Sink>(
 ) -> Reply
     // Lawful words are followed: what they ask for is written whole, unless a write fails, or nothing is, for its cause.
     // Other words get the help where they ask for it, and are refused where they do not. Memory may want in any call.
-    ensures called { IsCalled words.now (call
-        (S.told shelf.old) (S.faults shelf.old) (S.faults shelf.new)
-        (K.told out.old) (K.told out.new) (K.faults out.old) (K.faults out.new)) result.outcome }
+    ensures called { IsCalled words.now
+        (seen (S.view shelf.old) (S.view shelf.new) (K.view out.old) (K.view out.new)) result.outcome }
     // A line that is told in place of an answer's own names the file. It is left out for want of memory alone.
     ensures line { HasLine (asked_by words.now) result }
     // The outcome's own line tells the limits of what was asked for.
     ensures own { HasOwnLine (asked_by words.now) result }
     // A failed read is not kept quiet: the outcome is a read fault, or the count is as it was.
-    ensures shown { Shows (S.faults shelf.old) (S.faults shelf.new) result.outcome }
+    ensures shown { Shows (S.view shelf.old).faults (S.view shelf.new).faults result.outcome }
     // A file that is named once is read in order, and no byte of it twice, so that a pipe serves as well.
     ensures once { (q : List ℕ) → IsOnce (asked_by words.now) q
-        → IsInOrder (S.reach shelf.old q) (S.reach shelf.new q) }
+        → IsInOrder ((S.view shelf.old).reach q) ((S.view shelf.new).reach q) }
     // Only the files that are named are read.
-    ensures other_files { (q : List ℕ) → IsOther (asked_by words.now) q → S.reach shelf.new q ≡ S.reach shelf.old q }
-    ensures told { S.told shelf.new ≡ S.told shelf.old }
-    ensures shelf_later { S.faults shelf.old ≤ S.faults shelf.new }
-    ensures out_later { K.faults out.old ≤ K.faults out.new }
+    ensures other_files { (q : List ℕ) → IsOther (asked_by words.now) q → (S.view shelf.new).reach q
+        ≡ (S.view shelf.old).reach q }
+    ensures told { (S.view shelf.new).told ≡ (S.view shelf.old).told }
+    ensures shelf_later { (S.view shelf.old).faults ≤ (S.view shelf.new).faults }
+    ensures out_later { (K.view out.old).faults ≤ (K.view out.new).faults }
 {
     match read_order(alloc, words) {
         Ok(order) => {

@@ -10,6 +10,7 @@ mod logs;
 mod orders;
 mod outcomes;
 mod programs;
+mod refusals;
 mod replies;
 mod rtl;
 mod signals;

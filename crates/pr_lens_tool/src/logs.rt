@@ -30,25 +30,25 @@ fn read_more<S: Shelf>(
     name: &str,
     place: u64,
 ) -> Result<usize, Outcome>
-    requires read { IsReadTo (S.told shelf.old) name.now place reader.old }
+    requires read { IsReadTo (S.view shelf.old).told name.now place reader.old }
     requires room { HasRoom reader.old 4096 }
-    ensures read { IfOk result (λ count. IsReadTo (S.told shelf.old) name.now (place + count) reader.new) }
+    ensures read { IfOk result (λ count. IsReadTo (S.view shelf.old).told name.now (place + count) reader.new) }
     ensures end { IfOk result (λ count. count ≡ 0
-        → OfFile (S.told shelf.old) name.now (λ file. length file ≤ place)) }
-    ensures there { IfOk result (λ count. IsMissing (S.told shelf.old) name.now → ⊥) }
+        → OfFile (S.view shelf.old).told name.now (λ file. length file ≤ place)) }
+    ensures there { IfOk result (λ count. IsMissing (S.view shelf.old).told name.now → ⊥) }
     ensures few { IfOk result (λ count. count ≤ 4096) }
     ensures room { IfOk result (λ count. (more : ℕ) → HasRoom reader.old (more + count) → HasRoom reader.new more) }
     ensures refused { IfErr result
-        (IsNoLog (S.told shelf.old) name.now (S.faults shelf.old) (S.faults shelf.new)) }
+        (IsNoLog (S.view shelf.old).told name.now (S.view shelf.old).faults (S.view shelf.new).faults) }
     ensures choice { IfOk result (λ count. choice_in reader.new ≡ choice_in reader.old) }
-    ensures steady { OnOk result (S.faults shelf.new ≡ S.faults shelf.old) }
-    ensures shown { IfErr result (Shows (S.faults shelf.old) (S.faults shelf.new)) }
-    ensures later { S.faults shelf.old ≤ S.faults shelf.new }
-    ensures same { S.told shelf.new ≡ S.told shelf.old }
-    ensures reached { IfOk result (λ count. S.reach shelf.old name.now ≡ Some place
-        → S.reach shelf.new name.now ≡ Some (place + count)) }
-    ensures once { IsReadOnFrom place (S.reach shelf.old name.now) (S.reach shelf.new name.now) }
-    ensures others { (q : List ℕ) → q ≢ name.now → S.reach shelf.new q ≡ S.reach shelf.old q }
+    ensures steady { OnOk result ((S.view shelf.new).faults ≡ (S.view shelf.old).faults) }
+    ensures shown { IfErr result (Shows (S.view shelf.old).faults (S.view shelf.new).faults) }
+    ensures later { (S.view shelf.old).faults ≤ (S.view shelf.new).faults }
+    ensures same { (S.view shelf.new).told ≡ (S.view shelf.old).told }
+    ensures reached { IfOk result (λ count. (S.view shelf.old).reach name.now ≡ Some place
+        → (S.view shelf.new).reach name.now ≡ Some (place + count)) }
+    ensures once { IsReadOnFrom place ((S.view shelf.old).reach name.now) ((S.view shelf.new).reach name.now) }
+    ensures others { (q : List ℕ) → q ≢ name.now → (S.view shelf.new).reach q ≡ (S.view shelf.old).reach q }
 {
     let mut piece = [0u8; 4096];
     match shelf.read_at(name, place, &mut piece) {
@@ -62,19 +62,20 @@ fn read_more<S: Shelf>(
 
 /// Reads the file of a log to its end; else what the call comes to.
 fn read_file<S: Shelf>(reader: &mut Reader, shelf: &mut S, name: &str) -> Result<(), Outcome>
-    requires read { IsReadTo (S.told shelf.old) name.now 0 reader.old }
+    requires read { IsReadTo (S.view shelf.old).told name.now 0 reader.old }
     requires room { HasRoom reader.old (2 ^ 45) }
-    ensures read { OnOk result (HasShortText (S.told shelf.old) name.now (λ text. HasRead text reader.new)) }
+    ensures read { OnOk result (HasShortText (S.view shelf.old).told name.now (λ text. HasRead text reader.new)) }
     ensures room { OnOk result (HasRoom reader.new 1) }
     ensures refused { IfErr result
-        (IsNoLog (S.told shelf.old) name.now (S.faults shelf.old) (S.faults shelf.new)) }
+        (IsNoLog (S.view shelf.old).told name.now (S.view shelf.old).faults (S.view shelf.new).faults) }
     ensures choice { OnOk result (choice_in reader.new ≡ choice_in reader.old) }
-    ensures steady { OnOk result (S.faults shelf.new ≡ S.faults shelf.old) }
-    ensures shown { IfErr result (Shows (S.faults shelf.old) (S.faults shelf.new)) }
-    ensures later { S.faults shelf.old ≤ S.faults shelf.new }
-    ensures same { S.told shelf.new ≡ S.told shelf.old }
-    ensures once { IsReadOnce (most_log_bytes + 4096) (S.reach shelf.old name.now) (S.reach shelf.new name.now) }
-    ensures others { (q : List ℕ) → q ≢ name.now → S.reach shelf.new q ≡ S.reach shelf.old q }
+    ensures steady { OnOk result ((S.view shelf.new).faults ≡ (S.view shelf.old).faults) }
+    ensures shown { IfErr result (Shows (S.view shelf.old).faults (S.view shelf.new).faults) }
+    ensures later { (S.view shelf.old).faults ≤ (S.view shelf.new).faults }
+    ensures same { (S.view shelf.new).told ≡ (S.view shelf.old).told }
+    ensures once { IsReadOnce (most_log_bytes + 4096) ((S.view shelf.old).reach name.now)
+        ((S.view shelf.new).reach name.now) }
+    ensures others { (q : List ℕ) → q ≢ name.now → (S.view shelf.new).reach q ≡ (S.view shelf.old).reach q }
 {
     let mut place: u64 = 0;
     while place <= LOG {
@@ -108,15 +109,16 @@ fn log_of<S: Shelf>(
     shelf: &mut S,
     name: &str,
 ) -> Result<Log, Outcome>
-    ensures read { IfOk result (HasLog (choice_of drawing window) (S.told shelf.old) name.now) }
+    ensures read { IfOk result (HasLog (choice_of drawing window) (S.view shelf.old).told name.now) }
     ensures refused { IfErr result
-        (IsNoLog (S.told shelf.old) name.now (S.faults shelf.old) (S.faults shelf.new)) }
-    ensures steady { OnOk result (S.faults shelf.new ≡ S.faults shelf.old) }
-    ensures shown { IfErr result (Shows (S.faults shelf.old) (S.faults shelf.new)) }
-    ensures later { S.faults shelf.old ≤ S.faults shelf.new }
-    ensures same { S.told shelf.new ≡ S.told shelf.old }
-    ensures once { IsReadOnce (most_log_bytes + 4096) (S.reach shelf.old name.now) (S.reach shelf.new name.now) }
-    ensures others { (q : List ℕ) → q ≢ name.now → S.reach shelf.new q ≡ S.reach shelf.old q }
+        (IsNoLog (S.view shelf.old).told name.now (S.view shelf.old).faults (S.view shelf.new).faults) }
+    ensures steady { OnOk result ((S.view shelf.new).faults ≡ (S.view shelf.old).faults) }
+    ensures shown { IfErr result (Shows (S.view shelf.old).faults (S.view shelf.new).faults) }
+    ensures later { (S.view shelf.old).faults ≤ (S.view shelf.new).faults }
+    ensures same { (S.view shelf.new).told ≡ (S.view shelf.old).told }
+    ensures once { IsReadOnce (most_log_bytes + 4096) ((S.view shelf.old).reach name.now)
+        ((S.view shelf.new).reach name.now) }
+    ensures others { (q : List ℕ) → q ≢ name.now → (S.view shelf.new).reach q ≡ (S.view shelf.old).reach q }
 {
     let mut reader = Reader::make(alloc, choice_of(drawing, window))?;
     read_file(&mut reader, shelf, name)?;
@@ -157,20 +159,21 @@ pub fn of_log<S: Shelf>(
     name: &str,
 ) -> Result<Output, Outcome>
     ensures well { IfOk result (λ o. o.outcome ≡ Plain Answer.Ok) }
-    ensures drawn { IfOk result (λ o. IsDrawing drawing window (S.told shelf.old) name.now o.text.items) }
+    ensures drawn { IfOk result (λ o. IsDrawing drawing window (S.view shelf.old).told name.now o.text.items) }
     ensures refused { IfErr result
-        (IsUndrawn window (S.told shelf.old) name.now (S.faults shelf.old) (S.faults shelf.new)) }
+        (IsUndrawn window (S.view shelf.old).told name.now (S.view shelf.old).faults (S.view shelf.new).faults) }
 
     // A read that fails is not tried again: it ends with ReadFault.
-    ensures steady { OnOk result (S.faults shelf.new ≡ S.faults shelf.old) }
-    ensures shown { IfErr result (Shows (S.faults shelf.old) (S.faults shelf.new)) }
+    ensures steady { OnOk result ((S.view shelf.new).faults ≡ (S.view shelf.old).faults) }
+    ensures shown { IfErr result (Shows (S.view shelf.old).faults (S.view shelf.new).faults) }
 
-    ensures later { S.faults shelf.old ≤ S.faults shelf.new }
-    ensures same { S.told shelf.new ≡ S.told shelf.old }
+    ensures later { (S.view shelf.old).faults ≤ (S.view shelf.new).faults }
+    ensures same { (S.view shelf.new).told ≡ (S.view shelf.old).told }
 
     // The file is read in order and each byte of it once, at most 4,096 past the limit.
-    ensures once { IsReadOnce (most_log_bytes + 4096) (S.reach shelf.old name.now) (S.reach shelf.new name.now) }
-    ensures others { (q : List ℕ) → q ≢ name.now → S.reach shelf.new q ≡ S.reach shelf.old q }
+    ensures once { IsReadOnce (most_log_bytes + 4096) ((S.view shelf.old).reach name.now)
+        ((S.view shelf.new).reach name.now) }
+    ensures others { (q : List ℕ) → q ≢ name.now → (S.view shelf.new).reach q ≡ (S.view shelf.old).reach q }
 {
     let log = log_of(alloc, drawing, window, shelf, name)?;
     if log.excerpt.part.is_empty() {

@@ -8,6 +8,7 @@ use arrayvec::ArrayString;
 use itoa::Buffer;
 use pr_edge::{Sink, write_all};
 use pr_lens_log::LogFault;
+use pr_lens_why::Help;
 use pr_tool::{Answer, Bounds, put_note};
 use std::alloc::AllocError;
 
@@ -16,6 +17,8 @@ use std::alloc::AllocError;
 pub enum Outcome {
     /// As `piperench` answers.
     Plain(Answer),
+    /// A program is refused, as `piperench` refuses it, and these options make it fit.
+    Refused { answer: Answer, help: Help },
     /// The same, and what was written explains it.
     Explained(Answer),
     /// As `piperench` answers, of samples on which streams are told or a bench is made.
@@ -80,7 +83,7 @@ impl Outcome {
     {
         match self {
             Outcome::Plain(answer) | Outcome::Explained(answer) => answer.status(),
-            Outcome::Streamed(answer) => answer.status(),
+            Outcome::Streamed(answer) | Outcome::Refused { answer, help: _ } => answer.status(),
             Outcome::Usage | Outcome::NoStream { .. } => 2,
             Outcome::BadLog { .. } | Outcome::NoCycle | Outcome::Unshown { .. } => 15,
             Outcome::LongLog | Outcome::LongModule | Outcome::LongBench => 6,
@@ -116,8 +119,9 @@ fn unshown(first: u64, last: u64) -> ArrayString<96>
 
 /// Writes these bytes. A failure is of no account.
 fn put_bytes<E: Sink>(note: &mut E, bytes: &[u8])
-    ensures gains { GainsNote (E.told note.old) (E.told note.new) (E.faults note.old) (E.faults note.new) bytes.now }
-    ensures later { E.faults note.old ≤ E.faults note.new }
+    ensures gains { GainsNote (E.view note.old).told (E.view note.new).told (E.view note.old).faults
+        (E.view note.new).faults bytes.now }
+    ensures later { (E.view note.old).faults ≤ (E.view note.new).faults }
 {
     match write_all(note, bytes) {
         Ok(()) => {}
@@ -128,9 +132,9 @@ fn put_bytes<E: Sink>(note: &mut E, bytes: &[u8])
 impl Reply {
     /// Writes the line that is told beside what is written, where there is one. A failure of it is of no account.
     pub fn put_note<E: Sink>(&self, note: &mut E)
-        ensures gains { GainsNote (E.told note.old) (E.told note.new) (E.faults note.old) (E.faults note.new)
-            (line_of self.now) }
-        ensures later { E.faults note.old ≤ E.faults note.new }
+        ensures gains { GainsNote (E.view note.old).told (E.view note.new).told (E.view note.old).faults
+            (E.view note.new).faults (line_of self.now) }
+        ensures later { (E.view note.old).faults ≤ (E.view note.new).faults }
     {
         match &self.line {
             Ok(Some(line)) => put_bytes(note, line),
@@ -140,14 +144,15 @@ impl Reply {
 
     /// Writes the line of the outcome itself, where there is one.
     fn put_own<E: Sink>(&self, note: &mut E)
-        ensures gains { GainsNote (E.told note.old) (E.told note.new) (E.faults note.old) (E.faults note.new)
-            (own_line self.now) }
-        ensures later { E.faults note.old ≤ E.faults note.new }
+        ensures gains { GainsNote (E.view note.old).told (E.view note.new).told (E.view note.old).faults
+            (E.view note.new).faults (own_line self.now) }
+        ensures later { (E.view note.old).faults ≤ (E.view note.new).faults }
     {
         match self.outcome {
             Outcome::Plain(answer) | Outcome::Streamed(answer) => {
                 put_note(note, &self.bounds, &answer);
             }
+            Outcome::Refused { answer, help: _ } => put_note(note, &self.bounds, &answer),
             Outcome::Explained(_) => {}
             Outcome::Usage => put_bytes(note, USAGE.as_bytes()),
             Outcome::BadLog { line } => {

@@ -1,15 +1,14 @@
 //! What is made of programs.
 
-ghost use Rattle.std.specs.Prelude.{◌≡◌, ◌≤◌, ◌⊎◌, length, IfOk, IfErr};
-ghost use Rattle.pr_tool_answers.specs.declared.answers.Answer.{Answer};
-ghost use Rattle.pr_tool_modes.specs.Programs.{compile_answer, IsUncompiled};
+ghost use Rattle.std.specs.Prelude.{◌≡◌, ◌≤◌, length, IfOk, IfErr};
 ghost use Rattle.pr_lens_why.specs.Verdicts.{IsPointing};
 ghost use Rattle.pr_lens_tool.specs.Asked.{Cost as AskCost, Graph, Why, question_in, target_in};
-ghost use Rattle.pr_lens_tool.specs.Programs.{AreSavings, IsExplanation, IsTold, bounds_for, savings_in};
+ghost use Rattle.pr_lens_tool.specs.Programs.{AreSavings, IsExplanation, IsTold, IsUnanswered, bounds_for, savings_in};
 
 use crate::accepted::accepted;
 use crate::orders::{Question, Target};
 use crate::outcomes::{Outcome, Output};
+use crate::refusals::refusal_of;
 use crate::rtl::rtl_of;
 use pr_base::Fabric;
 use pr_compile::CompileFault;
@@ -18,21 +17,8 @@ use pr_lens_graph::{graph, layout_of};
 use pr_lens_show::{Finding, Severity, put_as};
 use pr_lens_why::{Explanation, Verdict, explain, put_code};
 use pr_tool::{Answer, Bounds, note_line};
+use pr_tool_modes::compile_answer;
 use std::alloc::{AllocError, Global};
-
-/// The answer that a fault of a text is.
-pub fn answer_of(fault: &CompileFault) -> Answer
-    ensures { result ≡ compile_answer fault.now }
-{
-    match *fault {
-        CompileFault::Syntax { token } => Answer::Syntax { token },
-        CompileFault::Scope { rule, item } => Answer::Scope { rule, item },
-        CompileFault::NoWidth { equation } => Answer::NoWidth { equation },
-        CompileFault::NoFit { unit } => Answer::NoFit { unit },
-        CompileFault::Limit(which) => Answer::Limit { which },
-        CompileFault::Memory(_) => Answer::Memory,
-    }
-}
 
 /// The limits for programs on a fabric.
 pub fn bounds_of(fabric: Fabric) -> Bounds
@@ -81,7 +67,7 @@ fn why<const N: usize, const P: usize>(
     json: bool,
     warnings: bool,
     text: &[u8],
-) -> Result<Output, Answer>
+) -> Result<Output, Outcome>
     requires short { length text.now ≤ 1048576 }
     requires columns { 1 ≤ N }
     requires most_columns { N ≤ 64 }
@@ -89,7 +75,7 @@ fn why<const N: usize, const P: usize>(
     requires most_registers { P ≤ 16 }
     ensures told { IfOk result (λ o.
         IsTold (Why json warnings) N P (target_in target.now) text.now o.outcome o.text.items) }
-    ensures refused { IfErr result (λ a. a ≡ Answer.Memory) }
+    ensures refused { IfErr result (IsUnanswered N P target.now.narrowed text.now) }
 {
     match explain::<N, P>(alloc, text, target.narrowed)? {
         Verdict::Accepted => Ok(Output {
@@ -97,7 +83,7 @@ fn why<const N: usize, const P: usize>(
             outcome: Outcome::Plain(Answer::Ok),
         }),
         Verdict::Refused(explanation) => {
-            let answer = answer_of(&explanation.fault);
+            let answer = compile_answer(&explanation.fault);
             Ok(Output {
                 text: explained(alloc, target, json, text, &explanation, &answer)?,
                 outcome: Outcome::Explained(answer),
@@ -148,7 +134,7 @@ fn cost<const N: usize, const P: usize>(
     json: bool,
     samples: u32,
     text: &[u8],
-) -> Result<Output, Answer>
+) -> Result<Output, Outcome>
     requires short { length text.now ≤ 1048576 }
     requires columns { 1 ≤ N }
     requires most_columns { N ≤ 64 }
@@ -156,7 +142,7 @@ fn cost<const N: usize, const P: usize>(
     requires most_registers { P ≤ 16 }
     ensures told { IfOk result (λ o.
         IsTold (AskCost json samples) N P (target_in target.now) text.now o.outcome o.text.items) }
-    ensures refused { IfErr result (λ a. IsUncompiled N P target.now.narrowed text.now a ⊎ (a ≡ Answer.Memory)) }
+    ensures refused { IfErr result (IsUnanswered N P target.now.narrowed text.now) }
 {
     match cost_of::<N, P>(alloc, text, target.narrowed) {
         Ok(cost) => {
@@ -171,7 +157,7 @@ fn cost<const N: usize, const P: usize>(
                 outcome: Outcome::Plain(Answer::Ok),
             })
         }
-        Err(fault) => Err(answer_of(&fault)),
+        Err(fault) => Err(refusal_of::<N, P>(alloc, text, target.narrowed, &fault)),
     }
 }
 
@@ -180,21 +166,21 @@ fn units<const N: usize, const P: usize>(
     alloc: Global,
     target: &Target,
     text: &[u8],
-) -> Result<Output, Answer>
+) -> Result<Output, Outcome>
     requires short { length text.now ≤ 1048576 }
     requires columns { 1 ≤ N }
     requires most_columns { N ≤ 64 }
     requires registers { 2 ≤ P }
     requires most_registers { P ≤ 16 }
     ensures told { IfOk result (λ o. IsTold Graph N P (target_in target.now) text.now o.outcome o.text.items) }
-    ensures refused { IfErr result (λ a. IsUncompiled N P target.now.narrowed text.now a ⊎ (a ≡ Answer.Memory)) }
+    ensures refused { IfErr result (IsUnanswered N P target.now.narrowed text.now) }
 {
     match layout_of::<N, P>(alloc, text, target.narrowed) {
         Ok(layout) => Ok(Output {
             text: graph(alloc, &layout)?,
             outcome: Outcome::Plain(Answer::Ok),
         }),
-        Err(fault) => Err(answer_of(&fault)),
+        Err(fault) => Err(refusal_of::<N, P>(alloc, text, target.narrowed, &fault)),
     }
 }
 
@@ -204,7 +190,7 @@ pub fn of_program<const N: usize, const P: usize>(
     target: &Target,
     question: Question,
     text: &[u8],
-) -> Result<Output, Answer>
+) -> Result<Output, Outcome>
     requires short { length text.now ≤ 1048576 }
     requires columns { 1 ≤ N }
     requires most_columns { N ≤ 64 }
@@ -212,7 +198,7 @@ pub fn of_program<const N: usize, const P: usize>(
     requires most_registers { P ≤ 16 }
     ensures told { IfOk result (λ o.
         IsTold (question_in question.entry) N P (target_in target.now) text.now o.outcome o.text.items) }
-    ensures refused { IfErr result (λ a. IsUncompiled N P target.now.narrowed text.now a ⊎ (a ≡ Answer.Memory)) }
+    ensures refused { IfErr result (IsUnanswered N P target.now.narrowed text.now) }
 {
     match question {
         Question::Why { json, warnings } => why::<N, P>(alloc, target, json, warnings, text),

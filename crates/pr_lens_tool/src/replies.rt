@@ -4,7 +4,7 @@ ghost use Rattle.std.specs.Prelude.{◌≡◌, ◌++◌, Ok, None, option_map, I
 ghost use Rattle.pr_base.specs.declared.fabrics.Fabric.{Fabric};
 ghost use Rattle.pr_lens_tool.specs.Asked.{asked_in, target_in, task_in};
 ghost use Rattle.pr_lens_tool.specs.Programs.{bounds_for};
-ghost use Rattle.pr_lens_tool.specs.Replies.{answer_line, fabric_words, fault_line, foreign_line, line_for, narrow_words, refused_line, samples_of, signed_at, signed_of, stream_line, why_line};
+ghost use Rattle.pr_lens_tool.specs.Replies.{answer_line, bare_line, fabric_words, fault_line, foreign_line, line_for, narrow_words, refused_line, samples_of, signed_at, signed_of, stream_line, why_line};
 
 use crate::orders::{Order, Product, Target, Task};
 use crate::outcomes::{Outcome, Reply};
@@ -13,6 +13,7 @@ use pr_base::{Cap, Fabric};
 use pr_lens_show::{put_name, put_word};
 use pr_lens_text::put;
 use pr_lens_tracks::name_at;
+use pr_lens_why::{Help, put_help};
 use pr_tool::{Answer, Bounds, note_line};
 use std::alloc::{AllocError, Global};
 
@@ -44,15 +45,28 @@ fn put_why(line: &mut Vec<u8>, target: &Target) -> Result<(), AllocError>
     put(line, "` tells more\n")
 }
 
-/// The line for a program that is refused, and which call tells more.
-fn refused_line(alloc: Global, target: &Target, answer: &Answer) -> Result<Vec<u8>, AllocError>
-    ensures { IfOk result (λ line. line.items ≡ refused_line (target_in target.now) answer.now) }
+/// The line for a program that is refused, those for the options that make it fit, and which call tells more.
+fn refused_line(
+    alloc: Global,
+    target: &Target,
+    answer: Answer,
+    help: &Help,
+) -> Result<Vec<u8>, AllocError>
+    ensures { IfOk result (λ line. line.items ≡ refused_line (target_in target.now) answer help.now) }
 {
     let bounds = bounds_of(target.fabric);
-    let note = note_line(&bounds, answer);
+    let note = note_line(&bounds, &answer);
     let mut line = Vec::from_slice(alloc, note.as_bytes())?;
+    put_help(&mut line, help)?;
     put_why(&mut line, target)?;
     Ok(line)
+}
+
+/// The line for a program that no option helps, and which call tells more.
+fn bare_line(alloc: Global, target: &Target, answer: Answer) -> Result<Vec<u8>, AllocError>
+    ensures { IfOk result (λ line. line.items ≡ bare_line (target_in target.now) answer) }
+{
+    refused_line(alloc, target, answer, &Help::NONE)
 }
 
 /// The line for a file that cannot be read.
@@ -115,15 +129,15 @@ fn answer_line(
     match answer {
         Answer::ReadFault => Ok(Some(fault_line(alloc, target.file)?)),
         Answer::Syntax { token: _ } | Answer::Scope { rule: _, item: _ } => {
-            Ok(Some(refused_line(alloc, target, &answer)?))
+            Ok(Some(bare_line(alloc, target, answer)?))
         }
         Answer::NoWidth { equation: _ } | Answer::NoFit { unit: _ } => {
-            Ok(Some(refused_line(alloc, target, &answer)?))
+            Ok(Some(bare_line(alloc, target, answer)?))
         }
         Answer::Limit {
             which: Cap::ProgramBytes,
         } => Ok(None),
-        Answer::Limit { which: _ } => Ok(Some(refused_line(alloc, target, &answer)?)),
+        Answer::Limit { which: _ } => Ok(Some(bare_line(alloc, target, answer)?)),
         _ => Ok(None),
     }
 }
@@ -166,6 +180,9 @@ fn line_for(alloc: Global, order: &Order, outcome: Outcome) -> Result<Option<Vec
 {
     match outcome {
         Outcome::Plain(answer) => answer_line(alloc, &order.target, answer),
+        Outcome::Refused { answer, help } => {
+            Ok(Some(refused_line(alloc, &order.target, answer, &help)?))
+        }
         Outcome::Streamed(Answer::ReadFault) => samples_line(alloc, order.task),
         Outcome::NoStream { place } => foreign_line(alloc, order.task, place),
         _ => Ok(None),

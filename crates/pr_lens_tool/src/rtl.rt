@@ -1,14 +1,15 @@
 //! The module of a program, in Verilog.
 
-ghost use Rattle.std.specs.Prelude.{◌≡◌, ◌≤◌, ◌⊎◌, length, IfOk, IfErr};
+ghost use Rattle.std.specs.Prelude.{◌≡◌, ◌≤◌, length, IfOk, IfErr};
 ghost use Rattle.pr_conf.specs.Configuration.{shape_of};
 ghost use Rattle.pr_tool_answers.specs.declared.answers.Answer.{Answer};
-ghost use Rattle.pr_tool_modes.specs.Programs.{IsUncompiled};
+ghost use Rattle.pr_lens_tool.specs.declared.outcomes.Outcome.TheVariants.{Plain};
 ghost use Rattle.pr_lens_tool.specs.Modules.{IsModuleOrLong, IsWrittenOrLong};
+ghost use Rattle.pr_lens_tool.specs.Programs.{IsUnanswered};
 
 use crate::compiling::{Compilation, compilation_of};
 use crate::outcomes::{Outcome, Output};
-use crate::programs::answer_of;
+use crate::refusals::refusal_of;
 use pr_lens_notes::notes_of;
 use pr_lens_rtl_text::{NoText, Notes, rtl};
 use pr_tool::Answer;
@@ -20,10 +21,10 @@ fn module_text<const N: usize, const P: usize>(
     name: &str,
     made: &Compilation<N, P>,
     notes: &Notes,
-) -> Result<Output, Answer>
+) -> Result<Output, Outcome>
     ensures told { IfOk result (λ o. IsWrittenOrLong N P notes.now name.now
         made.now.front.scoped.program (shape_of made.now.conf) o.outcome o.text.items) }
-    ensures refused { IfErr result (λ a. a ≡ Answer.Memory) }
+    ensures refused { IfErr result (λ o. o ≡ Plain Answer.Memory) }
 {
     match rtl::<N, P>(alloc, name, &made.front.scoped.program, &made.conf, notes) {
         Ok(text) => Ok(Output {
@@ -34,7 +35,7 @@ fn module_text<const N: usize, const P: usize>(
             text: Vec::new(alloc),
             outcome: Outcome::LongModule,
         }),
-        Err(NoText::Memory(_)) => Err(Answer::Memory),
+        Err(NoText::Memory(error)) => Err(Outcome::from(error)),
     }
 }
 
@@ -44,7 +45,7 @@ pub fn rtl_of<const N: usize, const P: usize>(
     narrowed: bool,
     name: &str,
     text: &[u8],
-) -> Result<Output, Answer>
+) -> Result<Output, Outcome>
     requires short { length text.now ≤ 1048576 }
     requires columns { 1 ≤ N }
     requires most_columns { N ≤ 64 }
@@ -52,15 +53,15 @@ pub fn rtl_of<const N: usize, const P: usize>(
     requires most_registers { P ≤ 16 }
     ensures told { IfOk result (λ o.
         IsModuleOrLong N P narrowed text.now name.now o.outcome o.text.items) }
-    ensures refused { IfErr result (λ a. IsUncompiled N P narrowed text.now a ⊎ (a ≡ Answer.Memory)) }
+    ensures refused { IfErr result (IsUnanswered N P narrowed text.now) }
 {
     let made = match compilation_of::<N, P>(alloc, text, narrowed) {
         Ok(made) => made,
-        Err(fault) => return Err(answer_of(&fault)),
+        Err(fault) => return Err(refusal_of::<N, P>(alloc, text, narrowed, &fault)),
     };
     let notes = match notes_of::<N, P>(alloc, text, narrowed) {
         Ok(notes) => notes,
-        Err(fault) => return Err(answer_of(&fault)),
+        Err(fault) => return Err(refusal_of::<N, P>(alloc, text, narrowed, &fault)),
     };
     module_text::<N, P>(alloc, name, &made, &notes)
 }

@@ -1,5 +1,5 @@
 -- What is told of a refusal.
-use Rattle.std.proofs.Common.{◌≡◌, ◌<◌, ◌++◌, ℕ, Bool, true, false, Option, None, Some, List, codes}
+use Rattle.std.proofs.Common.{◌≡◌, ◌<◌, ◌++◌, ℕ, Bool, Option, None, Some, List}
 use Rattle.std.specs.Prelude.{IfNone, IfSome}
 use Rattle.pr_lang.specs.declared.tokens.Token.{Token}
 use Rattle.pr_lens_source.specs.declared.sources.Span.{Span}
@@ -7,15 +7,10 @@ use Rattle.pr_lens_fits.specs.declared.groups.Unfit.{Unfit}
 use Rattle.pr_lens_needs.specs.declared.needs.Needs.{Needs}
 use Rattle.pr_lens_needs.specs.Needs.{HasNeeds, HasNoParts}
 use Rattle.pr_lens_needs.specs.Texts.{columns_text}
-use Rattle.pr_lens_why.specs.Messages.{Operator, Recurrence, TellsOf, TellsNarrow, TellsUnfit}
+use Rattle.pr_lens_why.specs.Messages.{Operator, Recurrence, TellsUnfit}
 
 -- columns ran out, for a recurrence or not
 pub columns_told : (N P : ℕ) (narrowed : Bool) (text : List ℕ) (tokens : List Token) (spans : List Span) (unit : ℕ) (found : Unfit) (needs : Option Needs) (old new : List ℕ) → N < found.columns
     → IfSome needs (HasNeeds N narrowed text tokens spans found.item unit) → IfNone needs (HasNoParts N narrowed text unit) → new ≡ old ++ columns_text found.columns N needs → TellsUnfit N P narrowed text tokens spans unit found old new
 columns_told N P narrowed text tokens spans unit found None old new more some none is = Operator more none is
 columns_told N P narrowed text tokens spans unit found (Some needs) old new more some none is = Recurrence more needs some is
-
-module _ (N P : ℕ) (text old new : List ℕ) where
-  pub narrow_fits : (narrowed : Bool) → narrowed ≡ false → TellsOf N P true text (codes "With `--narrow` the program fits.\n") old new → TellsNarrow N P narrowed text old new
-  narrow_fits true is tells = absurd (cc)
-  narrow_fits false is tells = tells

@@ -1,4 +1,5 @@
 pub mod Codes
+pub mod Helps
 pub mod Limits
 pub mod Messages
 pub mod Places

@@ -1,13 +1,9 @@
 -- What is told of a refusal, added to a message.
-use Rattle.std.specs.Prelude.{ℕ, ◌≡◌, ◌⊎◌, ◌<◌, ◌≤◌, ◌==◌, Bool, true, false, List, ◌++◌, None, Some, codes, if◌then◌else◌, ⊤}
+use Rattle.std.specs.Prelude.{ℕ, ◌≡◌, ◌⊎◌, ◌<◌, ◌≤◌, ◌==◌, Bool, List, ◌++◌, None, Some, if◌then◌else◌, ⊤}
 use Rattle.pr_base.specs.declared.caps.Cap.{Cap}
-use Rattle.pr_base.specs.declared.caps.Cap.TheVariants.{InputBytes, Units}
-use Rattle.pr_conf.specs.Shape.{Shape}
 use Rattle.pr_lang.specs.declared.tokens.Token.{Token}
 use Rattle.pr_scope_names.specs.declared.rules.Rule.{Rule}
 use Rattle.pr_scope_names.specs.declared.rules.Rule.TheVariants.{Introduced, Assigned, Kinds, Calls, Steps, Divisors, Entries, Bounds, Recurrences, Ends}
-use Rattle.pr_compile.specs.Configured.{IsCompiled}
-use Rattle.pr_compile.specs.Refusals.{IsRefused}
 use Rattle.pr_compile.specs.declared.faults.CompileFault.{CompileFault}
 use Rattle.pr_compile.specs.declared.faults.CompileFault.TheVariants.{Syntax, Scope, NoWidth, NoFit, Limit, Memory}
 use Rattle.pr_lens_find.specs.declared.expected.Expected.{Expected}
@@ -24,36 +20,12 @@ use Rattle.pr_lens_rules.specs.Rules.{offence_text}
 use Rattle.pr_lens_source.specs.declared.sources.Span.{Span}
 use Rattle.pr_lens_source.specs.Tokens.{first_of, text_before}
 use Rattle.pr_lens_needs.specs.Texts.{columns_text}
+use Rattle.pr_lens_why.specs.declared.helps.Help.{Help}
+use Rattle.pr_lens_why.specs.Helps.{IsHelp, help_text}
 use Rattle.pr_lens_why.specs.Limits.{limit_text, registers_text}
 use Rattle.pr_lens_why.specs.Places.{IsLimitToken}
 use Rattle.pr_lens_why.specs.Syntax.{syntax_text}
 use Rattle.pr_lens_why.specs.Widths.{missing_text}
-
--- a text has a configuration
-pub record HasConfiguration (N P : ℕ) (narrowed : Bool) (text : List ℕ) : Type 0 where
-  pub conf : Shape
-  pub compiled : IsCompiled N P narrowed text conf
-
--- it has none
-pub record HasRefusal (N P : ℕ) (narrowed : Bool) (text : List ℕ) : Type 0 where
-  pub fault : CompileFault
-  pub refused : IsRefused N P narrowed text fault
-
--- ---- what helps
--- a line is added where the text has this configuration, and none where it has it not
-pub data TellsOf (N P : ℕ) (narrowed : Bool) (text line old new : List ℕ) : Type 0 where
-  Fits : HasConfiguration N P narrowed text → new ≡ old ++ line → TellsOf N P narrowed text line old new
-  FitsNot : HasRefusal N P narrowed text → new ≡ old → TellsOf N P narrowed text line old new
-
--- that the program fits with narrowed equations; it is not asked where they are narrowed
-abbrev pub TellsNarrow : ℕ → ℕ → Bool → List ℕ → List ℕ → List ℕ → Type 0
-TellsNarrow N P true text old new = new ≡ old
-TellsNarrow N P false text old new = TellsOf N P true text (codes "With `--narrow` the program fits.\n") old new
-
--- that it fits on the wide fabric; it is not asked where there are as many columns
-pub record TellsWide (columns : ℕ) (narrowed : Bool) (text old new : List ℕ) : Type 0 where
-  pub fewer : columns < 32 → TellsOf 32 16 narrowed text (codes "On `--fabric wide` the program fits.\n") old new
-  pub enough : 32 ≤ columns → new ≡ old
 
 -- ---- by the kind of the refusal
 -- a wrong token: what could stand there
@@ -94,33 +66,32 @@ pub data TellsUnfit (N P : ℕ) (narrowed : Bool) (text : List ℕ) (tokens : Li
   Operator : N < found.columns → HasNoParts N narrowed text unit → new ≡ old ++ columns_text found.columns N None → TellsUnfit N P narrowed text tokens spans unit found old new
   Registers : found.columns ≤ N → new ≡ old ++ registers_text found N P → TellsUnfit N P narrowed text tokens spans unit found old new
 
--- what is found of the group, the first token of the item that makes its last unit, and what helps
+-- what is found of the group, and the first token of the item that makes its last unit
 pub record TellsFit (N P : ℕ) (narrowed : Bool) (text : List ℕ) (tokens : List Token) (spans : List Span) (unit token : ℕ) (old new : List ℕ) : Type 0 where
   pub found : Unfit
   pub is : IsFound N narrowed text unit found
   pub item : IsNothing N narrowed text found ⊎ HasMaker narrowed text tokens spans unit found.item
   pub token_is : token ≡ first_of tokens spans found.item
-  pub told : List ℕ
-  pub unfit : TellsUnfit N P narrowed text tokens spans unit found old told
+  pub unfit : TellsUnfit N P narrowed text tokens spans unit found old new
+
+-- a limit: which one, at which token
+pub record TellsLimit (columns : ℕ) (narrowed : Bool) (text : List ℕ) (tokens : List Token) (spans : List Span) (which : Cap) (token : ℕ) (old new : List ℕ) : Type 0 where
+  pub token_is : IsLimitToken columns narrowed text tokens spans which token
+  pub message : new ≡ old ++ limit_text which
+
+abbrev pub TellsCause : ℕ → ℕ → Bool → List ℕ → List Token → List Span → CompileFault → ℕ → List ℕ → List ℕ → Type 0
+TellsCause N P narrowed text tokens spans (Syntax wrong) token old new = TellsSyntax text tokens wrong old new
+TellsCause N P narrowed text tokens spans (Scope rule item) token old new = TellsRule text tokens spans (rule_of rule) item token old new
+TellsCause N P narrowed text tokens spans (NoWidth equation) token old new = TellsWidth text tokens spans equation token old new
+TellsCause N P narrowed text tokens spans (NoFit unit) token old new = TellsFit N P narrowed text tokens spans unit token old new
+TellsCause N P narrowed text tokens spans (Limit which) token old new = TellsLimit N narrowed text tokens spans which token old new
+TellsCause N P narrowed text tokens spans (Memory x) token old new = ⊤
+
+-- ---- the whole message
+-- the cause, and behind it what helps
+pub record Tells (N P : ℕ) (narrowed : Bool) (text : List ℕ) (tokens : List Token) (spans : List Span) (fault : CompileFault) (token : ℕ) (old new : List ℕ) : Type 0 where
   pub between : List ℕ
-  pub narrow : TellsNarrow N P narrowed text told between
-  pub wide : TellsWide N narrowed text between new
-
--- a limit: what helps
-abbrev pub TellsHelp : ℕ → ℕ → Bool → List ℕ → Cap → List ℕ → List ℕ → Type 0
-TellsHelp N P narrowed text Units old new = TellsNarrow N P narrowed text old new
-TellsHelp N P narrowed text InputBytes old new = TellsWide N narrowed text old new
-TellsHelp N P narrowed text which old new = new ≡ old
-
--- which one, at which token, and what helps
-pub record TellsLimit (N P : ℕ) (narrowed : Bool) (text : List ℕ) (tokens : List Token) (spans : List Span) (which : Cap) (token : ℕ) (old new : List ℕ) : Type 0 where
-  pub token_is : IsLimitToken N narrowed text tokens spans which token
-  pub help : TellsHelp N P narrowed text which (old ++ limit_text which) new
-
-abbrev pub Tells : ℕ → ℕ → Bool → List ℕ → List Token → List Span → CompileFault → ℕ → List ℕ → List ℕ → Type 0
-Tells N P narrowed text tokens spans (Syntax wrong) token old new = TellsSyntax text tokens wrong old new
-Tells N P narrowed text tokens spans (Scope rule item) token old new = TellsRule text tokens spans (rule_of rule) item token old new
-Tells N P narrowed text tokens spans (NoWidth equation) token old new = TellsWidth text tokens spans equation token old new
-Tells N P narrowed text tokens spans (NoFit unit) token old new = TellsFit N P narrowed text tokens spans unit token old new
-Tells N P narrowed text tokens spans (Limit which) token old new = TellsLimit N P narrowed text tokens spans which token old new
-Tells N P narrowed text tokens spans (Memory x) token old new = ⊤
+  pub cause : TellsCause N P narrowed text tokens spans fault token old between
+  pub help : Help
+  pub helps : IsHelp N P narrowed text fault help
+  pub message : new ≡ between ++ help_text help

@@ -10,7 +10,8 @@ use Rattle.pr_lens_source.specs.Tokens.{start_of, end_of}
 use Rattle.pr_lens_why.specs.declared.explaining.Explanation.{Explanation}
 use Rattle.pr_lens_why.specs.declared.explaining.Verdict.{Verdict}
 use Rattle.pr_lens_why.specs.declared.explaining.Verdict.TheVariants.{Accepted, Refused}
-use Rattle.pr_lens_why.specs.Messages.{HasConfiguration, Tells}
+use Rattle.pr_lens_why.specs.Helps.{HasConfiguration}
+use Rattle.pr_lens_why.specs.Messages.{Tells}
 
 -- it points at its token: at the first byte and behind the last one; the token behind them all is the text's end
 pub record IsPointing (text : List ℕ) (e : Explanation) : Type 0 where

@@ -4,6 +4,7 @@
 mod codes;
 mod explaining;
 mod fits;
+mod helps;
 mod limits;
 mod slips;
 mod syntax;
@@ -12,3 +13,4 @@ mod widths;
 
 pub use codes::put_code;
 pub use explaining::{Explanation, Verdict, explain};
+pub use helps::{Help, help_of, put_help};

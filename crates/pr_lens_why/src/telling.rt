@@ -1,102 +1,22 @@
 //! What is told of a refusal, and at which token.
 
-ghost use Rattle.std.specs.Prelude.{◌≡◌, ◌≤◌, ◌++◌, false, length, IfOk, IsFalse, IsTrue, OnOk};
-ghost use Rattle.pr_compile.specs.Refusals.{IsCompileAnswer};
-ghost use Rattle.pr_lens_why.specs.Messages.{HasConfiguration, HasRefusal, Tells, TellsFit, TellsHelp, TellsLimit, TellsNarrow, TellsRule, TellsSyntax, TellsUnfit, TellsWide, TellsWidth, rule_of};
+ghost use Rattle.std.specs.Prelude.{◌≡◌, ◌≤◌, length, IfOk, OnOk};
+ghost use Rattle.pr_lens_why.specs.Messages.{Tells, TellsCause, TellsFit, TellsLimit, TellsRule, TellsSyntax, TellsUnfit, TellsWidth, rule_of};
 ghost use Rattle.pr_lens_why.specs.Places.{IsLimitItem, IsLimitToken};
 ghost use Rattle.pr_lens_why.specs.Verdicts.{PointsRight};
 
 use crate::fits::tell_registers;
+use crate::helps::{help_of, put_help};
 use crate::{limits, syntax, widths};
 use pr_base::Cap;
-use pr_compile::{CompileFault, compile_counted};
+use pr_compile::CompileFault;
 use pr_lens_find::{equations_item, find_missing, find_offence, turns_item};
 use pr_lens_fits::{Unfit, find_unfit, input_item, output_item, units_item};
 use pr_lens_needs::{find_needs, tell_columns};
 use pr_lens_source::Source;
-use pr_lens_text::put;
 use pr_parse_lex::first_deep;
 use pr_scope_names::Rule;
 use std::alloc::{AllocError, Global};
-
-/// That the program of a text does not fit, as this answer says; want of memory is none.
-fn not_fitting<const N: usize, const P: usize>(
-    text: &[u8],
-    narrowed: bool,
-    fault: CompileFault,
-) -> Result<bool, AllocError>
-    requires { IsCompileAnswer N P narrowed text.now fault }
-    ensures value { IfOk result (λ fits. fits ≡ false) }
-    ensures refused { IfOk result (λ _. HasRefusal N P narrowed text.now) }
-{
-    match fault {
-        CompileFault::Memory(error) => Err(error),
-        _ => Ok(false),
-    }
-}
-
-/// Whether the program of a text fits on N columns and P registers, with narrowed equations or without.
-fn fits_on<const N: usize, const P: usize>(
-    alloc: Global,
-    text: &[u8],
-    narrowed: bool,
-) -> Result<bool, AllocError>
-    requires short { length text.now ≤ 1048576 }
-    requires columns { 1 ≤ N }
-    requires most_columns { N ≤ 64 }
-    requires registers { 2 ≤ P }
-    requires most_registers { P ≤ 16 }
-    ensures fits { IfOk result (λ fits. IsTrue fits → HasConfiguration N P narrowed text.now) }
-    ensures refused { IfOk result (λ fits. IsFalse fits → HasRefusal N P narrowed text.now) }
-{
-    match compile_counted::<N, P>(alloc, text, narrowed) {
-        Ok(_compiled) => Ok(true),
-        Err(fault) => not_fitting::<N, P>(text, narrowed, fault),
-    }
-}
-
-/// Tells that the program fits with narrowed equations, where it does.
-fn tell_narrow<const N: usize, const P: usize>(
-    alloc: Global,
-    message: &mut Vec<u8>,
-    text: &[u8],
-    narrowed: bool,
-) -> Result<(), AllocError>
-    requires short { length text.now ≤ 1048576 }
-    requires columns { 1 ≤ N }
-    requires most_columns { N ≤ 64 }
-    requires registers { 2 ≤ P }
-    requires most_registers { P ≤ 16 }
-    ensures { OnOk result (TellsNarrow N P narrowed text.now message.old.items message.new.items) }
-{
-    if narrowed {
-        return Ok(());
-    }
-    if !fits_on::<N, P>(alloc, text, true)? {
-        return Ok(());
-    }
-    put(message, "With `--narrow` the program fits.\n")
-}
-
-/// Tells that the program fits on the wide fabric, where it does and this one has fewer columns.
-fn tell_wide(
-    alloc: Global,
-    message: &mut Vec<u8>,
-    text: &[u8],
-    narrowed: bool,
-    columns: usize,
-) -> Result<(), AllocError>
-    requires { length text.now ≤ 1048576 }
-    ensures { OnOk result (TellsWide columns narrowed text.now message.old.items message.new.items) }
-{
-    if columns >= 32 {
-        return Ok(());
-    }
-    if !fits_on::<32, 16>(alloc, text, narrowed)? {
-        return Ok(());
-    }
-    put(message, "On `--fabric wide` the program fits.\n")
-}
 
 /// The item with which a quantity passes its limit; the number of items where it does with none.
 fn limit_item(
@@ -163,7 +83,7 @@ fn tell_unfit<const N: usize, const P: usize>(
     tell_columns(message, unfit.columns, N, needs)
 }
 
-/// Tells why a group fits in no stripe, and what helps; the token to look at.
+/// Tells why a group fits in no stripe; the token to look at.
 fn tell_fit<const N: usize, const P: usize>(
     alloc: Global,
     message: &mut Vec<u8>,
@@ -174,61 +94,31 @@ fn tell_fit<const N: usize, const P: usize>(
     requires short { length source.now.text.now ≤ 1048576 }
     requires columns { 1 ≤ N }
     requires most_columns { N ≤ 64 }
-    requires registers { 2 ≤ P }
-    requires most_registers { P ≤ 16 }
     ensures { let source = source.now in IfOk result (λ token.
         TellsFit N P narrowed source.text.now source.tokens.now source.spans.now unit token
         message.old.items message.new.items) }
 {
     let unfit = find_unfit(alloc, source, narrowed, N, unit)?;
     tell_unfit::<N, P>(alloc, message, source, narrowed, unit, &unfit)?;
-    tell_narrow::<N, P>(alloc, message, source.text, narrowed)?;
-    tell_wide(alloc, message, source.text, narrowed, N)?;
     Ok(source.first(unfit.item))
 }
 
-/// Tells what helps where a limit is passed.
-fn tell_help<const N: usize, const P: usize>(
-    alloc: Global,
-    message: &mut Vec<u8>,
-    text: &[u8],
-    narrowed: bool,
-    cap: Cap,
-) -> Result<(), AllocError>
-    requires short { length text.now ≤ 1048576 }
-    requires columns { 1 ≤ N }
-    requires most_columns { N ≤ 64 }
-    requires registers { 2 ≤ P }
-    requires most_registers { P ≤ 16 }
-    ensures { OnOk result (TellsHelp N P narrowed text.now cap message.old.items message.new.items) }
-{
-    match cap {
-        Cap::Units => tell_narrow::<N, P>(alloc, message, text, narrowed),
-        Cap::InputBytes => tell_wide(alloc, message, text, narrowed, N),
-        _ => Ok(()),
-    }
-}
-
-/// Tells which limit is passed, and what helps; the token to look at.
-fn tell_limit<const N: usize, const P: usize>(
+/// Tells which limit is passed; the token to look at.
+fn tell_limit(
     alloc: Global,
     message: &mut Vec<u8>,
     source: &Source,
     narrowed: bool,
+    columns: usize,
     cap: Cap,
 ) -> Result<usize, AllocError>
-    requires short { length source.now.text.now ≤ 1048576 }
-    requires columns { 1 ≤ N }
-    requires most_columns { N ≤ 64 }
-    requires registers { 2 ≤ P }
-    requires most_registers { P ≤ 16 }
+    requires { length source.now.text.now ≤ 1048576 }
     ensures { let source = source.now in IfOk result (λ token.
-        TellsLimit N P narrowed source.text.now source.tokens.now source.spans.now cap token
+        TellsLimit columns narrowed source.text.now source.tokens.now source.spans.now cap token
         message.old.items message.new.items) }
 {
     limits::tell(message, cap)?;
-    tell_help::<N, P>(alloc, message, source.text, narrowed, cap)?;
-    limit_token(alloc, source, narrowed, N, cap)
+    limit_token(alloc, source, narrowed, columns, cap)
 }
 
 /// Tells what could have stood in the place of a wrong token; the token to look at, which is this one.
@@ -300,7 +190,39 @@ fn tell_width(
     Ok(missing.token)
 }
 
-/// Tells why a text is refused, with narrowed equations or without; the token to look at.
+/// Tells the cause of a refusal, with narrowed equations or without; the token to look at.
+fn tell_cause<const N: usize, const P: usize>(
+    alloc: Global,
+    message: &mut Vec<u8>,
+    source: &Source,
+    narrowed: bool,
+    fault: &CompileFault,
+) -> Result<usize, AllocError>
+    requires short { length source.now.text.now ≤ 1048576 }
+    requires columns { 1 ≤ N }
+    requires most_columns { N ≤ 64 }
+    ensures token { IfOk result (PointsRight fault.now) }
+    ensures tells { IfOk result (λ token.
+        TellsCause N P narrowed source.now.text.now source.now.tokens.now source.now.spans.now fault.now token
+        message.old.items message.new.items) }
+{
+    match fault {
+        CompileFault::Syntax { token } => { tell_syntax(alloc, message, source, *token as usize) }
+        CompileFault::Scope { rule, item } => {
+            tell_scope(alloc, message, source, rule_of(*rule), *item as usize)
+        }
+        CompileFault::NoWidth { equation } => {
+            tell_width(alloc, message, source, *equation as usize)
+        }
+        CompileFault::NoFit { unit } => {
+            tell_fit::<N, P>(alloc, message, source, narrowed, *unit)
+        }
+        CompileFault::Limit(cap) => tell_limit(alloc, message, source, narrowed, N, *cap),
+        CompileFault::Memory(_) => Ok(0),
+    }
+}
+
+/// Tells why a text is refused, with narrowed equations or without, and what helps; the token to look at.
 pub fn tell<const N: usize, const P: usize>(
     alloc: Global,
     message: &mut Vec<u8>,
@@ -318,18 +240,8 @@ pub fn tell<const N: usize, const P: usize>(
         Tells N P narrowed source.now.text.now source.now.tokens.now source.now.spans.now fault.now token
         message.old.items message.new.items) }
 {
-    match fault {
-        CompileFault::Syntax { token } => { tell_syntax(alloc, message, source, *token as usize) }
-        CompileFault::Scope { rule, item } => {
-            tell_scope(alloc, message, source, rule_of(*rule), *item as usize)
-        }
-        CompileFault::NoWidth { equation } => {
-            tell_width(alloc, message, source, *equation as usize)
-        }
-        CompileFault::NoFit { unit } => {
-            tell_fit::<N, P>(alloc, message, source, narrowed, *unit)
-        }
-        CompileFault::Limit(cap) => tell_limit::<N, P>(alloc, message, source, narrowed, *cap),
-        CompileFault::Memory(_) => Ok(0),
-    }
+    let token = tell_cause::<N, P>(alloc, message, source, narrowed, fault)?;
+    let help = help_of::<N, P>(alloc, source.text, narrowed, fault)?;
+    put_help(message, &help)?;
+    Ok(token)
 }

@@ -4,21 +4,21 @@ use Rattle.pr_tool_modes.proofs.OrderLemmas.{order_after, order_once, order_one}
 use Rattle.pr_lens_bench.specs.Benches.{IsBench}
 use Rattle.pr_lens_tool.specs.Asked.{target_in}
 use Rattle.pr_lens_tool.proofs.BenchLemmas.{bench_made, bench_unmade}
-use Rattle.pr_lens_tool.proofs.FaultLemmas.{plain_shown, kept_shown, shown_behind}
+use Rattle.pr_lens_tool.proofs.FaultLemmas.{plain_shown, shown_behind}
 use Rattle.pr_lens_tool.proofs.benches.bench_of.Goals as goal
 
 pub returns-clause-made : goal.returns-clause-made
 returns-clause-made g c =
-    let told = g.S.Shelf.told c.args.shelf.now in
+    let told = (g.S.Shelf.view c.args.shelf.now).told in
     IfOk-weaker c.tried.result _ _ (λ o h.
-    bench_made told _ (target_in c.args.target.now) c.args.samples.now c.args.name.now c.args.seed c.in-Ok.text.items c.in-Ok-planned_on.trial c.in-Ok.ensures.text c.in-Ok.ensures.short (rw c.deref.ensures.value at c.in-Ok-planned_on.ensures.planned)
+    bench_made told _ (target_in c.args.target.now) c.args.samples.now c.args.name.now c.args.seed c.in-Ok.text.items c.in_ok-trial.trial c.in-Ok.ensures.text c.in-Ok.ensures.short (rw c.deref.ensures.value at c.in_ok-trial.ensures.planned)
     c.read_file.ensures.same (λ t samples program plan. IsBench t samples program plan o.text.items) h) c.tried.ensures.made
 
 pub returns-clause-refused : goal.returns-clause-refused
 returns-clause-refused g c =
-    let told = g.S.Shelf.told c.args.shelf.now in
+    let told = (g.S.Shelf.view c.args.shelf.now).told in
     IfErr-weaker c.tried.result _ _ (λ o h.
-    bench_unmade told _ (target_in c.args.target.now) c.args.samples.now c.args.name.now c.args.seed c.in-Ok.text.items c.in-Ok-planned_on.trial c.in-Ok.ensures.text c.in-Ok.ensures.short (rw c.deref.ensures.value at c.in-Ok-planned_on.ensures.planned)
+    bench_unmade told _ (target_in c.args.target.now) c.args.samples.now c.args.name.now c.args.seed c.in-Ok.text.items c.in_ok-trial.trial c.in-Ok.ensures.text c.in-Ok.ensures.short (rw c.deref.ensures.value at c.in_ok-trial.ensures.planned)
     c.read_file.ensures.same _ _ _ o c.read_file.ensures.later h) c.tried.ensures.refused
 
 pub returns-clause-steady : goal.returns-clause-steady
@@ -30,15 +30,12 @@ returns-clause-shown g c = IfErr-weaker c.tried.result _ _ (λ o shown. shown_be
 pub returns-in-Err-clause-shown : goal.returns-in-Err-clause-shown
 returns-in-Err-clause-shown g c = plain_shown _ _ c.in-Err.answer c.in-Err.ensures.shown
 
-pub returns-in-Err-planned_on-clause-shown : goal.returns-in-Err-planned_on-clause-shown
-returns-in-Err-planned_on-clause-shown g c = kept_shown _ _ _ c.in-Ok.ensures.steady
-
 pub returns-in-Err-clause-once : goal.returns-in-Err-clause-once
-returns-in-Err-clause-once g c = λ q once. order_one (g.S.Shelf.reach c.args.shelf.now) (g.S.Shelf.reach c.read_file.new.shelf) c.args.target.now.file.now q (order_once _ _ _ c.read_file.ensures.once) c.read_file.ensures.others
+returns-in-Err-clause-once g c = λ q once. order_one (g.S.Shelf.view c.args.shelf.now).reach (g.S.Shelf.view c.read_file.new.shelf).reach c.args.target.now.file.now q (order_once _ _ _ c.read_file.ensures.once) c.read_file.ensures.others
 
-pub returns-in-Err-planned_on-clause-once : goal.returns-in-Err-planned_on-clause-once
-returns-in-Err-planned_on-clause-once g c = λ q once. order_one (g.S.Shelf.reach c.args.shelf.now) (g.S.Shelf.reach c.read_file.new.shelf) c.args.target.now.file.now q (order_once _ _ _ c.read_file.ensures.once) c.read_file.ensures.others
+pub returns-in_err-trial-clause-once : goal.returns-in_err-trial-clause-once
+returns-in_err-trial-clause-once g c = λ q once. order_one (g.S.Shelf.view c.args.shelf.now).reach (g.S.Shelf.view c.read_file.new.shelf).reach c.args.target.now.file.now q (order_once _ _ _ c.read_file.ensures.once) c.read_file.ensures.others
 
 pub returns-clause-once : goal.returns-clause-once
-returns-clause-once g c = λ q once. order_after (g.S.Shelf.reach c.args.shelf.now) (g.S.Shelf.reach c.read_file.new.shelf) (g.S.Shelf.reach c.tried.new.shelf) _ c.args.target.now.file.now q c.read_file.ensures.once c.read_file.ensures.others
-    (λ e. c.tried.ensures.others q (once e)) (order_one (g.S.Shelf.reach c.read_file.new.shelf) (g.S.Shelf.reach c.tried.new.shelf) c.args.samples.now q c.tried.ensures.once c.tried.ensures.others)
+returns-clause-once g c = λ q once. order_after (g.S.Shelf.view c.args.shelf.now).reach (g.S.Shelf.view c.read_file.new.shelf).reach (g.S.Shelf.view c.tried.new.shelf).reach _ c.args.target.now.file.now q c.read_file.ensures.once c.read_file.ensures.others
+    (λ e. c.tried.ensures.others q (once e)) (order_one (g.S.Shelf.view c.read_file.new.shelf).reach (g.S.Shelf.view c.tried.new.shelf).reach c.args.samples.now q c.tried.ensures.once c.tried.ensures.others)

@@ -20,13 +20,13 @@ pub returns-in_err-count-clause-refused : goal.returns-in_err-count-clause-refus
 returns-in_err-count-clause-refused g c =
     let p = err_from_is_err_and c.from_residual.result c.from_residual.ensures.1 in
     let shelf = c.loop-place.shelf in
-    rw (p.1, p.2) (no_log_since (g.S.Shelf.told c.args.shelf.now) (g.S.Shelf.told shelf) c.args.name.now (g.S.Shelf.faults c.args.shelf.now) (g.S.Shelf.faults shelf) (g.S.Shelf.faults c.read_more.new.shelf) _
+    rw (p.1, p.2) (no_log_since (g.S.Shelf.view c.args.shelf.now).told (g.S.Shelf.view shelf).told c.args.name.now (g.S.Shelf.view c.args.shelf.now).faults (g.S.Shelf.view shelf).faults (g.S.Shelf.view c.read_more.new.shelf).faults _
     c.loop-place.invariant.same c.loop-place.invariant.steady c.in_err-count.ensures.refused)
 
 pub returns-in_err-count-clause-shown : goal.returns-in_err-count-clause-shown
 returns-in_err-count-clause-shown g c =
     let p = err_from_is_err_and c.from_residual.result c.from_residual.ensures.1 in
-    rw (p.1, p.2) (shown_since (g.S.Shelf.faults c.args.shelf.now) (g.S.Shelf.faults c.loop-place.shelf) (g.S.Shelf.faults c.read_more.new.shelf) _ c.loop-place.invariant.steady c.in_err-count.ensures.shown)
+    rw (p.1, p.2) (shown_since (g.S.Shelf.view c.args.shelf.now).faults (g.S.Shelf.view c.loop-place.shelf).faults (g.S.Shelf.view c.read_more.new.shelf).faults _ c.loop-place.invariant.steady c.in_err-count.ensures.shown)
 
 pub returns-then-count-eq0-clause-read : goal.returns-then-count-eq0-clause-read
 returns-then-count-eq0-clause-read g c =
@@ -36,10 +36,10 @@ returns-then-count-eq0-clause-read g c =
     let none = c.if-count-eq0.true in
     let test = c.loop-place-test.true in
     let here : place + c.in_ok-count.count ≡ place = omega (arith, none) in
-    let read = subst (λ (n : ℕ). IsReadTo (g.S.Shelf.told c.loop-place.shelf) name n reader) here c.in_ok-count.ensures.read in
+    let read = subst (λ (n : ℕ). IsReadTo (g.S.Shelf.view c.loop-place.shelf).told name n reader) here c.in_ok-count.ensures.read in
     let end = c.in_ok-count.ensures.end none in
     subst (λ (t : Told). HasShortText t name (λ text. HasRead text reader)) c.loop-place.invariant.same
-    (read_whole (g.S.Shelf.told c.loop-place.shelf) name place reader read (omega (arith, test)) c.in_ok-count.ensures.there end)
+    (read_whole (g.S.Shelf.view c.loop-place.shelf).told name place reader read (omega (arith, test)) c.in_ok-count.ensures.there end)
 
 pub returns-then-count-eq0-clause-room : goal.returns-then-count-eq0-clause-room
 returns-then-count-eq0-clause-room g c =
@@ -71,7 +71,7 @@ loop-place-preserved g c =
 pub returns-clause-refused : goal.returns-clause-refused
 returns-clause-refused g c =
     let test = c.loop-place-test.false in
-    long_log (g.S.Shelf.told c.args.shelf.now) c.args.name.now c.loop-place.place 17592186044416 c.loop-place.reader c.loop-place.invariant.read (omega arith) (c.loop-place.invariant.there (omega arith))
+    long_log (g.S.Shelf.view c.args.shelf.now).told c.args.name.now c.loop-place.place 17592186044416 c.loop-place.reader c.loop-place.invariant.read (omega arith) (c.loop-place.invariant.there (omega arith))
 
 pub returns-clause-shown : goal.returns-clause-shown
 returns-clause-shown g c = inr (inr c.loop-place.invariant.steady)

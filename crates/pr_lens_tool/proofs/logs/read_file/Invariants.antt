@@ -6,15 +6,15 @@ use Rattle.pr_lens_tool.proofs.logs.read_file.Given as goal
 
 abbrev pub invariant-loop-place : goal.invariant-loop-place
 invariant-loop-place g l = record {
-  read : IsReadTo (g.S.Shelf.told l.initial.shelf) l.name l.place l.reader;
+  read : IsReadTo (g.S.Shelf.view l.initial.shelf).told l.name l.place l.reader;
   room : HasRoom l.reader (2 ^ 45 - l.place);
   near : l.place ≤ 17592186044416 + 4096;
-  there : 0 < l.place → IsMissing (g.S.Shelf.told l.initial.shelf) l.name → ⊥;
+  there : 0 < l.place → IsMissing (g.S.Shelf.view l.initial.shelf).told l.name → ⊥;
   choice : choice_of l.reader ≡ choice_of l.initial.reader;
-  steady : g.S.Shelf.faults l.shelf ≡ g.S.Shelf.faults l.initial.shelf;
-  same : g.S.Shelf.told l.shelf ≡ g.S.Shelf.told l.initial.shelf;
-  reached : IsReadThrough l.place (g.S.Shelf.reach l.initial.shelf l.name) (g.S.Shelf.reach l.shelf l.name);
-  others : (q : List ℕ) → q ≢ l.name → g.S.Shelf.reach l.shelf q ≡ g.S.Shelf.reach l.initial.shelf q;
+  steady : (g.S.Shelf.view l.shelf).faults ≡ (g.S.Shelf.view l.initial.shelf).faults;
+  same : (g.S.Shelf.view l.shelf).told ≡ (g.S.Shelf.view l.initial.shelf).told;
+  reached : IsReadThrough l.place ((g.S.Shelf.view l.initial.shelf).reach l.name) ((g.S.Shelf.view l.shelf).reach l.name);
+  others : (q : List ℕ) → q ≢ l.name → (g.S.Shelf.view l.shelf).reach q ≡ (g.S.Shelf.view l.initial.shelf).reach q;
 }
 
 abbrev pub decreases-loop-place : goal.decreases-loop-place

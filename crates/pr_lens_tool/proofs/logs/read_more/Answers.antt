@@ -7,7 +7,7 @@ use Rattle.pr_lens_tool.proofs.logs.read_more.Goals as goal
 
 pub returns-in-Ok-read-clause-read : goal.returns-in-Ok-read-clause-read
 returns-in-Ok-read-clause-read g c =
-    read_on (g.S.Shelf.told c.args.shelf.now) c.args.name.now c.args.place c.args.reader.now c.requires.read (λ missing. let fault = (c.in-Ok.ensures.missing missing).0 in cc) c.in-Ok.count c.read_at.new.buf
+    read_on (g.S.Shelf.view c.args.shelf.now).told c.args.name.now c.args.place c.args.reader.now c.requires.read (λ missing. let fault = (c.in-Ok.ensures.missing missing).0 in cc) c.in-Ok.count c.read_at.new.buf
     c.in-Ok.ensures.part c.in-Ok.ensures.bound c.read.new.self c.in-Ok-read.ensures.read
 
 pub returns-in-Ok-read-clause-room : goal.returns-in-Ok-read-clause-room
@@ -16,10 +16,10 @@ returns-in-Ok-read-clause-room g c = λ more h.
 
 pub returns-in-Err-read-clause-refused : goal.returns-in-Err-read-clause-refused
 returns-in-Err-read-clause-refused g c =
-    let bad = read_bad (g.S.Shelf.told c.args.shelf.now) c.args.name.now c.args.place c.args.reader.now c.requires.read (λ missing. let fault = (c.in-Ok.ensures.missing missing).0 in cc) c.in-Ok.count c.read_at.new.buf
+    let bad = read_bad (g.S.Shelf.view c.args.shelf.now).told c.args.name.now c.args.place c.args.reader.now c.requires.read (λ missing. let fault = (c.in-Ok.ensures.missing missing).0 in cc) c.in-Ok.count c.read_at.new.buf
     c.in-Ok.ensures.part c.in-Ok.ensures.bound c.in-Err-read.fault c.in-Err-read.ensures.refused in
-    subst (λ (o : Outcome). IsNoLog (g.S.Shelf.told c.args.shelf.now) c.args.name.now (g.S.Shelf.faults c.args.shelf.now) (g.S.Shelf.faults c.read_at.new.self) o) (sym c.from.ensures)
-    (line_refused (g.S.Shelf.told c.args.shelf.now) c.args.name.now (g.S.Shelf.faults c.args.shelf.now) (g.S.Shelf.faults c.read_at.new.self) c.in-Err-read.fault bad)
+    subst (λ (o : Outcome). IsNoLog (g.S.Shelf.view c.args.shelf.now).told c.args.name.now (g.S.Shelf.view c.args.shelf.now).faults (g.S.Shelf.view c.read_at.new.self).faults o) (sym c.from.ensures)
+    (line_refused (g.S.Shelf.view c.args.shelf.now).told c.args.name.now (g.S.Shelf.view c.args.shelf.now).faults (g.S.Shelf.view c.read_at.new.self).faults c.in-Err-read.fault bad)
 
 pub returns-in-Err-read-clause-shown : goal.returns-in-Err-read-clause-shown
 returns-in-Err-read-clause-shown g c = inr (inr c.in-Ok.ensures.steady)

@@ -8,4 +8,4 @@ pub returns-in_ok-explained-in-Refused-clause-told : goal.returns-in_ok-explaine
 returns-in_ok-explained-in-Refused-clause-told g c =
     let written = c.in_ok-explained-in-Refused in
     let explained = subst (IsVerdict g.row.N g.row.P c.args.target.now.narrowed c.args.text.now) c.in-Refused.is c.in_ok-explain.ensures in
-    why_told g.row.N g.row.P (target_in c.args.target.now) c.args.text.now written.field-0.items c.args.json c.in-Refused.explanation c.answer_of-answer.result explained c.answer_of-answer.ensures written.ensures
+    why_told g.row.N g.row.P (target_in c.args.target.now) c.args.text.now written.field-0.items c.args.json c.in-Refused.explanation c.compile_answer-answer.result explained c.compile_answer-answer.ensures written.ensures
