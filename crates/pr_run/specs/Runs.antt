@@ -1,22 +1,26 @@
 -- What a whole run comes to.
-use Rattle.std.specs.Prelude.{◌≡◌, ◌≤◌, ℕ, Bool, true, false, List, ◌++◌, length, ⊤, Result, Ok, Err}
+use Rattle.std.specs.Prelude.{◌≡◌, ◌≤◌, ℕ, Bool, true, false, List, [], ◌++◌, length, ⊤, Result, Ok, Err, IfOk, OnErr}
 use Rattle.pr_control.specs.Counts.{cycles_of}
+use Rattle.pr_edge.specs.Count.{Rose}
 use Rattle.pr_edge.specs.Tape.{Tape, Appends, AppendsFront}
 use Rattle.pr_edge.specs.declared.writing.WriteFault.{WriteFault}
 use Rattle.pr_samples.specs.declared.feed.Feed.{Feed}
 use Rattle.pr_samples.specs.declared.feed.Got.{Got}
+use Rattle.pr_samples.specs.declared.stall.Stall.{Stall}
+use Rattle.pr_samples.specs.Stall.{turns_left}
 use Rattle.pr_samples.specs.Fed.{End, BadSample, Limit, fed_within}
 use Rattle.pr_samples.specs.Feed.{given_of, place_of, widths_of, limit_of, most_of, IsOver}
 use Rattle.pr_samples.specs.Got.{is_sample}
 use Rattle.pr_machine_account.specs.Account.{account}
-use Rattle.pr_machine.specs.Stands.{Stands, History}
+use Rattle.pr_conf.specs.Through.{output_widths}
+use Rattle.pr_machine.specs.Stands.{Stands, History, conf_of, stripes_of, time_of}
 use Rattle.pr_run_script.specs.Script.{Run, most_cycles, whole_run, script}
 use Rattle.pr_run_script.specs.Counts.{cycles_in, stalls_in, IsPrefix}
 use Rattle.pr_run_script.specs.Text.{history_lines, closing_lines, text_of, run_text}
 use Rattle.pr_run.specs.declared.ending.RunEnd.{RunEnd}
 use Rattle.pr_run.specs.declared.ending.Finished.{Finished}
 use Rattle.pr_edge.specs.Files.{View}
-use Rattle.pr_run.specs.Setting.{Setting, stages_of, pieces}
+use Rattle.pr_run.specs.Setting.{Setting, IsFresh, stages_of, pieces}
 use Rattle.pr_run.specs.Turns.{Going, HasDone, HasRead, MayFollow, IsCut}
 
 -- ---- before the last line
@@ -34,6 +38,26 @@ pub record IsFinished {N P : ℕ} (s : Setting) (m : Going N P) (f : Feed) (now 
   pub ended : is_sample end.last ≡ false
   pub script : history ≡ (script_run s (pieces s rows)).history
   pub asked : cycles_in history ≡ end.asked
+
+-- what the turns of a run begin with: a machine that was just loaded, a feed that was not asked yet and has its inputs,
+-- the widths of its outputs, and no answer of the feed that ends the samples
+pub record MayBegin {N P : ℕ} (m : Going N P) (f : Feed) (stall : Stall) (widths : List ℕ) (last : Got) : Type 0 where
+  pub loaded : Stands m (conf_of m) (stripes_of m) []
+  pub fresh : IsFresh f
+  pub inputs : widths_of f ≡ (conf_of m).inputs
+  pub outputs : widths ≡ output_widths (conf_of m)
+  pub turns : length (turns_left stall) ≤ 1048576
+  pub first : last ≡ Got.Sample
+
+-- what the turns leave of the machine, how their end is told, and the faults of the sink before and after
+pub record HasTurned {N P : ℕ} (before after : Going N P) (was faults : ℕ) (result : Result Finished WriteFault)
+    : Type 0 where
+  pub last : IfOk result (λ e. is_sample e.last ≡ false)
+  pub asked : IfOk result (λ e. time_of after ≤ e.asked)
+  pub conf : after.parts.conf ≡ before.parts.conf
+  pub stripes : stripes_of after ≡ stripes_of before
+  pub cause : OnErr result (Rose was faults)
+  pub later : was ≤ faults
 
 -- the turns of a run came to this
 abbrev pub IsEnded : {N P : ℕ} → Setting → Going N P → Feed → View → Tape → Result Finished WriteFault → Type 0

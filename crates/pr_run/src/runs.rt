@@ -1,15 +1,12 @@
 //! Whole runs.
-ghost use Rattle.std.specs.Prelude.{ℕ, ◌≡◌, ◌≢◌, ◌≤◌, [], false, List, length, Some, OnErr, IfOk};
+ghost use Rattle.std.specs.Prelude.{ℕ, ◌≡◌, ◌≢◌, ◌≤◌, [], List, length, Some};
 ghost use Rattle.pr_edge.specs.Count.{Rose};
 ghost use Rattle.pr_edge.specs.Files.{IsMissing, HasReadCause};
 ghost use Rattle.pr_samples.specs.Stall.{turns_left};
-ghost use Rattle.pr_samples.specs.declared.feed.Got.{Got};
-ghost use Rattle.pr_samples.specs.Got.{is_sample};
 ghost use Rattle.pr_samples.specs.Feed.{name_of, widths_of, given_of, place_of, SameFile, Tells};
-ghost use Rattle.pr_conf.specs.Through.{output_widths};
-ghost use Rattle.pr_machine.specs.Stands.{Stands, conf_of, stripes_of, time_of};
+ghost use Rattle.pr_machine.specs.Stands.{Stands, conf_of, stripes_of};
 ghost use Rattle.pr_run.specs.Setting.{Setting, IsFresh, setting_of};
-ghost use Rattle.pr_run.specs.Runs.{IsEnded, Ran, EndsRun, IsFault, IsCounted};
+ghost use Rattle.pr_run.specs.Runs.{MayBegin, IsEnded, HasTurned, Ran, EndsRun, IsFault, IsCounted};
 
 use crate::draining::put_widths;
 use crate::ending::{Finished, RunEnd, finish};
@@ -30,21 +27,11 @@ impl<'a> Walk<'a> {
         stall: &mut Stall,
         out: &mut K,
     ) -> Result<Finished, WriteFault>
-        requires loaded { Stands machine.old (conf_of machine.old) (stripes_of machine.old) [] }
-        requires fresh { IsFresh feed.old }
-        requires inputs { widths_of feed.old ≡ (conf_of machine.old).inputs }
-        requires outputs { self.old.widths.now ≡ output_widths (conf_of machine.old) }
-        requires turns { length (turns_left stall.old) ≤ 1048576 }
-        requires first { self.old.last ≡ Got.Sample }
+        requires ready { MayBegin machine.old feed.old stall.old self.old.widths.now self.old.last }
         ensures ended { (s : Setting)
             → s ≡ setting_of machine.old stall.old feed.old (S.view shelf.old) (K.view out.old).told LOG
             → IsEnded s machine.new feed.new (S.view shelf.new) (K.view out.new).told result }
-        ensures last { IfOk result (λ e. is_sample e.last ≡ false) }
-        ensures asked { IfOk result (λ e. time_of machine.new ≤ e.asked) }
-        ensures conf { machine.new.parts.conf ≡ machine.old.parts.conf }
-        ensures stripes { stripes_of machine.new ≡ stripes_of machine.old }
-        ensures cause { OnErr result (Rose (K.view out.old).faults (K.view out.new).faults) }
-        ensures later { (K.view out.old).faults ≤ (K.view out.new).faults }
+        ensures turned { HasTurned machine.old machine.new (K.view out.old).faults (K.view out.new).faults result }
     {
         let mut asked = 0;
         loop {
@@ -67,21 +54,11 @@ impl<'a> Walk<'a> {
         stall: &mut Stall,
         out: &mut K,
     ) -> Result<Finished, WriteFault>
-        requires loaded { Stands machine.old (conf_of machine.old) (stripes_of machine.old) [] }
-        requires fresh { IsFresh feed.old }
-        requires inputs { widths_of feed.old ≡ (conf_of machine.old).inputs }
-        requires outputs { self.old.widths.now ≡ output_widths (conf_of machine.old) }
-        requires turns { length (turns_left stall.old) ≤ 1048576 }
-        requires first { self.old.last ≡ Got.Sample }
+        requires ready { MayBegin machine.old feed.old stall.old self.old.widths.now self.old.last }
         ensures ended { (s : Setting)
             → s ≡ setting_of machine.old stall.old feed.old (S.view shelf.old) (K.view out.old).told self.old.log
             → IsEnded s machine.new feed.new (S.view shelf.new) (K.view out.new).told result }
-        ensures last { IfOk result (λ e. is_sample e.last ≡ false) }
-        ensures asked { IfOk result (λ e. time_of machine.new ≤ e.asked) }
-        ensures conf { machine.new.parts.conf ≡ machine.old.parts.conf }
-        ensures stripes { stripes_of machine.new ≡ stripes_of machine.old }
-        ensures cause { OnErr result (Rose (K.view out.old).faults (K.view out.new).faults) }
-        ensures later { (K.view out.old).faults ≤ (K.view out.new).faults }
+        ensures turned { HasTurned machine.old machine.new (K.view out.old).faults (K.view out.new).faults result }
     {
         if self.log {
             self.turn_until_over::<N, P, S, K, true>(machine, feed, shelf, stall, out)

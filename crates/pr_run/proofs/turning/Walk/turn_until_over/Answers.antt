@@ -17,31 +17,31 @@ pub loop-now-init : goal.loop-now-init
 loop-now-init g c =
     let s0 = setting_of c.args.machine.now c.args.stall.now c.args.feed.now (g.S.Shelf.view c.args.shelf.now) (g.K.Sink.view c.args.out.now).told (not (eqb g.row.LOG 0)) in
     record {
-      on = subst (λ (last : Got). IsOn s0 (λ xs. turns (stages_of s0) s0.stripes s0.stall 0 (begun xs)) c.args.machine.now c.args.feed.now s0.shelf s0.tape last) (sym c.requires.first) (on_start s0 c.args.machine.now c.requires.loaded c.requires.fresh);
+      on = subst (λ (last : Got). IsOn s0 (λ xs. turns (stages_of s0) s0.stripes s0.stall 0 (begun xs)) c.args.machine.now c.args.feed.now s0.shelf s0.tape last) (sym c.requires.ready.first) (on_start s0 c.args.machine.now c.requires.ready.loaded c.requires.ready.fresh);
       widths = refl;
       left = refl;
-      inputs = c.requires.inputs;
+      inputs = c.requires.ready.inputs;
       conf = refl;
       stripes = refl;
-      time = (let t = time_start c.args.machine.now s0.conf s0.stripes c.requires.loaded in omega (arith, t));
+      time = (let t = time_start c.args.machine.now s0.conf s0.stripes c.requires.ready.loaded in omega (arith, t));
       later = omega arith;
     }
 
 pub turn-requires : goal.turn-requires
 turn-requires g c =
     let s0 = setting_of c.args.machine.now c.args.stall.now c.args.feed.now (g.S.Shelf.view c.args.shelf.now) (g.K.Sink.view c.args.out.now).told (not (eqb g.row.LOG 0)) in
-    let set : IsSet s0 = set_of c.args.machine.now c.args.stall.now c.args.feed.now _ _ (not (eqb g.row.LOG 0)) c.requires.inputs c.requires.turns c.requires.fresh.few in
+    let set : IsSet s0 = set_of c.args.machine.now c.args.stall.now c.args.feed.now _ _ (not (eqb g.row.LOG 0)) c.requires.ready.inputs c.requires.ready.turns c.requires.ready.fresh.few in
     let inv = c.loop-now.invariant in
     let k = c.loop-now.asked in
     let few = few_turns s0 k c.loop-now.machine c.loop-now.feed _ _ c.loop-now.self.last set inv.on in
     let fit = turns_fit s0 set in
-    let widths = inv.widths ∙ (c.requires.outputs ∙ ap (λ (k : Configuration g.row.N g.row.P). output_widths (shape_of k)) (sym inv.conf)) in
+    let widths = inv.widths ∙ (c.requires.ready.outputs ∙ ap (λ (k : Configuration g.row.N g.row.P). output_widths (shape_of k)) (sym inv.conf)) in
     (omega arith, (omega arith, (inv.inputs, (widths, omega (arith, inv.time, few, fit)))))
 
 pub returns-in-Over-clause-ended : goal.returns-in-Over-clause-ended
 returns-in-Over-clause-ended g c = λ s e.
     let s0 = setting_of c.args.machine.now c.args.stall.now c.args.feed.now (g.S.Shelf.view c.args.shelf.now) (g.K.Sink.view c.args.out.now).told (not (eqb g.row.LOG 0)) in
-    let set : IsSet s0 = set_of c.args.machine.now c.args.stall.now c.args.feed.now _ _ (not (eqb g.row.LOG 0)) c.requires.inputs c.requires.turns c.requires.fresh.few in
+    let set : IsSet s0 = set_of c.args.machine.now c.args.stall.now c.args.feed.now _ _ (not (eqb g.row.LOG 0)) c.requires.ready.inputs c.requires.ready.turns c.requires.ready.fresh.few in
     let inv = c.loop-now.invariant in
     let k = c.loop-now.asked in
     let first : List (List ℕ) → Run (List ℕ) = λ xs. turns (stages_of s0) s0.stripes s0.stall k (begun xs) in
@@ -51,19 +51,10 @@ returns-in-Over-clause-ended g c = λ s e.
     subst (λ (x : Setting). IsFinished x c.turn.new.machine c.turn.new.feed (g.S.Shelf.view c.turn.new.shelf) (g.K.Sink.view c.turn.new.out).told (record { last = c.in-Over.last; asked = k })) (sym e)
     (done_whole s0 k c.turn.new.machine c.turn.new.feed _ _ c.in-Over.last set done)
 
-pub returns-in-Over-clause-conf : goal.returns-in-Over-clause-conf
-returns-in-Over-clause-conf g c = c.turn.ensures.conf ∙ c.loop-now.invariant.conf
-
-pub returns-in-Over-clause-stripes : goal.returns-in-Over-clause-stripes
-returns-in-Over-clause-stripes g c = c.turn.ensures.stripes ∙ c.loop-now.invariant.stripes
-
-pub returns-in-Over-clause-later : goal.returns-in-Over-clause-later
-returns-in-Over-clause-later g c = omega (arith, c.loop-now.invariant.later, c.turn.ensures.later)
-
 pub returns-in-Failed-clause-ended : goal.returns-in-Failed-clause-ended
 returns-in-Failed-clause-ended g c = λ s e.
     let s0 = setting_of c.args.machine.now c.args.stall.now c.args.feed.now (g.S.Shelf.view c.args.shelf.now) (g.K.Sink.view c.args.out.now).told (not (eqb g.row.LOG 0)) in
-    let set : IsSet s0 = set_of c.args.machine.now c.args.stall.now c.args.feed.now _ _ (not (eqb g.row.LOG 0)) c.requires.inputs c.requires.turns c.requires.fresh.few in
+    let set : IsSet s0 = set_of c.args.machine.now c.args.stall.now c.args.feed.now _ _ (not (eqb g.row.LOG 0)) c.requires.ready.inputs c.requires.ready.turns c.requires.ready.fresh.few in
     let inv = c.loop-now.invariant in
     let k = c.loop-now.asked in
     let first : List (List ℕ) → Run (List ℕ) = λ xs. turns (stages_of s0) s0.stripes s0.stall k (begun xs) in
@@ -73,22 +64,10 @@ returns-in-Failed-clause-ended g c = λ s e.
     subst (λ (x : Setting). IsCut x (script_run x) c.turn.new.machine c.turn.new.feed (g.S.Shelf.view c.turn.new.shelf) (g.K.Sink.view c.turn.new.out).told) (sym e)
     (cut_whole s0 (k + 1) c.turn.new.machine c.turn.new.feed _ _ set cut)
 
-pub returns-in-Failed-clause-conf : goal.returns-in-Failed-clause-conf
-returns-in-Failed-clause-conf g c = c.turn.ensures.conf ∙ c.loop-now.invariant.conf
-
-pub returns-in-Failed-clause-stripes : goal.returns-in-Failed-clause-stripes
-returns-in-Failed-clause-stripes g c = c.turn.ensures.stripes ∙ c.loop-now.invariant.stripes
-
-pub returns-in-Failed-clause-cause : goal.returns-in-Failed-clause-cause
-returns-in-Failed-clause-cause g c = (let rose = c.in-Failed.ensures.cause refl in omega (arith, c.loop-now.invariant.later, rose))
-
-pub returns-in-Failed-clause-later : goal.returns-in-Failed-clause-later
-returns-in-Failed-clause-later g c = omega (arith, c.loop-now.invariant.later, c.turn.ensures.later)
-
 pub overflow_add-asked : goal.overflow_add-asked
 overflow_add-asked g c =
     let s0 = setting_of c.args.machine.now c.args.stall.now c.args.feed.now (g.S.Shelf.view c.args.shelf.now) (g.K.Sink.view c.args.out.now).told (not (eqb g.row.LOG 0)) in
-    let set : IsSet s0 = set_of c.args.machine.now c.args.stall.now c.args.feed.now _ _ (not (eqb g.row.LOG 0)) c.requires.inputs c.requires.turns c.requires.fresh.few in
+    let set : IsSet s0 = set_of c.args.machine.now c.args.stall.now c.args.feed.now _ _ (not (eqb g.row.LOG 0)) c.requires.ready.inputs c.requires.ready.turns c.requires.ready.fresh.few in
     let inv = c.loop-now.invariant in
     let k = c.loop-now.asked in
     let few = few_turns s0 k c.loop-now.machine c.loop-now.feed _ _ c.loop-now.self.last set inv.on in
@@ -98,7 +77,7 @@ overflow_add-asked g c =
 pub loop-now-smaller : goal.loop-now-smaller
 loop-now-smaller g c =
     let s0 = setting_of c.args.machine.now c.args.stall.now c.args.feed.now (g.S.Shelf.view c.args.shelf.now) (g.K.Sink.view c.args.out.now).told (not (eqb g.row.LOG 0)) in
-    let set : IsSet s0 = set_of c.args.machine.now c.args.stall.now c.args.feed.now _ _ (not (eqb g.row.LOG 0)) c.requires.inputs c.requires.turns c.requires.fresh.few in
+    let set : IsSet s0 = set_of c.args.machine.now c.args.stall.now c.args.feed.now _ _ (not (eqb g.row.LOG 0)) c.requires.ready.inputs c.requires.ready.turns c.requires.ready.fresh.few in
     let inv = c.loop-now.invariant in
     let k = c.loop-now.asked in
     let few = few_turns s0 k c.loop-now.machine c.loop-now.feed _ _ c.loop-now.self.last set inv.on in
@@ -107,7 +86,7 @@ loop-now-smaller g c =
 pub loop-now-preserved : goal.loop-now-preserved
 loop-now-preserved g c =
     let s0 = setting_of c.args.machine.now c.args.stall.now c.args.feed.now (g.S.Shelf.view c.args.shelf.now) (g.K.Sink.view c.args.out.now).told (not (eqb g.row.LOG 0)) in
-    let set : IsSet s0 = set_of c.args.machine.now c.args.stall.now c.args.feed.now _ _ (not (eqb g.row.LOG 0)) c.requires.inputs c.requires.turns c.requires.fresh.few in
+    let set : IsSet s0 = set_of c.args.machine.now c.args.stall.now c.args.feed.now _ _ (not (eqb g.row.LOG 0)) c.requires.ready.inputs c.requires.ready.turns c.requires.ready.fresh.few in
     let inv = c.loop-now.invariant in
     let k = c.loop-now.asked in
     let first : List (List ℕ) → Run (List ℕ) = λ xs. turns (stages_of s0) s0.stripes s0.stall k (begun xs) in
@@ -124,17 +103,24 @@ loop-now-preserved g c =
       later = omega (arith, inv.later, c.turn.ensures.later);
     }
 
-pub returns-in-Over-clause-last : goal.returns-in-Over-clause-last
-returns-in-Over-clause-last g c =
+pub returns-in-Over-clause-turned : goal.returns-in-Over-clause-turned
+returns-in-Over-clause-turned g c =
     let s0 = setting_of c.args.machine.now c.args.stall.now c.args.feed.now (g.S.Shelf.view c.args.shelf.now) (g.K.Sink.view c.args.out.now).told (not (eqb g.row.LOG 0)) in
-    let set : IsSet s0 = set_of c.args.machine.now c.args.stall.now c.args.feed.now _ _ (not (eqb g.row.LOG 0)) c.requires.inputs c.requires.turns c.requires.fresh.few in
-    let inv = c.loop-now.invariant in
-    let k = c.loop-now.asked in
-    let first : List (List ℕ) → Run (List ℕ) = λ xs. turns (stages_of s0) s0.stripes s0.stall k (begun xs) in
-    let next : List (List ℕ) → Run (List ℕ) = λ xs. turns (stages_of s0) s0.stripes s0.stall (k + 1) (begun xs) in
-    let turn = turn_now s0 (turns_left c.args.stall.now) (turns_left c.loop-now.stall) c.next-held.result k refl inv.left c.next-held.ensures.turn in
-    let done = c.in-Over.ensures.after s0 first next set refl turn inv.on in
-    (done_whole s0 k c.turn.new.machine c.turn.new.feed _ _ c.in-Over.last set done).ended
+    record {
+      last = (returns-in-Over-clause-ended g c s0 refl).ended;
+      asked = (let t = c.in-Over.ensures.time in omega (arith, c.loop-now.invariant.time, t));
+      conf = c.turn.ensures.conf ∙ c.loop-now.invariant.conf;
+      stripes = c.turn.ensures.stripes ∙ c.loop-now.invariant.stripes;
+      cause = tt;
+      later = omega (arith, c.loop-now.invariant.later, c.turn.ensures.later);
+    }
 
-pub returns-in-Over-clause-asked : goal.returns-in-Over-clause-asked
-returns-in-Over-clause-asked g c = (let t = c.in-Over.ensures.time in omega (arith, c.loop-now.invariant.time, t))
+pub returns-in-Failed-clause-turned : goal.returns-in-Failed-clause-turned
+returns-in-Failed-clause-turned g c = record {
+  last = tt;
+  asked = tt;
+  conf = c.turn.ensures.conf ∙ c.loop-now.invariant.conf;
+  stripes = c.turn.ensures.stripes ∙ c.loop-now.invariant.stripes;
+  cause = (let rose = c.in-Failed.ensures.cause refl in omega (arith, c.loop-now.invariant.later, rose));
+  later = omega (arith, c.loop-now.invariant.later, c.turn.ensures.later);
+}
