@@ -13,35 +13,35 @@ use Rattle.pr_cut_units.specs.Parts.{Making}
 use Rattle.pr_cut_units.specs.Widening.{Argument, read_as}
 use Rattle.pr_cut_units.specs.Equations.{Plan, plan_of, hold_unit, operand_slices, equation_units, next_units, cut_after, cut_whole}
 use Rattle.pr_cut_plan.specs.Plans.{IsPlanOf}
-use Rattle.pr_cut.specs.declared.sources.Source.{Source}
-use Rattle.pr_cut.specs.declared.sources.Turn.{Turn}
+use Rattle.pr_cut.specs.declared.sources.PlannedEquations.{PlannedEquations}
+use Rattle.pr_cut.specs.declared.sources.NextEquation.{NextEquation}
 
-abbrev pub equations_in : Source → List EquationShape
+abbrev pub equations_in : PlannedEquations → List EquationShape
 equations_in s = shapes_of s.flat.now.equations.items
 
 -- what the units are made by
-abbrev pub plan_in : Source → Plan
+abbrev pub plan_in : PlannedEquations → Plan
 plan_in s = plan_of (equations_in s) s.widths.now s.flat.now.outputs.items
 
 -- the units of an equation whose turn it is, on these operands, and after what the equations before it have
-abbrev pub turn_units : Source → Turn → List Argument → Making
+abbrev pub turn_units : PlannedEquations → NextEquation → List Argument → Making
 turn_units s turn args = equation_units (plan_in s) turn.number turn.equation.now.op args
 
-abbrev pub turn_next : Source → Turn → List (List Cell) → List (List Slice) → Making
+abbrev pub turn_next : PlannedEquations → NextEquation → List (List Cell) → List (List Slice) → Making
 turn_next s turn units values = next_units (plan_in s) (record { units = units; values = values }) (equation_shape turn.equation.now)
 
 -- an operand as it is read
-abbrev pub read_operand : Source → List (List Slice) → Operand → Bool → Argument
+abbrev pub read_operand : PlannedEquations → List (List Slice) → Operand → Bool → Argument
 read_operand s values a signed = read_as signed (operand_width (plan_in s).widths a) (operand_slices (plan_in s) values a)
 
 -- the widths are those of the equations, the plan is theirs, and they have no more units than a net may have
-pub record IsPlanned (s : Source) : Type 0 where
+pub record IsPlanned (s : PlannedEquations) : Type 0 where
   pub widths : AreWidths (equations_in s) s.widths.now
   pub plan : IsPlanOf s.plan.now (equations_in s) s.widths.now s.flat.now.outputs.items
   pub few : length (cut_whole (plan_in s)).units ≤ 32768
 
 -- the equation is the one of this number, and so many inputs stand before it
-pub record IsTurn (s : Source) (turn : Turn) : Type 0 where
+pub record IsTurn (s : PlannedEquations) (turn : NextEquation) : Type 0 where
   pub there : slice_get (equations_in s) turn.number ≡ Some (equation_shape turn.equation.now)
   pub inputs : turn.inputs ≡ count_by (λ (e : EquationShape). is_input e.op) (take turn.number (equations_in s))
 

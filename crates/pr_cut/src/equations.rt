@@ -14,7 +14,7 @@ ghost use Rattle.pr_cut.specs.Sources.{plan_in, turn_units, turn_next, IsPlanned
 
 use crate::operands::arguments;
 use crate::operators::units_at;
-use crate::sources::{Source, Turn, Value};
+use crate::sources::{NextEquation, PlannedEquations, Value};
 use pr_base::slices;
 use pr_cut_cells::{Argument, slices_of_unit, widened};
 use pr_cut_ops::{delayed, hold_units};
@@ -46,9 +46,9 @@ fn held(
 /// The units of an equation on these operands.
 fn equation_units(
     alloc: Global,
-    source: &Source,
+    source: &PlannedEquations,
     units: &mut Vec<Unit>,
-    turn: &Turn,
+    turn: &NextEquation,
     args: &[Argument],
 ) -> Result<Vec<Slice>, AllocError>
     requires planned { IsPlanned source.now }
@@ -77,7 +77,7 @@ fn equation_units(
 }
 
 /// Whether an equation is an input, or an output can be reached from it.
-fn has_units(source: &Source, turn: &Turn) -> bool
+fn has_units(source: &PlannedEquations, turn: &NextEquation) -> bool
     requires planned { IsPlanned source.now }
     requires turn { IsTurn source.now turn.now }
     ensures { result ≡ has_units (plan_in source.now) turn.now.number (equation_shape turn.now.equation.now) }
@@ -89,10 +89,10 @@ fn has_units(source: &Source, turn: &Turn) -> bool
 #[tactic(auto, using(crate::proofs::EquationLemmas::next_made, crate::proofs::EquationLemmas::next_slices, crate::proofs::EquationLemmas::next_none))]
 pub fn next_units(
     alloc: Global,
-    source: &Source,
+    source: &PlannedEquations,
     units: &mut Vec<Unit>,
     values: &[Value],
-    turn: &Turn,
+    turn: &NextEquation,
 ) -> Result<Vec<Slice>, AllocError>
     requires planned { IsPlanned source.now }
     requires turn { IsTurn source.now turn.now }

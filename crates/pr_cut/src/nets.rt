@@ -16,7 +16,7 @@ ghost use Rattle.pr_cut.specs.Sources.{plan_in, equations_in, IsPlanned, AreRead
 
 use crate::equations::next_units;
 use crate::operands::operand_slices;
-use crate::sources::{Source, Turn, Value};
+use crate::sources::{NextEquation, PlannedEquations, Value};
 use pr_base::slices;
 use pr_cut_ops::input_unit;
 use pr_cut_plan::{CutFault, groups_of, holds_of, plan_of};
@@ -27,7 +27,7 @@ use std::alloc::{AllocError, Global};
 
 /// The units of all equations, and the slices of each equation.
 #[derive(Drop)]
-struct Made {
+struct CutEquations {
     units: Vec<Unit>,
     values: Vec<Value>,
 }
@@ -75,7 +75,11 @@ fn input_count(op: Op) -> u32
 
 /// The units of all equations, after those of inputs of these widths.
 #[tactic(auto, using(crate::proofs::StepLemmas::cut_more, crate::proofs::StepLemmas::cut_units, crate::proofs::StepLemmas::cut_values, crate::proofs::StepLemmas::inputs_few))]
-fn all_units(alloc: Global, source: &Source, inputs: &[u8]) -> Result<Made, AllocError>
+fn all_units(
+    alloc: Global,
+    source: &PlannedEquations,
+    inputs: &[u8],
+) -> Result<CutEquations, AllocError>
     requires planned { IsPlanned source.now }
     requires inputs { inputs.now ≡ input_widths (equations_in source.now) }
     requires room { sum_by slices_of inputs.now ≤ 64 }
@@ -87,7 +91,7 @@ fn all_units(alloc: Global, source: &Source, inputs: &[u8]) -> Result<Made, Allo
     let mut before = 0;
     for number in 0..source.flat.equations.len() {
         let equation = &source.flat.equations[number];
-        let turn = Turn {
+        let turn = NextEquation {
             number,
             equation,
             inputs: before,
@@ -96,11 +100,15 @@ fn all_units(alloc: Global, source: &Source, inputs: &[u8]) -> Result<Made, Allo
         values.push(Value { slices })?;
         before += input_count(equation.op);
     }
-    Ok(Made { units, values })
+    Ok(CutEquations { units, values })
 }
 
 /// What the outputs give, where the equations have these slices.
-fn outputs(alloc: Global, source: &Source, values: &[Value]) -> Result<Vec<NetOutput>, AllocError>
+fn outputs(
+    alloc: Global,
+    source: &PlannedEquations,
+    values: &[Value],
+) -> Result<Vec<NetOutput>, AllocError>
     requires planned { IsPlanned source.now }
     requires ready { AreReady (plan_in source.now) values.now source.now.flat.now.outputs.items }
     ensures { IfOk result (λ all. all.items ≡
@@ -119,14 +127,14 @@ fn outputs(alloc: Global, source: &Source, values: &[Value]) -> Result<Vec<NetOu
 }
 
 /// The net of equations by their plan.
-fn net_with(alloc: Global, source: &Source) -> Result<Net, AllocError>
+fn net_with(alloc: Global, source: &PlannedEquations) -> Result<Net, AllocError>
     requires planned { IsPlanned source.now }
     requires room { sum_by slices_of (input_widths (equations_in source.now)) ≤ 64 }
     ensures { IfOk result (λ net. shape_of net ≡ flat_net source.now.flat.now source.now.widths.now) }
 {
     let inputs = input_widths(alloc, source.flat)?;
     let made = all_units(alloc, source, &inputs)?;
-    let Made { units, values } = made;
+    let CutEquations { units, values } = made;
     let outputs = outputs(alloc, source, &values)?;
     let holds = holds_of(alloc, source.flat, source.plan)?;
     let groups = groups_of(alloc, &units, &holds)?;
@@ -156,7 +164,7 @@ pub fn cut(alloc: Global, flat: &Flat, widths: &Widths, columns: usize) -> Resul
         result ≡ Err (CutFault.Limit cap) }
 {
     let plan = plan_of(alloc, flat, widths, columns)?;
-    let source = Source {
+    let source = PlannedEquations {
         flat,
         widths: &widths.of,
         plan: &plan,

@@ -8,7 +8,7 @@ ghost use Rattle.pr_cut_cells.specs.Arguments.{argument_of};
 ghost use Rattle.pr_cut.specs.Operators.{arguments_of};
 ghost use Rattle.pr_cut.specs.Sources.{plan_in, read_operand, IsPlanned, IsNamed, IsReady, AreReady};
 
-use crate::sources::{Source, Value};
+use crate::sources::{PlannedEquations, Value};
 use pr_base::{byte_of, slices};
 use pr_cut_cells::{Argument, same};
 use pr_cut_ops::past_slices;
@@ -35,7 +35,7 @@ fn number_slices(alloc: Global, c: u64) -> Result<Vec<Slice>, AllocError>
 /// The slices of an operand, where the equations before have these.
 pub fn operand_slices(
     alloc: Global,
-    source: &Source,
+    source: &PlannedEquations,
     values: &[Value],
     a: Operand,
 ) -> Result<Vec<Slice>, AllocError>
@@ -59,7 +59,7 @@ pub fn operand_slices(
 /// The slices of an operand, read where they stand.
 fn slices_read<'a>(
     alloc: Global,
-    source: &Source,
+    source: &PlannedEquations,
     values: &'a [Value],
     a: Operand,
 ) -> Result<CowSlice<'a, Slice, Global>, AllocError>
@@ -78,7 +78,7 @@ fn slices_read<'a>(
 /// An operand as it is read.
 fn argument<'a>(
     alloc: Global,
-    source: &Source,
+    source: &PlannedEquations,
     values: &'a [Value],
     a: Operand,
     signed: bool,
@@ -99,7 +99,7 @@ fn argument<'a>(
 /// The operands of an equation as they are read.
 pub fn arguments<'a>(
     alloc: Global,
-    source: &Source,
+    source: &PlannedEquations,
     values: &'a [Value],
     equation: &Equation,
 ) -> Result<Vec<Argument<'a>>, AllocError>

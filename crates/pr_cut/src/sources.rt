@@ -7,7 +7,7 @@ use std::marker::Model;
 
 /// Equations with their widths and their plan.
 #[derive(Clone, Copy)]
-pub struct Source<'a> {
+pub struct PlannedEquations<'a> {
     pub flat: &'a Flat,
     pub widths: &'a [u8],
     pub plan: &'a Plan,
@@ -15,7 +15,7 @@ pub struct Source<'a> {
 
 /// An equation whose turn it is.
 #[derive(Clone, Copy)]
-pub struct Turn<'a> {
+pub struct NextEquation<'a> {
     pub number: usize,
     pub equation: &'a Equation,
     /// How many inputs stand before it.

@@ -26,7 +26,7 @@ use Rattle.pr_tool_modes.proofs.SampleLemmas.{HasGiven, given_more, done_all, so
 use Rattle.pr_lens_signals.specs.Reading.{IsLongFeed}
 use Rattle.pr_lens_signals.specs.Signals.{AreFirst}
 use Rattle.pr_lens_rtl_text.specs.Limits.{most_text_bytes}
-use Rattle.pr_lens_bench.specs.declared.texts.Plan.{Plan}
+use Rattle.pr_lens_bench.specs.declared.texts.Design.{Design}
 use Rattle.pr_lens_bench.specs.declared.trials.NoBench.{NoBench}
 use Rattle.pr_lens_bench.specs.declared.trials.NoBench.TheVariants.{Long, Ended}
 use Rattle.pr_lens_bench.specs.declared.reading.Lines.{Lines}
@@ -37,12 +37,12 @@ use Rattle.pr_lens_bench.specs.Benches.{IsBench, HasLongStart, HasLongWhole, IsU
 use Rattle.pr_lens_bench.proofs.CellLemmas.{rows_more}
 
 -- a feed that began as this one has given these samples, the evaluator was given them, and these are their lines
-pub record HasMade (told : Told) (equations : List EquationShape) (outputs : List Operand) (widths : List ℕ) (plan : Plan) (first f : Feed) (v : Evaluator) (text : List ℕ) (count : ℕ) : Type 0 where
+pub record HasMade (told : Told) (equations : List EquationShape) (outputs : List Operand) (widths : List ℕ) (design : Design) (first f : Feed) (v : Evaluator) (text : List ℕ) (count : ℕ) : Type 0 where
   pub samples : List (List ℕ)
   pub reads : ReadsOn told [] first f (λ file. HasGiven first f file samples)
   pub stands : Stands equations widths samples v
   pub many : length (given_all equations outputs widths samples) ≡ length samples
-  pub lines : text ≡ lines_text plan samples (given_all equations outputs widths samples)
+  pub lines : text ≡ lines_text design samples (given_all equations outputs widths samples)
   pub counted : count ≡ length samples
 
 -- ---- before the first sample
@@ -54,8 +54,8 @@ any_file : (told : Told) (name : List ℕ) (P : List ℕ → Type 0) → ((file 
 any_file None name P all = tt
 any_file (Some files) name P all = any_some (files name) P all
 
-pub made_nothing : (told : Told) (equations : List EquationShape) (outputs : List Operand) (widths inputs : List ℕ) (plan : Plan) (f : Feed) (v : Evaluator) → IsLongFeed inputs f → Stands equations widths [] v → HasMade told equations outputs widths plan f f v [] 0
-made_nothing told equations outputs widths inputs plan f v long stands =
+pub made_nothing : (told : Told) (equations : List EquationShape) (outputs : List Operand) (widths inputs : List ℕ) (design : Design) (f : Feed) (v : Evaluator) → IsLongFeed inputs f → Stands equations widths [] v → HasMade told equations outputs widths design f f v [] 0
+made_nothing told equations outputs widths inputs design f v long stands =
     let begins : (file : List ℕ) → Begins f.tail [] file = λ file. record { rest = file; whole = refl; end = λ ended. (let no : Tail.Open ≡ Tail.Ended = sym long.fresh.bytes.1 ∙ ended in cc) } in
     record {
       samples = [];
@@ -72,12 +72,12 @@ made_nothing told equations outputs widths inputs plan f v long stands =
     }
 
 -- ---- one sample more
-pub made_more : (told : Told) (equations : List EquationShape) (outputs : List Operand) (widths : List ℕ) (plan : Plan) (first f f' : Feed) (v v' : Evaluator) (text text' : List ℕ) (count count' : ℕ) (numbers row : List ℕ)
-    → (has : HasMade told equations outputs widths plan first f v text count) → SameFile first f' → given_of f' ≡ given_of f + 1
+pub made_more : (told : Told) (equations : List EquationShape) (outputs : List Operand) (widths : List ℕ) (design : Design) (first f f' : Feed) (v v' : Evaluator) (text text' : List ℕ) (count count' : ℕ) (numbers row : List ℕ)
+    → (has : HasMade told equations outputs widths design first f v text count) → SameFile first f' → given_of f' ≡ given_of f + 1
     → ((bytes : List ℕ) → IsSeen told bytes f → ReadsOn told bytes f f' (λ file. StandsFor f file → IsGiven f' (given_of f) numbers file))
     → Stands equations widths (has.samples ++ numbers ∷ []) v' → row ≡ given equations outputs (row_of equations widths (reverse (rows_of equations widths has.samples)) numbers)
-    → text' ≡ text ++ row_text plan.inputs.items plan.outputs.items count numbers row → count' ≡ count + 1 → HasMade told equations outputs widths plan first f' v' text' count'
-made_more told equations outputs widths plan first f f' v v' text text' count count' numbers row has same given_one next stands is line one =
+    → text' ≡ text ++ row_text design.inputs.items design.outputs.items count numbers row → count' ≡ count + 1 → HasMade told equations outputs widths design first f' v' text' count'
+made_more told equations outputs widths design first f f' v v' text text' count count' numbers row has same given_one next stands is line one =
     let on = next has.reads.bytes has.reads.seen in
     let rows = rows_of equations widths has.samples in
     let last = row_of equations widths (reverse rows) numbers in
@@ -98,22 +98,22 @@ made_more told equations outputs widths plan first f f' v v' text text' count co
       stands = stands;
       many = omega (arith, ap length all, length-append results (row ∷ []), length-append has.samples (numbers ∷ []), has.many);
       lines = line
-          ∙ ap (λ (t : List ℕ). t ++ row_text plan.inputs.items plan.outputs.items count numbers row) has.lines
-          ∙ ap (λ (n : ℕ). lines_text plan has.samples results ++ row_text plan.inputs.items plan.outputs.items n numbers row) counted
-          ∙ sym (rows_more plan.inputs.items plan.outputs.items 0 has.samples results numbers row has.many)
-          ∙ ap (λ (rs : List (List ℕ)). lines_text plan (has.samples ++ numbers ∷ []) rs) (sym all);
+          ∙ ap (λ (t : List ℕ). t ++ row_text design.inputs.items design.outputs.items count numbers row) has.lines
+          ∙ ap (λ (n : ℕ). lines_text design has.samples results ++ row_text design.inputs.items design.outputs.items n numbers row) counted
+          ∙ sym (rows_more design.inputs.items design.outputs.items 0 has.samples results numbers row has.many)
+          ∙ ap (λ (rs : List (List ℕ)). lines_text design (has.samples ++ numbers ∷ []) rs) (sym all);
       counted = omega (arith, one, has.counted, length-append has.samples (numbers ∷ []));
     }
 
 -- ---- no sample more
-module _ (told : Told) (program : Program) (equations : List EquationShape) (outputs : List Operand) (widths : List ℕ) (plan : Plan) (first f : Feed) (v : Evaluator) (text : List ℕ) (count : ℕ)
-    (has : HasMade told equations outputs widths plan first f v text count) (means : given_all equations outputs widths has.samples ≡ out program has.samples) where
-  lines_mean : text ≡ lines_text plan has.samples (out program has.samples)
-  lines_mean = has.lines ∙ ap (lines_text plan has.samples) means
+module _ (told : Told) (program : Program) (equations : List EquationShape) (outputs : List Operand) (widths : List ℕ) (design : Design) (first f : Feed) (v : Evaluator) (text : List ℕ) (count : ℕ)
+    (has : HasMade told equations outputs widths design first f v text count) (means : given_all equations outputs widths has.samples ≡ out program has.samples) where
+  lines_mean : text ≡ lines_text design has.samples (out program has.samples)
+  lines_mean = has.lines ∙ ap (lines_text design has.samples) means
 
   pub made_all : (f' : Feed) (numbers : List ℕ) (end : Got) → SameFile first f' → given_of f' ≡ given_of f + given_by end
       → ((bytes : List ℕ) → IsSeen told bytes f → ReadsOn told bytes f f' (λ file. StandsFor f file → Gives end (given_of f) f' numbers file)) → end ≢ Got.Sample → end ≢ Got.ReadFault
-      → HasLines told program plan first f' text count end
+      → HasLines told program design first f' text count end
   made_all f' numbers end same given_one next other no_fault = record {
     samples = has.samples;
     reads = done_all told first f f' has.samples numbers end has.reads same given_one next other no_fault;
@@ -121,7 +121,7 @@ module _ (told : Told) (program : Program) (equations : List EquationShape) (out
     counted = has.counted;
   }
 
-  pub made_long : (IsMissing told (name_of f) → ⊥) → most_text_bytes < length text → HasLongLines told program plan first f
+  pub made_long : (IsMissing told (name_of f) → ⊥) → most_text_bytes < length text → HasLongLines told program design first f
   made_long there long = record {
     samples = has.samples;
     reads = record {
@@ -140,11 +140,11 @@ unfolding fed_at_most
 long_fed widths f file is =
     ap (λ (ws : List ℕ). fed_of ws f.limit f.most file) is.inputs ∙ (ap (λ (n : ℕ). fed_of widths n f.most file) is.limit ∙ ap (λ (n : ℕ). fed_of widths (2 ^ 44) n file) is.most)
 
-module _ (told : Told) (name : List ℕ) (program : Program) (plan : Plan) (first now : Feed) (long : IsLongFeed (inputs_of program) first) (named : name_of now ≡ name) where
+module _ (told : Told) (name : List ℕ) (program : Program) (design : Design) (first now : Feed) (long : IsLongFeed (inputs_of program) first) (named : name_of now ≡ name) where
   first_is : (samples : List (List ℕ)) (file : List ℕ) → ((k : ℕ) × (samples ≡ take k (fed first file).samples)) → AreFirst (inputs_of program) samples file
   first_is samples file front = (front.0, front.1 ∙ ap (λ (k : Fed). take front.0 k.samples) (long_fed (inputs_of program) first file long))
 
-  pub long_start : HasLongLines told program plan first now → HasLongStart told name program plan
+  pub long_start : HasLongLines told program design first now → HasLongStart told name program design
   long_start has =
       let read = some_file told name now.tail has.reads.bytes (rw named at has.reads.seen.file) (λ missing. has.there (subst (λ (n : List ℕ). IsMissing told n) (sym named) missing)) in
       record {
@@ -155,11 +155,11 @@ module _ (told : Told) (name : List ℕ) (program : Program) (plan : Plan) (firs
         long = has.long;
       }
 
-  module _ (lines : Lines) (has : HasLines told program plan first now lines.text.items lines.count lines.end) (there : IsMissing told name → ⊥) where
-    bench_is : with_lines plan lines ≡ bench_on program plan has.samples
-    bench_is = ap₂ (λ (n : ℕ) (t : List ℕ). before_text plan n ++ t ++ behind_text plan) has.counted has.lines
+  module _ (lines : Lines) (has : HasLines told program design first now lines.text.items lines.count lines.end) (there : IsMissing told name → ⊥) where
+    bench_is : with_lines design lines ≡ bench_on program design has.samples
+    bench_is = ap₂ (λ (n : ℕ) (t : List ℕ). before_text design n ++ t ++ behind_text design) has.counted has.lines
 
-    pub made_bench : (text : List ℕ) → lines.end ≡ Got.End → text ≡ with_lines plan lines → length text ≤ most_text_bytes → IsBench told name program plan text
+    pub made_bench : (text : List ℕ) → lines.end ≡ Got.End → text ≡ with_lines design lines → length text ≤ most_text_bytes → IsBench told name program design text
     made_bench text end is short =
         let read = some_file told name now.tail has.reads.bytes (rw named at has.reads.seen.file) there in
         let all = has.reads.holds read.file read.begins in
@@ -175,7 +175,7 @@ module _ (told : Told) (name : List ℕ) (program : Program) (plan : Plan) (firs
         }
 
     -- the whole text has too many bytes
-    pub whole_long : lines.end ≡ Got.End → most_text_bytes < length (with_lines plan lines) → HasLongWhole told name program plan
+    pub whole_long : lines.end ≡ Got.End → most_text_bytes < length (with_lines design lines) → HasLongWhole told name program design
     whole_long end more =
         let read = some_file told name now.tail has.reads.bytes (rw named at has.reads.seen.file) there in
         let all = has.reads.holds read.file read.begins in
@@ -190,8 +190,8 @@ module _ (told : Told) (name : List ℕ) (program : Program) (plan : Plan) (firs
         }
 
   module _ (rb rn : ℕ) where
-    ends_so : (text : List ℕ) (count : ℕ) (end : Got) (ending : Ending) → HasLines told program plan first now text count end → length text ≤ most_text_bytes → (IsMissing told name → ⊥) → ((e : Ending) → EndsBy end e → e ≡ ending)
-        → EndsSo told name program plan ending
+    ends_so : (text : List ℕ) (count : ℕ) (end : Got) (ending : Ending) → HasLines told program design first now text count end → length text ≤ most_text_bytes → (IsMissing told name → ⊥) → ((e : Ending) → EndsBy end e → e ≡ ending)
+        → EndsSo told name program design ending
     ends_so text count end ending has short there by =
         let read = some_file told name now.tail has.reads.bytes (rw named at has.reads.seen.file) there in
         let all = has.reads.holds read.file read.begins in
@@ -206,8 +206,8 @@ module _ (told : Told) (name : List ℕ) (program : Program) (plan : Plan) (firs
         }
 
     -- the samples end otherwise
-    pub unbenched : (text : List ℕ) (count : ℕ) (end : Got) → (end ≢ Got.ReadFault → HasLines told program plan first now text count end) → length text ≤ most_text_bytes → (end ≢ Got.ReadFault → IsMissing told name → ⊥)
-        → (end ≡ Got.ReadFault → HasReadCause told name rb rn) → end ≢ Got.End → IsUnbenched told name program plan rb rn (Ended (answer_by end))
+    pub unbenched : (text : List ℕ) (count : ℕ) (end : Got) → (end ≢ Got.ReadFault → HasLines told program design first now text count end) → length text ≤ most_text_bytes → (end ≢ Got.ReadFault → IsMissing told name → ⊥)
+        → (end ≡ Got.ReadFault → HasReadCause told name rb rn) → end ≢ Got.End → IsUnbenched told name program design rb rn (Ended (answer_by end))
     unbenched text count Got.Sample has short there cause other = let h = has (λ e. cc) in absurd (h.reads.holds h.reads.bytes (begins_itself now.tail h.reads.bytes)).ends
     unbenched text count Got.End has short there cause other = absurd (other refl)
     unbenched text count (Got.BadSample line) has short there cause other = ends_so text count (Got.BadSample line) (BadSample line) (has (λ e. cc)) short (there (λ e. cc)) (λ e h. h)
@@ -215,28 +215,28 @@ module _ (told : Told) (name : List ℕ) (program : Program) (plan : Plan) (firs
     unbenched text count (Got.Limit which) has short there cause other = ends_so text count (Got.Limit which) (Limit which) (has (λ e. cc)) short (there (λ e. cc)) (λ e h. h)
 
     -- the lines have too many bytes, or memory wants
-    pub unbenched_cut : (s : NoBench) → IsCut told program plan first now s → IsUnbenched told name program plan rb rn s
+    pub unbenched_cut : (s : NoBench) → IsCut told program design first now s → IsUnbenched told name program design rb rn s
     unbenched_cut Long has = inl (long_start has)
     unbenched_cut (Ended Answer.Memory) has = tt
     unbenched_cut (Ended answer) has = absurd has
 
 -- ---- want of memory
-pub cut_memory : {T : Type 0} (told : Told) (program : Program) (plan : Plan) (first now : Feed) (r : Result T NoBench) → (y : NoBench) × (r ≡ Err y) × (y ≡ Ended Answer.Memory) → IfErr r (IsCut told program plan first now)
-cut_memory told program plan first now r p = rw (p.1, p.2) tt
+pub cut_memory : {T : Type 0} (told : Told) (program : Program) (design : Design) (first now : Feed) (r : Result T NoBench) → (y : NoBench) × (r ≡ Err y) × (y ≡ Ended Answer.Memory) → IfErr r (IsCut told program design first now)
+cut_memory told program design first now r p = rw (p.1, p.2) tt
 
-pub unbenched_memory : {T : Type 0} (told : Told) (name : List ℕ) (program : Program) (plan : Plan) (rb rn : ℕ) (r : Result T NoBench) → (y : NoBench) × (r ≡ Err y) × (y ≡ Ended Answer.Memory) → IfErr r (IsUnbenched told name program plan rb rn)
-unbenched_memory told name program plan rb rn r p = rw (p.1, p.2) tt
+pub unbenched_memory : {T : Type 0} (told : Told) (name : List ℕ) (program : Program) (design : Design) (rb rn : ℕ) (r : Result T NoBench) → (y : NoBench) × (r ≡ Err y) × (y ≡ Ended Answer.Memory) → IfErr r (IsUnbenched told name program design rb rn)
+unbenched_memory told name program design rb rn r p = rw (p.1, p.2) tt
 
-pub not_short_memory : {T : Type 0} (plan : Plan) (lines : Lines) (r : Result T NoBench) → (y : NoBench) × (r ≡ Err y) × (y ≡ Ended Answer.Memory) → IfErr r (IsNotShort plan lines)
-not_short_memory plan lines r p = rw (p.1, p.2) tt
+pub not_short_memory : {T : Type 0} (design : Design) (lines : Lines) (r : Result T NoBench) → (y : NoBench) × (r ≡ Err y) × (y ≡ Ended Answer.Memory) → IfErr r (IsNotShort design lines)
+not_short_memory design lines r p = rw (p.1, p.2) tt
 
-pub not_short_unbenched : (told : Told) (name : List ℕ) (program : Program) (plan : Plan) (lines : Lines) (rb rn : ℕ) → (most_text_bytes < length (with_lines plan lines) → HasLongWhole told name program plan) → (s : NoBench) → IsNotShort plan lines s
-    → IsUnbenched told name program plan rb rn s
-not_short_unbenched told name program plan lines rb rn long Long is = inr (long is)
-not_short_unbenched told name program plan lines rb rn long (Ended Answer.Memory) is = tt
-not_short_unbenched told name program plan lines rb rn long (Ended answer) is = absurd is
+pub not_short_unbenched : (told : Told) (name : List ℕ) (program : Program) (design : Design) (lines : Lines) (rb rn : ℕ) → (most_text_bytes < length (with_lines design lines) → HasLongWhole told name program design) → (s : NoBench) → IsNotShort design lines s
+    → IsUnbenched told name program design rb rn s
+not_short_unbenched told name program design lines rb rn long Long is = inr (long is)
+not_short_unbenched told name program design lines rb rn long (Ended Answer.Memory) is = tt
+not_short_unbenched told name program design lines rb rn long (Ended answer) is = absurd is
 
 -- the fault with which a step ends the whole
-pub unbenched_by : {T : Type 0} (told : Told) (name : List ℕ) (program : Program) (plan : Plan) (rb rn : ℕ) (r : Result T NoBench) (s : NoBench) → (y : NoBench) × (r ≡ Err y) × (y ≡ s) → IsUnbenched told name program plan rb rn s
-    → IfErr r (IsUnbenched told name program plan rb rn)
-unbenched_by told name program plan rb rn r s p is = rw (p.1, p.2) is
+pub unbenched_by : {T : Type 0} (told : Told) (name : List ℕ) (program : Program) (design : Design) (rb rn : ℕ) (r : Result T NoBench) (s : NoBench) → (y : NoBench) × (r ≡ Err y) × (y ≡ s) → IsUnbenched told name program design rb rn s
+    → IfErr r (IsUnbenched told name program design rb rn)
+unbenched_by told name program design rb rn r s p is = rw (p.1, p.2) is

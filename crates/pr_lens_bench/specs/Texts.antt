@@ -3,7 +3,7 @@ use Rattle.std.specs.Prelude.{ℕ, List, ◌++◌, codes, decimal, length}
 use Rattle.pr_lang.specs.declared.trees.Program.{Program}
 use Rattle.pr_lang_meaning.specs.Programs.{out}
 use Rattle.pr_lens_bench.specs.declared.pieces.Piece.{Piece}
-use Rattle.pr_lens_bench.specs.declared.texts.Plan.{Plan}
+use Rattle.pr_lens_bench.specs.declared.texts.Design.{Design}
 use Rattle.pr_lens_bench.specs.Pieces.{pieces_text}
 use Rattle.pr_lens_bench.specs.Cells.{rows_text}
 
@@ -49,26 +49,26 @@ end_text =
     ++ codes "      $display(\"only %0d of %0d results came\", taken, count);\n      $finish;\n    end\n  end\nendmodule\n"
 
 -- what stands before the lines of so many samples, and behind them
-unfoldable pub before_text : Plan → ℕ → List ℕ
-before_text plan count =
-    head_text plan.seed count ++ pieces_text Piece.Sample count plan.inputs.items ++ pieces_text Piece.Wanted count plan.outputs.items
-    ++ module_text plan.name.items ++ pieces_text Piece.Link count plan.inputs.items ++ pieces_text Piece.Link count plan.outputs.items
+unfoldable pub before_text : Design → ℕ → List ℕ
+before_text design count =
+    head_text design.seed count ++ pieces_text Piece.Sample count design.inputs.items ++ pieces_text Piece.Wanted count design.outputs.items
+    ++ module_text design.name.items ++ pieces_text Piece.Link count design.inputs.items ++ pieces_text Piece.Link count design.outputs.items
     ++ begin_text
 
-unfoldable pub behind_text : Plan → List ℕ
-behind_text plan =
-    drive_text ++ pieces_text Piece.Offer 0 plan.inputs.items ++ look_text ++ pieces_text Piece.Check 0 plan.outputs.items ++ end_text
+unfoldable pub behind_text : Design → List ℕ
+behind_text design =
+    drive_text ++ pieces_text Piece.Offer 0 design.inputs.items ++ look_text ++ pieces_text Piece.Check 0 design.outputs.items ++ end_text
 
 -- the lines of samples, and the whole
-abbrev pub lines_text : Plan → (samples results : List (List ℕ)) → List ℕ
-lines_text plan samples results = rows_text plan.inputs.items plan.outputs.items 0 samples results
+abbrev pub lines_text : Design → (samples results : List (List ℕ)) → List ℕ
+lines_text design samples results = rows_text design.inputs.items design.outputs.items 0 samples results
 
-abbrev pub bench_text : Plan → (samples results : List (List ℕ)) → List ℕ
-bench_text plan samples results = before_text plan (length samples) ++ lines_text plan samples results ++ behind_text plan
+abbrev pub bench_text : Design → (samples results : List (List ℕ)) → List ℕ
+bench_text design samples results = before_text design (length samples) ++ lines_text design samples results ++ behind_text design
 
 -- the same of samples and what a program means on them
-abbrev pub lines_on : Program → Plan → List (List ℕ) → List ℕ
-lines_on program plan samples = lines_text plan samples (out program samples)
+abbrev pub lines_on : Program → Design → List (List ℕ) → List ℕ
+lines_on program design samples = lines_text design samples (out program samples)
 
-abbrev pub bench_on : Program → Plan → List (List ℕ) → List ℕ
-bench_on program plan samples = bench_text plan samples (out program samples)
+abbrev pub bench_on : Program → Design → List (List ℕ) → List ℕ
+bench_on program design samples = bench_text design samples (out program samples)

@@ -41,7 +41,7 @@ fn lines_of<S: Shelf>(
     requires feed { IsLongFeed (inputs_of trial.now.front.scoped.program) feed.old }
     ensures lines { IfOk result
         (λ r. r.end ≢ Got.ReadFault
-        → HasLines (S.view shelf.old).told trial.now.front.scoped.program trial.now.plan feed.old feed.new
+        → HasLines (S.view shelf.old).told trial.now.front.scoped.program trial.now.design feed.old feed.new
         r.text.items r.count r.end) }
     ensures short { IfOk result (λ r. length r.text.items ≤ most_text_bytes) }
     ensures there { IfOk result
@@ -50,7 +50,7 @@ fn lines_of<S: Shelf>(
         (λ r. r.end ≡ Got.ReadFault
         → HasReadCause (S.view shelf.old).told (name_of feed.old) (S.view shelf.old).faults (S.view shelf.new).faults) }
     ensures cut { IfErr result
-        (IsCut (S.view shelf.old).told trial.now.front.scoped.program trial.now.plan feed.old feed.new) }
+        (IsCut (S.view shelf.old).told trial.now.front.scoped.program trial.now.design feed.old feed.new) }
     ensures steady { IfOk result (λ r. r.end ≢ Got.ReadFault → (S.view shelf.new).faults ≡ (S.view shelf.old).faults) }
     ensures kept { OnErr result ((S.view shelf.new).faults ≡ (S.view shelf.old).faults) }
     ensures name { name_of feed.new ≡ name_of feed.old }
@@ -67,17 +67,17 @@ fn lines_of<S: Shelf>(
 
 /// The bench with these lines, unless it has too many bytes.
 fn short_text(alloc: Global, trial: &Trial, lines: &Lines) -> Result<Vec<u8>, NoBench>
-    ensures made { IfOk result (λ text. IsShort trial.now.plan lines.now text.items) }
-    ensures refused { IfErr result (IsNotShort trial.now.plan lines.now) }
+    ensures made { IfOk result (λ text. IsShort trial.now.design lines.now text.items) }
+    ensures refused { IfErr result (IsNotShort trial.now.design lines.now) }
 {
-    let text = whole_text(alloc, &trial.plan, lines.count, &lines.text)?;
+    let text = whole_text(alloc, &trial.design, lines.count, &lines.text)?;
     if MOST_TEXT_BYTES < text.len() {
         return Err(NoBench::Long);
     }
     Ok(text)
 }
 
-/// A bench that tries the module of a plan on the samples of a file: it wants what the program means on them.
+/// A bench that tries the module of a design on the samples of a file: it wants what the program means on them.
 ///
 /// Each sample is evaluated when it is read. Nothing is made where a line is no sample.
 pub fn bench<S: Shelf>(
@@ -88,9 +88,9 @@ pub fn bench<S: Shelf>(
 ) -> Result<Vec<u8>, NoBench>
     requires { IsFit trial.now }
     ensures made { IfOk result (λ text.
-        IsBench (S.view shelf.old).told samples.now trial.now.front.scoped.program trial.now.plan text.items) }
+        IsBench (S.view shelf.old).told samples.now trial.now.front.scoped.program trial.now.design text.items) }
     ensures refused { IfErr result
-        (IsUnbenched (S.view shelf.old).told samples.now trial.now.front.scoped.program trial.now.plan
+        (IsUnbenched (S.view shelf.old).told samples.now trial.now.front.scoped.program trial.now.design
         (S.view shelf.old).faults (S.view shelf.new).faults) }
 
     // A read that fails is not tried again: it ends with ReadFault.

@@ -4,7 +4,7 @@ ghost use Rattle.std.specs.Prelude.{◌≡◌, ◌<◌, ◌++◌, OnOk, codes, d
 ghost use Rattle.pr_lens_bench.specs.Cells.{cell_text, cells_text, letter_text, row_text};
 
 use crate::pieces::put_named;
-use crate::texts::Plan;
+use crate::texts::Design;
 use itoa::Buffer;
 use pr_base::Num;
 use pr_lens_rtl_names::Side;
@@ -75,17 +75,17 @@ fn put_cells(
 /// Adds the line of a sample and its result.
 pub fn put_row(
     text: &mut Vec<u8>,
-    plan: &Plan,
+    design: &Design,
     place: usize,
     sample: &[Num],
     row: &[Num],
 ) -> Result<(), AllocError>
     ensures line { OnOk result (text.new.items
-        ≡ text.old.items ++ row_text plan.now.inputs.items plan.now.outputs.items place sample.now row.now) }
+        ≡ text.old.items ++ row_text design.now.inputs.items design.now.outputs.items place sample.now row.now) }
     ensures more { OnOk result (length text.old.items < length text.new.items) }
 {
     put(text, "   ")?;
-    put_cells(text, Side::Input, place, &plan.inputs, sample)?;
-    put_cells(text, Side::Output, place, &plan.outputs, row)?;
+    put_cells(text, Side::Input, place, &design.inputs, sample)?;
+    put_cells(text, Side::Output, place, &design.outputs, row)?;
     put(text, "\n")
 }

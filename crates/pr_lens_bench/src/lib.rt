@@ -9,5 +9,5 @@ mod texts;
 mod trials;
 
 pub use benches::bench;
-pub use texts::Plan;
+pub use texts::Design;
 pub use trials::{NoBench, Trial};

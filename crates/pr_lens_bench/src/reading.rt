@@ -41,7 +41,7 @@ pub fn lines_in<S: Shelf>(
     requires row { length row.old ≡ vec_len trial.now.front.flat.outputs }
     ensures lines { IfOk result
         (λ r. r.end ≢ Got.ReadFault
-        → HasLines (S.view shelf.old).told trial.now.front.scoped.program trial.now.plan feed.old feed.new
+        → HasLines (S.view shelf.old).told trial.now.front.scoped.program trial.now.design feed.old feed.new
         r.text.items r.count r.end) }
     ensures short { IfOk result (λ r. length r.text.items ≤ most_text_bytes) }
     ensures there { IfOk result
@@ -50,7 +50,7 @@ pub fn lines_in<S: Shelf>(
         (λ r. r.end ≡ Got.ReadFault
         → HasReadCause (S.view shelf.old).told (name_of feed.old) (S.view shelf.old).faults (S.view shelf.new).faults) }
     ensures cut { IfErr result
-        (IsCut (S.view shelf.old).told trial.now.front.scoped.program trial.now.plan feed.old feed.new) }
+        (IsCut (S.view shelf.old).told trial.now.front.scoped.program trial.now.design feed.old feed.new) }
     ensures steady { IfOk result (λ r. r.end ≢ Got.ReadFault → (S.view shelf.new).faults ≡ (S.view shelf.old).faults) }
     ensures kept { OnErr result ((S.view shelf.new).faults ≡ (S.view shelf.old).faults) }
     ensures file { SameFile feed.old feed.new }
@@ -67,7 +67,7 @@ pub fn lines_in<S: Shelf>(
         match feed.next(shelf, sample) {
             Got::Sample => {
                 evaluator.next(&trial.front.flat, &trial.front.widths, sample, row);
-                put_row(&mut text, &trial.plan, count, sample, row)?;
+                put_row(&mut text, &trial.design, count, sample, row)?;
                 count += 1;
                 if MOST_TEXT_BYTES < text.len() {
                     return Err(NoBench::Long);

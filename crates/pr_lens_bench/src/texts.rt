@@ -10,7 +10,7 @@ use std::alloc::{AllocError, Global};
 
 /// What is tried by a bench: a module with its ports. The seed decides when samples are offered and results taken.
 #[derive(Drop)]
-pub struct Plan {
+pub struct Design {
     /// The name of the module.
     pub name: Vec<u8>,
     /// The ports of its inputs.
@@ -106,42 +106,42 @@ $display(\"only %0d of %0d results came\", taken, count);\n      $finish;\n    e
 
 /// Adds what stands before the lines of so many samples.
 #[tactic(auto, unfolding(crate::specs::Texts::before_text))]
-fn put_before(text: &mut Vec<u8>, plan: &Plan, count: usize) -> Result<(), AllocError>
-    ensures { OnOk result (text.new.items ≡ text.old.items ++ before_text plan.now count) }
+fn put_before(text: &mut Vec<u8>, design: &Design, count: usize) -> Result<(), AllocError>
+    ensures { OnOk result (text.new.items ≡ text.old.items ++ before_text design.now count) }
 {
-    put_head(text, plan.seed, count)?;
-    put_pieces(text, Piece::Sample, count, &plan.inputs)?;
-    put_pieces(text, Piece::Wanted, count, &plan.outputs)?;
-    put_module(text, &plan.name)?;
-    put_pieces(text, Piece::Link, count, &plan.inputs)?;
-    put_pieces(text, Piece::Link, count, &plan.outputs)?;
+    put_head(text, design.seed, count)?;
+    put_pieces(text, Piece::Sample, count, &design.inputs)?;
+    put_pieces(text, Piece::Wanted, count, &design.outputs)?;
+    put_module(text, &design.name)?;
+    put_pieces(text, Piece::Link, count, &design.inputs)?;
+    put_pieces(text, Piece::Link, count, &design.outputs)?;
     put_begin(text)
 }
 
 /// Adds what stands behind them.
 #[tactic(auto, unfolding(crate::specs::Texts::behind_text))]
-fn put_behind(text: &mut Vec<u8>, plan: &Plan) -> Result<(), AllocError>
-    ensures { OnOk result (text.new.items ≡ text.old.items ++ behind_text plan.now) }
+fn put_behind(text: &mut Vec<u8>, design: &Design) -> Result<(), AllocError>
+    ensures { OnOk result (text.new.items ≡ text.old.items ++ behind_text design.now) }
 {
     put_drive(text)?;
-    put_pieces(text, Piece::Offer, 0, &plan.inputs)?;
+    put_pieces(text, Piece::Offer, 0, &design.inputs)?;
     put_look(text)?;
-    put_pieces(text, Piece::Check, 0, &plan.outputs)?;
+    put_pieces(text, Piece::Check, 0, &design.outputs)?;
     put_end(text)
 }
 
 /// The bench with the lines of so many samples.
 pub fn whole_text(
     alloc: Global,
-    plan: &Plan,
+    design: &Design,
     count: usize,
     lines: &[u8],
 ) -> Result<Vec<u8>, AllocError>
-    ensures { IfOk result (λ text. text.items ≡ before_text plan.now count ++ lines.now ++ behind_text plan.now) }
+    ensures { IfOk result (λ text. text.items ≡ before_text design.now count ++ lines.now ++ behind_text design.now) }
 {
     let mut text = Vec::new(alloc);
-    put_before(&mut text, plan, count)?;
+    put_before(&mut text, design, count)?;
     put_bytes(&mut text, lines)?;
-    put_behind(&mut text, plan)?;
+    put_behind(&mut text, design)?;
     Ok(text)
 }

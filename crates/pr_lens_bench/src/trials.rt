@@ -1,15 +1,15 @@
 //! What is tried, and why nothing is.
 
-use crate::texts::Plan;
+use crate::texts::Design;
 use pr_compile_front::Front;
 use pr_tool_answers::Answer;
 use std::alloc::AllocError;
 
-/// A program, and the plan of its bench.
+/// A program, and the module that is tried.
 #[derive(Drop)]
 pub struct Trial {
     pub front: Front,
-    pub plan: Plan,
+    pub design: Design,
 }
 
 /// Why there is no bench.

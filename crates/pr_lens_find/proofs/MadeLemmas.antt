@@ -8,13 +8,13 @@ use Rattle.pr_flat.specs.declared.flat.Flat.{Flat}
 use Rattle.pr_flat.specs.Shape.{equation_shape}
 use Rattle.pr_compile_front.specs.Refusals.{IsRead}
 use Rattle.pr_lens_items.specs.declared.cuts.Cut.{Cut}
-use Rattle.pr_lens_find.specs.declared.equations.Made.{Made}
-use Rattle.pr_lens_find.specs.declared.equations.Made.TheVariants as made
+use Rattle.pr_lens_find.specs.declared.equations.Equations.{Equations}
+use Rattle.pr_lens_find.specs.declared.equations.Equations.TheVariants as made
 use Rattle.pr_lens_find.specs.Fronts.{Spot, IsCutFront, IsUnread}
 use Rattle.pr_lens_find.specs.Made.{IsMadeOf, IsMade, IsMadeIn, IsMadeCut, IsUnlawful, HasUnlawful, HasFlatIn, HasMoreIn, HasNoMoreIn, with_ends}
 
 -- of the program with ends, where it keeps the rules of scope
-pub made_with_ends : (program ended kept : Program) (m : Made) → kept ≡ ended → ended.items.items ≡ with_ends program.items.items → offence kept ≡ None → IsMadeOf kept m → IsMade program m
+pub made_with_ends : (program ended kept : Program) (m : Equations) → kept ≡ ended → ended.items.items ≡ with_ends program.items.items → offence kept ≡ None → IsMadeOf kept m → IsMade program m
 made_with_ends program ended kept (made.Flat flat) same ends lawful is = record { ended = kept; ends = ap (λ (p : Program). p.items.items) same ∙ ends; lawful = lawful; equations = is }
 made_with_ends program ended kept made.TooMany same ends lawful is = record { ended = kept; ends = ap (λ (p : Program). p.items.items) same ∙ ends; lawful = lawful; more = is }
 made_with_ends program ended kept made.Refused same ends lawful is = absurd is
@@ -23,12 +23,12 @@ pub unlawful : (program ended : Program) (r : Refusal) → ended.items.items ≡
 unlawful program ended r ends breaks = record { ended = ended; ends = ends; unlawful = λ kept. (let both = sym kept ∙ breaks in cc) }
 
 -- of a text's program
-pub made_in : (text : List ℕ) (program : Program) (m : Made) → IsRead text program → IsMade program m → IsMadeIn text m
+pub made_in : (text : List ℕ) (program : Program) (m : Equations) → IsRead text program → IsMade program m → IsMadeIn text m
 made_in text program (made.Flat flat) read is = record { program = program; read = read; has = is }
 made_in text program made.TooMany read is = record { program = program; read = read; has = is }
 made_in text program made.Refused read is = inr (record { program = program; read = read; has = is })
 
-pub made_cut : (spot : Spot) (cut : Cut) (program : Program) (m : Made) → IsCutFront spot cut program → IsMade program m → IsMadeCut spot cut m
+pub made_cut : (spot : Spot) (cut : Cut) (program : Program) (m : Equations) → IsCutFront spot cut program → IsMade program m → IsMadeCut spot cut m
 made_cut spot cut program (made.Flat flat) cut_off is = record { program = program; cut_off = cut_off; holds = is }
 made_cut spot cut program made.TooMany cut_off is = record { program = program; cut_off = cut_off; holds = is }
 made_cut spot cut program made.Refused cut_off is = inr (record { program = program; cut_off = cut_off; holds = is })

@@ -12,8 +12,8 @@ use Rattle.pr_flat.specs.Flats as flats
 use Rattle.pr_expand_spec.specs.Programs.{equations_of}
 use Rattle.pr_compile_front.specs.Refusals.{IsRead}
 use Rattle.pr_lens_items.specs.declared.cuts.Cut.{Cut}
-use Rattle.pr_lens_find.specs.declared.equations.Made.{Made}
-use Rattle.pr_lens_find.specs.declared.equations.Made.TheVariants as made
+use Rattle.pr_lens_find.specs.declared.equations.Equations.{Equations}
+use Rattle.pr_lens_find.specs.declared.equations.Equations.TheVariants as made
 use Rattle.pr_lens_source.specs.declared.sources.Span.{Span}
 use Rattle.pr_lens_find.specs.Fronts.{Spot, IsUnread, WithCut, front_in}
 use Rattle.pr_lens_source.specs.Tokens.{front_text}
@@ -53,7 +53,7 @@ abbrev pub with_ends : List Item → List Item
 with_ends items = with_output (with_input items)
 
 -- ---- a program that keeps the rules of scope
-abbrev pub IsMadeOf : Program → Made → Type 0
+abbrev pub IsMadeOf : Program → Equations → Type 0
 IsMadeOf program (made.Flat flat) = flats.equations_of flat ≡ (equations_of program).equations
 IsMadeOf program made.TooMany = 16384 < length (equations_of program).equations
 IsMadeOf program made.Refused = ⊥
@@ -79,7 +79,7 @@ pub record IsUnlawful (program : Program) : Type 0 where
   pub ends : ended.items.items ≡ with_ends program.items.items
   pub unlawful : offence ended ≢ None
 
-abbrev pub IsMade : Program → Made → Type 0
+abbrev pub IsMade : Program → Equations → Type 0
 IsMade program (made.Flat flat) = HasFlat program flat
 IsMade program made.TooMany = HasMore program 16384
 IsMade program made.Refused = IsUnlawful program
@@ -100,7 +100,7 @@ pub record HasUnlawful (text : List ℕ) : Type 0 where
   pub read : IsRead text program
   pub has : IsUnlawful program
 
-abbrev pub IsMadeIn : List ℕ → Made → Type 0
+abbrev pub IsMadeIn : List ℕ → Equations → Type 0
 IsMadeIn text (made.Flat flat) = HasFlatIn text flat
 IsMadeIn text made.TooMany = HasMoreIn text 16384
 IsMadeIn text made.Refused = IsUnread text ⊎ HasUnlawful text
@@ -121,7 +121,7 @@ HasNoMoreIn text count = IsUnread text ⊎ HasFewIn text count
 abbrev pub values_cut : ℕ → Cut
 values_cut values = record { values = min values 4294967295; frames = 4294967295; fixeds = 4294967295 }
 
-abbrev pub IsMadeCut : Spot → Cut → Made → Type 0
+abbrev pub IsMadeCut : Spot → Cut → Equations → Type 0
 IsMadeCut spot cut (made.Flat flat) = WithCut spot cut (λ program. HasFlat program flat)
 IsMadeCut spot cut made.TooMany = WithCut spot cut (λ program. HasMore program 16384)
 IsMadeCut spot cut made.Refused = IsUnread (front_in spot) ⊎ WithCut spot cut IsUnlawful

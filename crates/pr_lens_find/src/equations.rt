@@ -18,50 +18,50 @@ use std::alloc::{AllocError, Global};
 
 /// The equations of a program, where it has any.
 #[derive(Drop)]
-pub enum Made {
+pub enum Equations {
     Flat(Flat),
     TooMany,
     Refused,
 }
 
 /// The equations of a program that keeps the rules of scope.
-fn made_of(alloc: Global, scoped: &Scoped) -> Result<Made, AllocError>
+fn made_of(alloc: Global, scoped: &Scoped) -> Result<Equations, AllocError>
     ensures { IfOk result (IsMadeOf scoped.now.program) }
 {
     match expand(alloc, scoped) {
-        Ok(flat) => Ok(Made::Flat(flat)),
-        Err(ExpandFault::Limit(_)) => Ok(Made::TooMany),
+        Ok(flat) => Ok(Equations::Flat(flat)),
+        Err(ExpandFault::Limit(_)) => Ok(Equations::TooMany),
         Err(ExpandFault::Memory(error)) => Err(error),
     }
 }
 
 /// The equations of a program with an input and an output behind its items, where it has none.
-fn equations_of(alloc: Global, program: Program) -> Result<Made, AllocError>
+fn equations_of(alloc: Global, program: Program) -> Result<Equations, AllocError>
     ensures { IfOk result (IsMade program) }
 {
     let ended = with_ends(alloc, program)?;
     match check(alloc, ended) {
         Ok(scoped) => made_of(alloc, &scoped),
-        Err(ScopeFault::Scope { rule: _, item: _ }) => Ok(Made::Refused),
-        Err(ScopeFault::Limit(_)) => Ok(Made::Refused),
+        Err(ScopeFault::Scope { rule: _, item: _ }) => Ok(Equations::Refused),
+        Err(ScopeFault::Limit(_)) => Ok(Equations::Refused),
         Err(ScopeFault::Memory(error)) => Err(error),
     }
 }
 
 /// The equations of the items before this one.
-fn made_before(alloc: Global, source: &Source, item: usize) -> Result<Made, AllocError>
+fn made_before(alloc: Global, source: &Source, item: usize) -> Result<Equations, AllocError>
     requires { length source.now.text.now ≤ 1048576 }
     ensures { let front = front_text source.now.text.now source.now.tokens.now source.now.spans.now item in
         IfOk result (IsMadeIn front) }
 {
     match front_of(alloc, source, item)? {
-        None => Ok(Made::Refused),
+        None => Ok(Equations::Refused),
         Some(program) => equations_of(alloc, program),
     }
 }
 
 /// The equations of the items before this one and of so many points of its expressions.
-pub fn made_with(alloc: Global, part: &Part, values: usize) -> Result<Made, AllocError>
+pub fn made_with(alloc: Global, part: &Part, values: usize) -> Result<Equations, AllocError>
     requires { length part.now.source.text.now ≤ 1048576 }
     ensures { IfOk result (IsMadeCut (spot_of part.now) (values_cut values)) }
 {
@@ -71,7 +71,7 @@ pub fn made_with(alloc: Global, part: &Part, values: usize) -> Result<Made, Allo
         fixeds: u32::MAX,
     };
     match cut_front(alloc, part, cut)? {
-        None => Ok(Made::Refused),
+        None => Ok(Equations::Refused),
         Some(program) => equations_of(alloc, program),
     }
 }
@@ -85,9 +85,9 @@ fn has_more(alloc: Global, source: &Source, item: usize, count: usize) -> Result
         IfOk result (λ more. IsFalse more → HasNoMoreIn front count) }
 {
     match made_before(alloc, source, item)? {
-        Made::Flat(flat) => Ok(flat.equations.len() > count),
-        Made::TooMany => Ok(true),
-        Made::Refused => Ok(false),
+        Equations::Flat(flat) => Ok(flat.equations.len() > count),
+        Equations::TooMany => Ok(true),
+        Equations::Refused => Ok(false),
     }
 }
 

@@ -9,7 +9,7 @@ ghost use Rattle.pr_lens_find.specs.Fronts.{spot_of};
 ghost use Rattle.pr_lens_source.specs.Spans.{StandsIn};
 
 use crate::counts::{numbered, short};
-use crate::equations::{Made, equations_item, made_with};
+use crate::equations::{Equations, equations_item, made_with};
 use crate::fronts::{Part, item_of};
 use crate::halves::{Question, turn_between};
 use pr_flat::{Equation, Flat, Op, Operand};
@@ -43,8 +43,8 @@ fn flat_with(alloc: Global, part: &Part, count: usize) -> Result<Option<Flat>, A
         IfOk result (λ found. MatchOption found (HasNoFlatWith spot count) (HasFlatWith spot count)) }
 {
     match made_with(alloc, part, count)? {
-        Made::Flat(flat) => Ok(Some(flat)),
-        Made::TooMany | Made::Refused => Ok(None),
+        Equations::Flat(flat) => Ok(Some(flat)),
+        Equations::TooMany | Equations::Refused => Ok(None),
     }
 }
 

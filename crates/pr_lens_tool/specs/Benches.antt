@@ -11,7 +11,7 @@ use Rattle.pr_tool_modes.specs.Files.{IsText}
 use Rattle.pr_lens_rtl_names.specs.declared.names.Side.{Side}
 use Rattle.pr_lens_rtl_names.specs.Names.{port_name}
 use Rattle.pr_lens_rtl_text.specs.Modules.{ports_by}
-use Rattle.pr_lens_bench.specs.declared.texts.Plan.{Plan}
+use Rattle.pr_lens_bench.specs.declared.texts.Design.{Design}
 use Rattle.pr_lens_bench.specs.declared.trials.NoBench.{NoBench}
 use Rattle.pr_lens_bench.specs.declared.trials.NoBench.TheVariants.{Long, Ended}
 use Rattle.pr_lens_bench.specs.Benches.{IsBench, IsUnbenched}
@@ -22,38 +22,38 @@ use Rattle.pr_lens_tool.specs.Asked.{AskedTarget}
 use Rattle.pr_lens_tool.specs.Programs.{IsUntold}
 
 -- the module that `rtl` writes of a program and its configuration: its name and its ports
-pub record IsPlan (name : List ℕ) (seed : ℕ) (program : Program) (conf : Shape) (plan : Plan) : Type 0 where
-  pub name_is : plan.name.items ≡ port_name name
-  pub inputs : plan.inputs.items ≡ ports_by Side.Input program conf.inputs
-  pub outputs : plan.outputs.items ≡ ports_by Side.Output program (output_widths conf)
-  pub seed_is : plan.seed ≡ seed
+pub record IsDesign (name : List ℕ) (seed : ℕ) (program : Program) (conf : Shape) (design : Design) : Type 0 where
+  pub name_is : design.name.items ≡ port_name name
+  pub inputs : design.inputs.items ≡ ports_by Side.Input program conf.inputs
+  pub outputs : design.outputs.items ≡ ports_by Side.Output program (output_widths conf)
+  pub seed_is : design.seed ≡ seed
 
--- no point refuses a text, and this is the plan for its module
-pub record IsPlanned (N P : ℕ) (narrowed : Bool) (name : List ℕ) (seed : ℕ) (text : List ℕ) (program : Program) (plan : Plan) : Type 0 where
+-- no point refuses a text, and this is the design for its module
+pub record IsPlanned (N P : ℕ) (narrowed : Bool) (name : List ℕ) (seed : ℕ) (text : List ℕ) (program : Program) (design : Design) : Type 0 where
   pub conf : Shape
   pub compiled : IsCompilation N P narrowed text program conf
-  pub is : IsPlan name seed program conf plan
+  pub is : IsDesign name seed program conf design
 
 -- the program of a file is planned so, and this is so of it
-pub record HasBenchOf (told : Told) (target : AskedTarget) (name : Text) (seed : ℕ) (Holds : Program → Plan → Type 0) : Type 0 where
+pub record HasBenchOf (told : Told) (target : AskedTarget) (name : Text) (seed : ℕ) (Holds : Program → Design → Type 0) : Type 0 where
   pub text : List ℕ
   pub file : IsText told target.file text
   pub short : length text ≤ most_program_bytes
   pub program : Program
-  pub plan : Plan
-  pub planned : IsPlanned (columns target.fabric) (registers target.fabric) target.narrowed name seed text program plan
-  pub holds : Holds program plan
+  pub design : Design
+  pub planned : IsPlanned (columns target.fabric) (registers target.fabric) target.narrowed name seed text program design
+  pub holds : Holds program design
 
 -- a bench is written
 abbrev pub IsBenchOf : Told → AskedTarget → (samples name : Text) → ℕ → List ℕ → Type 0
-IsBenchOf told target samples name seed written = HasBenchOf told target name seed (λ program plan. IsBench told samples program plan written)
+IsBenchOf told target samples name seed written = HasBenchOf told target name seed (λ program design. IsBench told samples program design written)
 
 -- why none is: the program is refused, the samples end otherwise, or the bench has too many bytes
 abbrev pub IsNoBenchOf : Told → AskedTarget → (samples name : Text) → ℕ → ℕ → ℕ → Outcome → Type 0
 IsNoBenchOf told target samples name seed before now (Plain answer) = IsUntold told target before now (Plain answer)
 IsNoBenchOf told target samples name seed before now (Refused answer help) = IsUntold told target before now (Refused answer help)
-IsNoBenchOf told target samples name seed before now (Streamed answer) = HasBenchOf told target name seed (λ program plan. IsUnbenched told samples program plan before now (Ended answer))
-IsNoBenchOf told target samples name seed before now LongBench = HasBenchOf told target name seed (λ program plan. IsUnbenched told samples program plan before now Long)
+IsNoBenchOf told target samples name seed before now (Streamed answer) = HasBenchOf told target name seed (λ program design. IsUnbenched told samples program design before now (Ended answer))
+IsNoBenchOf told target samples name seed before now LongBench = HasBenchOf told target name seed (λ program design. IsUnbenched told samples program design before now Long)
 IsNoBenchOf told target samples name seed before now outcome = ⊥
 
 -- the samples or the length are why

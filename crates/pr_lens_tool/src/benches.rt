@@ -11,7 +11,7 @@ ghost use Rattle.pr_lens_tool.specs.declared.outcomes.Outcome.TheVariants.{Plain
 ghost use Rattle.pr_lens_tool.specs.Asked.{target_in};
 ghost use Rattle.pr_lens_tool.specs.Outcomes.{Shows};
 ghost use Rattle.pr_lens_tool.specs.Programs.{IsUnanswered};
-ghost use Rattle.pr_lens_tool.specs.Benches.{IsBenchOf, IsNoBenchOf, IsPlan, IsPlanned, IsUntried};
+ghost use Rattle.pr_lens_tool.specs.Benches.{IsBenchOf, IsNoBenchOf, IsDesign, IsPlanned, IsUntried};
 
 use crate::compiling::{Compilation, compilation_of};
 use crate::orders::Target;
@@ -21,23 +21,23 @@ use pr_base::{Cap, Fabric};
 use pr_conf::Configuration;
 use pr_edge::Shelf;
 use pr_lang::Program;
-use pr_lens_bench::{NoBench, Plan, Trial, bench};
+use pr_lens_bench::{Design, NoBench, Trial, bench};
 use pr_lens_rtl_text::{input_ports, module_name, output_ports};
 use pr_tool::Answer;
 use pr_tool_modes::read_file;
 use std::alloc::{AllocError, Global};
 
-/// The plan for the module of a program and its configuration.
-fn plan_of<const N: usize, const P: usize>(
+/// The design for the module of a program and its configuration.
+fn design_of<const N: usize, const P: usize>(
     alloc: Global,
     name: &str,
     seed: u32,
     program: &Program,
     conf: &Configuration<N, P>,
-) -> Result<Plan, AllocError>
-    ensures { IfOk result (IsPlan name.now seed program.now (shape_of conf.now)) }
+) -> Result<Design, AllocError>
+    ensures { IfOk result (IsDesign name.now seed program.now (shape_of conf.now)) }
 {
-    Ok(Plan {
+    Ok(Design {
         name: module_name(alloc, name)?,
         inputs: input_ports::<N, P>(alloc, program, conf)?,
         outputs: output_ports::<N, P>(alloc, program, conf)?,
@@ -45,7 +45,7 @@ fn plan_of<const N: usize, const P: usize>(
     })
 }
 
-/// The program of a text with the plan for its module; else the answer to it.
+/// The program of a text with the design for its module; else the answer to it.
 fn planned<const N: usize, const P: usize>(
     alloc: Global,
     narrowed: bool,
@@ -59,7 +59,7 @@ fn planned<const N: usize, const P: usize>(
     requires registers { 2 ≤ P }
     requires most_registers { P ≤ 16 }
     ensures planned { IfOk result (λ t.
-        IsPlanned N P narrowed name.now seed text.now t.front.scoped.program t.plan) }
+        IsPlanned N P narrowed name.now seed text.now t.front.scoped.program t.design) }
     ensures fit { IfOk result IsFit }
     ensures refused { IfErr result (IsUnanswered N P narrowed text.now) }
 {
@@ -68,11 +68,11 @@ fn planned<const N: usize, const P: usize>(
         Err(fault) => return Err(refusal_of::<N, P>(alloc, text, narrowed, &fault)),
     };
     let Compilation { front, conf } = made;
-    let plan = plan_of::<N, P>(alloc, name, seed, &front.scoped.program, &conf)?;
-    Ok(Trial { front, plan })
+    let design = design_of::<N, P>(alloc, name, seed, &front.scoped.program, &conf)?;
+    Ok(Trial { front, design })
 }
 
-/// The program of a text with the plan for its module, on the fabric that it is compiled for.
+/// The program of a text with the design for its module, on the fabric that it is compiled for.
 fn planned_on(
     alloc: Global,
     target: &Target,
@@ -82,7 +82,7 @@ fn planned_on(
 ) -> Result<Trial, Outcome>
     requires { length text.now ≤ 1048576 }
     ensures planned { IfOk result (λ t. IsPlanned (columns target.now.fabric) (registers target.now.fabric)
-        target.now.narrowed name.now seed text.now t.front.scoped.program t.plan) }
+        target.now.narrowed name.now seed text.now t.front.scoped.program t.design) }
     ensures fit { IfOk result IsFit }
     ensures refused { IfErr result
         (IsUnanswered (columns target.now.fabric) (registers target.now.fabric) target.now.narrowed text.now) }
@@ -103,9 +103,9 @@ fn tried<S: Shelf>(
     requires { IsFit trial.now }
     ensures well { IfOk result (λ o. o.outcome ≡ Plain Answer.Ok) }
     ensures made { IfOk result (λ o.
-        IsBench (S.view shelf.old).told samples.now trial.now.front.scoped.program trial.now.plan o.text.items) }
+        IsBench (S.view shelf.old).told samples.now trial.now.front.scoped.program trial.now.design o.text.items) }
     ensures refused { IfErr result (λ o. IsUntried
-        (IsUnbenched (S.view shelf.old).told samples.now trial.now.front.scoped.program trial.now.plan
+        (IsUnbenched (S.view shelf.old).told samples.now trial.now.front.scoped.program trial.now.design
         (S.view shelf.old).faults (S.view shelf.new).faults) o) }
     ensures steady { OnOk result ((S.view shelf.new).faults ≡ (S.view shelf.old).faults) }
     ensures shown { IfErr result (Shows (S.view shelf.old).faults (S.view shelf.new).faults) }

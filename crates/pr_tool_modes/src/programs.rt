@@ -69,7 +69,7 @@ pub fn load_program<S: Shelf>(alloc: Global, shelf: &mut S, name: &str) -> Resul
 
 /// A program that was compiled.
 #[derive(Drop)]
-pub struct Made {
+pub struct CompiledProgram {
     /// Its configuration.
     pub loaded: Loadable,
     /// The units of its net.
@@ -132,7 +132,7 @@ pub fn compile_file<S: Shelf>(
     shelf: &mut S,
     name: &str,
     target: Target,
-) -> Result<Made, Answer>
+) -> Result<CompiledProgram, Answer>
     ensures compiled { IfOk result
         (λ m. IsOnFabric (S.view shelf.old).told name.now target (columns_in m.loaded) (registers_in m.loaded)
         (shape_in m.loaded)) }
@@ -153,13 +153,13 @@ pub fn compile_file<S: Shelf>(
             let made = compile_on::<16, 8, S>(alloc, shelf, name, target.narrowed)?;
             let Compiled { conf, units } = made;
             let loaded = Loadable::Base(conf);
-            Ok(Made { loaded, units })
+            Ok(CompiledProgram { loaded, units })
         }
         Fabric::Wide => {
             let made = compile_on::<32, 16, S>(alloc, shelf, name, target.narrowed)?;
             let Compiled { conf, units } = made;
             let loaded = Loadable::Wide(conf);
-            Ok(Made { loaded, units })
+            Ok(CompiledProgram { loaded, units })
         }
     }
 }

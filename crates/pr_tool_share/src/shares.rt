@@ -32,7 +32,7 @@ pub struct Sharing<'a> {
 
 /// What programs take turns on.
 #[derive(Drop)]
-struct Place {
+struct SharedMachine {
     /// The machine.
     machine: Machine<16, 8, Bare>,
     /// The buffers.
@@ -40,14 +40,14 @@ struct Place {
 }
 
 /// A bare machine of so many stripes, and the buffers of a run.
-fn make_place(alloc: Global, stripes: usize) -> Result<Place, AllocError>
+fn make_shared(alloc: Global, stripes: usize) -> Result<SharedMachine, AllocError>
     requires two { 2 ≤ stripes }
     requires most { stripes ≤ 256 }
     ensures { IfOk result (λ p. bare_stripes p.machine ≡ stripes) }
 {
     let machine = Machine::<16, 8, Bare>::make(alloc, stripes)?;
     let room = Room::make(alloc)?;
-    Ok(Place { machine, room })
+    Ok(SharedMachine { machine, room })
 }
 
 /// Runs programs in turns on this machine until the samples of all have ended. It can take no memory, so there is no other machine.
@@ -112,9 +112,9 @@ pub fn share_list<S: Shelf, K: Sink>(
         Ok(items) => items,
         Err(answer) => return answer,
     };
-    match make_place(alloc, sharing.stripes) {
-        Ok(place) => {
-            let Place { machine, mut room } = place;
+    match make_shared(alloc, sharing.stripes) {
+        Ok(shared) => {
+            let SharedMachine { machine, mut room } = shared;
             take_turns(machine, &mut room, &mut items, shelf, out)
         }
         Err(_) => Answer::Memory,

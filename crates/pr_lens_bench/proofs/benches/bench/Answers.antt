@@ -16,8 +16,8 @@ returns-in_err-lines-clause-refused g c =
     let r = c.from_residual-in_err-lines in
     let first = c.in_ok-feed.feed in
     let now = c.lines_of.new.feed in
-    unbenched_by (g.S.Shelf.view c.args.shelf.now).told c.args.samples.now c.args.trial.now.front.scoped.program c.args.trial.now.plan _ _ r.result _ (err_from_is_err_and r.result r.ensures.1)
-    (unbenched_cut (g.S.Shelf.view c.args.shelf.now).told c.args.samples.now c.args.trial.now.front.scoped.program c.args.trial.now.plan first now c.in_ok-feed.ensures.feed (c.lines_of.ensures.name ∙ c.in_ok-feed.ensures.name) _ _ _ c.in_err-lines.ensures.cut)
+    unbenched_by (g.S.Shelf.view c.args.shelf.now).told c.args.samples.now c.args.trial.now.front.scoped.program c.args.trial.now.design _ _ r.result _ (err_from_is_err_and r.result r.ensures.1)
+    (unbenched_cut (g.S.Shelf.view c.args.shelf.now).told c.args.samples.now c.args.trial.now.front.scoped.program c.args.trial.now.design first now c.in_ok-feed.ensures.feed (c.lines_of.ensures.name ∙ c.in_ok-feed.ensures.name) _ _ _ c.in_err-lines.ensures.cut)
 
 pub returns-in-End-clause-made : goal.returns-in-End-clause-made
 returns-in-End-clause-made g c =
@@ -25,7 +25,7 @@ returns-in-End-clause-made g c =
     let name = c.in_ok-feed.ensures.name in
     let no_fault : lines.end ≢ Got.ReadFault = λ fault. (let other : Got.End ≡ Got.ReadFault = sym c.in-End.is ∙ fault in cc) in
     IfOk-weaker c.short_text.result _ _ (λ t h.
-    made_bench (g.S.Shelf.view c.args.shelf.now).told c.args.samples.now c.args.trial.now.front.scoped.program c.args.trial.now.plan c.in_ok-feed.feed c.lines_of.new.feed c.in_ok-feed.ensures.feed (c.lines_of.ensures.name ∙ name) lines
+    made_bench (g.S.Shelf.view c.args.shelf.now).told c.args.samples.now c.args.trial.now.front.scoped.program c.args.trial.now.design c.in_ok-feed.feed c.lines_of.new.feed c.in_ok-feed.ensures.feed (c.lines_of.ensures.name ∙ name) lines
     (c.in_ok-lines.ensures.lines no_fault) (λ missing. c.in_ok-lines.ensures.there no_fault (rw (← name) at missing)) t.items c.in-End.is h.is h.short) c.short_text.ensures.made
 
 pub returns-in-End-clause-refused : goal.returns-in-End-clause-refused
@@ -35,8 +35,8 @@ returns-in-End-clause-refused g c =
     let told = (g.S.Shelf.view c.args.shelf.now).told in
     let no_fault : lines.end ≢ Got.ReadFault = λ fault. (let other : Got.End ≡ Got.ReadFault = sym c.in-End.is ∙ fault in cc) in
     IfErr-weaker c.short_text.result _ _ (λ s h.
-    not_short_unbenched told c.args.samples.now c.args.trial.now.front.scoped.program c.args.trial.now.plan lines _ _
-    (whole_long told c.args.samples.now c.args.trial.now.front.scoped.program c.args.trial.now.plan c.in_ok-feed.feed c.lines_of.new.feed c.in_ok-feed.ensures.feed (c.lines_of.ensures.name ∙ name) lines
+    not_short_unbenched told c.args.samples.now c.args.trial.now.front.scoped.program c.args.trial.now.design lines _ _
+    (whole_long told c.args.samples.now c.args.trial.now.front.scoped.program c.args.trial.now.design c.in_ok-feed.feed c.lines_of.new.feed c.in_ok-feed.ensures.feed (c.lines_of.ensures.name ∙ name) lines
     (c.in_ok-lines.ensures.lines no_fault) (λ missing. c.in_ok-lines.ensures.there no_fault (rw (← name) at missing)) c.in-End.is) s h) c.short_text.ensures.refused
 
 pub returns-clause-refused : goal.returns-clause-refused
@@ -44,8 +44,8 @@ returns-clause-refused g c =
     let lines = c.in_ok-lines.lines in
     let name = c.in_ok-feed.ensures.name in
     let told = (g.S.Shelf.view c.args.shelf.now).told in
-    subst (λ (a : Answer). IsUnbenched told c.args.samples.now c.args.trial.now.front.scoped.program c.args.trial.now.plan (g.S.Shelf.view c.args.shelf.now).faults (g.S.Shelf.view c.lines_of.new.shelf).faults (Ended a)) (sym c.answer_of.ensures)
-    (unbenched told c.args.samples.now c.args.trial.now.front.scoped.program c.args.trial.now.plan c.in_ok-feed.feed c.lines_of.new.feed c.in_ok-feed.ensures.feed (c.lines_of.ensures.name ∙ name) _ _ lines.text.items lines.count lines.end
+    subst (λ (a : Answer). IsUnbenched told c.args.samples.now c.args.trial.now.front.scoped.program c.args.trial.now.design (g.S.Shelf.view c.args.shelf.now).faults (g.S.Shelf.view c.lines_of.new.shelf).faults (Ended a)) (sym c.answer_of.ensures)
+    (unbenched told c.args.samples.now c.args.trial.now.front.scoped.program c.args.trial.now.design c.in_ok-feed.feed c.lines_of.new.feed c.in_ok-feed.ensures.feed (c.lines_of.ensures.name ∙ name) _ _ lines.text.items lines.count lines.end
     c.in_ok-lines.ensures.lines c.in_ok-lines.ensures.short (λ other missing. c.in_ok-lines.ensures.there other (rw (← name) at missing)) (λ fault. rw name at (c.in_ok-lines.ensures.cause fault)) c.in_default.not-End)
 
 pub returns-in_err-lines-clause-steady : goal.returns-in_err-lines-clause-steady

@@ -20,8 +20,8 @@ samples-init g c =
     let front = c.args.trial.now.front in
     let told = (g.S.Shelf.view c.args.shelf.now).told in
     record {
-      made = subst (λ (t : List ℕ). HasMade told (shapes_of front.flat.equations.items) front.flat.outputs.items front.widths c.args.trial.now.plan c.args.feed.now c.args.feed.now c.in_ok-evaluator.evaluator t 0) (sym c.new-text.ensures.items)
-          (made_nothing told (shapes_of front.flat.equations.items) front.flat.outputs.items front.widths (inputs_of front.scoped.program) c.args.trial.now.plan c.args.feed.now c.in_ok-evaluator.evaluator c.requires.feed (c.in_ok-evaluator.ensures front.widths));
+      made = subst (λ (t : List ℕ). HasMade told (shapes_of front.flat.equations.items) front.flat.outputs.items front.widths c.args.trial.now.design c.args.feed.now c.args.feed.now c.in_ok-evaluator.evaluator t 0) (sym c.new-text.ensures.items)
+          (made_nothing told (shapes_of front.flat.equations.items) front.flat.outputs.items front.widths (inputs_of front.scoped.program) c.args.trial.now.design c.args.feed.now c.in_ok-evaluator.evaluator c.requires.feed (c.in_ok-evaluator.ensures front.widths));
       few = omega (arith, ap length c.new-text.ensures.items);
       short = omega (arith, ap length c.new-text.ensures.items);
       there = λ missing. c.requires.feed.fresh.bytes;
@@ -70,7 +70,7 @@ samples-preserved g c =
     let same = same_later c.args.feed.now f f' c.samples.invariant.file c.next.ensures.file in
     let seen = subst (λ (t : Told). (bytes : List ℕ) → IsSeen t bytes f → ReadsOn t bytes f f' (λ file. StandsFor f file → IsGiven f' (given_of f) c.next.new.into file)) c.samples.invariant.same c.in-Sample.ensures.seen in
     record {
-      made = made_more told (shapes_of flat.equations.items) flat.outputs.items c.args.trial.now.front.widths c.args.trial.now.plan c.args.feed.now f f' _ _ _ _ _ _ c.next.new.into _ made same c.in-Sample.ensures.given seen
+      made = made_more told (shapes_of flat.equations.items) flat.outputs.items c.args.trial.now.front.widths c.args.trial.now.design c.args.feed.now f f' _ _ _ _ _ _ c.next.new.into _ made same c.in-Sample.ensures.given seen
           (c.next-in-Sample.ensures.stands made.samples made.stands) (c.next-in-Sample.ensures.given made.samples made.stands) c.in_ok-put_row-in-Sample.ensures.line refl;
       few = omega (arith, c.samples.invariant.few, c.in_ok-put_row-in-Sample.ensures.more);
       short = omega arith;
@@ -101,7 +101,7 @@ returns-in_default-clause-lines g c = λ no_fault.
       wide = subst (λ (es : List EquationShape). AreWidths es front.widths) (sym c.requires.fit.flat.equations) c.requires.fit.widths;
       rows = made.stands.lawful;
     }) in
-    made_all (g.S.Shelf.view c.args.shelf.now).told front.scoped.program (shapes_of front.flat.equations.items) front.flat.outputs.items front.widths c.args.trial.now.plan c.args.feed.now f c.samples.evaluator _ _ made means f' c.next.new.into c.next.result same
+    made_all (g.S.Shelf.view c.args.shelf.now).told front.scoped.program (shapes_of front.flat.equations.items) front.flat.outputs.items front.widths c.args.trial.now.design c.args.feed.now f c.samples.evaluator _ _ made means f' c.next.new.into c.next.result same
     c.next.ensures.given seen c.in_default.not-Sample no_fault
 
 pub returns-in_default-clause-short : goal.returns-in_default-clause-short
@@ -164,7 +164,7 @@ returns-then-len-gt-MOST_TEXT_BYTES-clause-cut g c =
     let flat = front.flat in
     let same = same_later c.args.feed.now f f' c.samples.invariant.file c.next.ensures.file in
     let seen = subst (λ (t : Told). (bytes : List ℕ) → IsSeen t bytes f → ReadsOn t bytes f f' (λ file. StandsFor f file → IsGiven f' (given_of f) c.next.new.into file)) c.samples.invariant.same c.in-Sample.ensures.seen in
-    let more = made_more told (shapes_of flat.equations.items) flat.outputs.items front.widths c.args.trial.now.plan c.args.feed.now f f' _ _ _ _ c.samples.count (c.samples.count + 1) c.next.new.into _ made same c.in-Sample.ensures.given seen
+    let more = made_more told (shapes_of flat.equations.items) flat.outputs.items front.widths c.args.trial.now.design c.args.feed.now f f' _ _ _ _ c.samples.count (c.samples.count + 1) c.next.new.into _ made same c.in-Sample.ensures.given seen
     (c.next-in-Sample.ensures.stands made.samples made.stands) (c.next-in-Sample.ensures.given made.samples made.stands) c.in_ok-put_row-in-Sample.ensures.line refl in
     let means = rows_mean front.scoped.program flat front.widths more.samples (record {
       lawful = front.scoped.lawful;
@@ -175,4 +175,4 @@ returns-then-len-gt-MOST_TEXT_BYTES-clause-cut g c =
     }) in
     let there : IsMissing told (name_of f') → ⊥ = λ missing.
     (let no : Got.Sample ≡ Got.ReadFault = sym c.in-Sample.is ∙ c.next.ensures.missing (rw (same.name, ← c.samples.invariant.file.name, ← c.samples.invariant.same) at missing) (c.samples.invariant.there (rw same.name at missing)) in cc) in
-    made_long told front.scoped.program (shapes_of flat.equations.items) flat.outputs.items front.widths c.args.trial.now.plan c.args.feed.now f' _ _ _ more means there (omega arith)
+    made_long told front.scoped.program (shapes_of flat.equations.items) flat.outputs.items front.widths c.args.trial.now.design c.args.feed.now f' _ _ _ more means there (omega arith)

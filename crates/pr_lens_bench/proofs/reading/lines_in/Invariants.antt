@@ -9,7 +9,7 @@ use Rattle.pr_lens_bench.proofs.reading.lines_in.Given as goal
 
 abbrev pub invariant-samples : goal.invariant-samples
 invariant-samples g l = record {
-  made : HasMade (g.S.Shelf.view l.initial.shelf).told (shapes_of l.trial.front.flat.equations.items) l.trial.front.flat.outputs.items l.trial.front.widths l.trial.plan l.initial.feed l.feed l.evaluator l.text.items l.count;
+  made : HasMade (g.S.Shelf.view l.initial.shelf).told (shapes_of l.trial.front.flat.equations.items) l.trial.front.flat.outputs.items l.trial.front.widths l.trial.design l.initial.feed l.feed l.evaluator l.text.items l.count;
   few : l.count ≤ length l.text.items;
   short : length l.text.items ≤ most_text_bytes;
   there : IsMissing (g.S.Shelf.view l.initial.shelf).told (name_of l.initial.feed) → reads_nothing l.feed;

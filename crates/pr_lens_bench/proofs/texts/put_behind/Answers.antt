@@ -8,7 +8,7 @@ use Rattle.pr_lens_bench.proofs.texts.put_behind.Goals as goal
 pub returns : goal.returns
 unfolding behind_text
 returns c =
-    let plan = c.args.plan.now in
+    let design = c.args.design.now in
     on_ok_weaker c.put_end.result (λ h.
-    five_put c.args.text.now.items drive_text (pieces_text Piece.Offer 0 plan.inputs.items) look_text (pieces_text Piece.Check 0 plan.outputs.items) end_text
+    five_put c.args.text.now.items drive_text (pieces_text Piece.Offer 0 design.inputs.items) look_text (pieces_text Piece.Check 0 design.outputs.items) end_text
     c.in_ok-put_drive.ensures (rw c.deref.ensures.value at c.in_ok-put_pieces.ensures) c.in_ok-put_look.ensures (rw c.deref-2.ensures.value at c.in_ok-put_pieces-2.ensures) h) c.put_end.ensures

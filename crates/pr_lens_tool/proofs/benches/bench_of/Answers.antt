@@ -12,7 +12,7 @@ returns-clause-made g c =
     let told = (g.S.Shelf.view c.args.shelf.now).told in
     IfOk-weaker c.tried.result _ _ (λ o h.
     bench_made told _ (target_in c.args.target.now) c.args.samples.now c.args.name.now c.args.seed c.in-Ok.text.items c.in_ok-trial.trial c.in-Ok.ensures.text c.in-Ok.ensures.short (rw c.deref.ensures.value at c.in_ok-trial.ensures.planned)
-    c.read_file.ensures.same (λ t samples program plan. IsBench t samples program plan o.text.items) h) c.tried.ensures.made
+    c.read_file.ensures.same (λ t samples program design. IsBench t samples program design o.text.items) h) c.tried.ensures.made
 
 pub returns-clause-refused : goal.returns-clause-refused
 returns-clause-refused g c =

@@ -61,8 +61,8 @@ returns-in-Err-make_items-clause-others g c = λ q none.
     let programs = subst (λ (xs : List Named). IsNoProgram (map entry_in xs) q) (sym c.deref.ensures.value) (none.no_program _ c.in-Ok.ensures.list) in
     c.make_items.ensures.others q programs ∙ c.load_list.ensures.others q none.other
 
-pub returns-in-Ok-make_place-clause-others : goal.returns-in-Ok-make_place-clause-others
-returns-in-Ok-make_place-clause-others g c = λ q none.
+pub returns-in-Ok-make_shared-clause-others : goal.returns-in-Ok-make_shared-clause-others
+returns-in-Ok-make_shared-clause-others g c = λ q none.
     let programs = subst (λ (xs : List Named). IsNoProgram (map entry_in xs) q) (sym c.deref.ensures.value) (none.no_program _ c.in-Ok.ensures.list) in
     let ready = subst (λ (xs : List Named). AreItemsOf (g.S.Shelf.view c.load_list.new.shelf).told (map entry_in xs) c.in-Ok-make_items.items.items) c.deref.ensures.value c.in-Ok-make_items.ensures.ready in
     let names = items_unnamed _ (map entry_in c.in-Ok.entries.items) c.in-Ok-make_items.items.items q ready (none.no_samples _ c.in-Ok.ensures.list) in
@@ -81,8 +81,8 @@ returns-clause-others g c = λ q none.
     let programs = subst (λ (xs : List Named). IsNoProgram (map entry_in xs) q) (sym c.deref.ensures.value) (none.no_program _ c.in-Ok.ensures.list) in
     c.make_items.ensures.others q programs ∙ c.load_list.ensures.others q none.other
 
-pub returns-in-Ok-make_place-clause-shared : goal.returns-in-Ok-make_place-clause-shared
-returns-in-Ok-make_place-clause-shared g c =
+pub returns-in-Ok-make_shared-clause-shared : goal.returns-in-Ok-make_shared-clause-shared
+returns-in-Ok-make_shared-clause-shared g c =
     let told = (g.S.Shelf.view c.args.shelf.now).told in
     let start = (g.S.Shelf.view c.make_items.new.shelf).faults in
     let now = (g.S.Shelf.view c.take_turns.new.shelf).faults in
@@ -97,7 +97,7 @@ returns-in-Ok-make_place-clause-shared g c =
     let ready = subst (λ (xs : List Named). AreItemsOf (g.S.Shelf.view c.load_list.new.shelf).told (map entry_in xs) firsts) c.deref.ensures.value c.in-Ok-make_items.ensures.ready in
     let mid = (g.S.Shelf.view c.make_items.new.shelf).told in
     let stripes = c.args.sharing.now.stripes in
-    let on = subst (λ (n : ℕ). HaveTurned n c.deref_mut.result.now items (world mid start old) (world (g.S.Shelf.view c.take_turns.new.shelf).told now new) before after c.take_turns.result) c.in-Ok-make_place.ensures c.take_turns.ensures.turned in
+    let on = subst (λ (n : ℕ). HaveTurned n c.deref_mut.result.now items (world mid start old) (world (g.S.Shelf.view c.take_turns.new.shelf).told now new) before after c.take_turns.result) c.in-Ok-make_shared.ensures c.take_turns.ensures.turned in
     let later = subst (λ (t : Told). HaveTurned stripes c.deref_mut.result.now items (world mid start old) (world t now new) before after c.take_turns.result) (c.take_turns.ensures.told ∙ same) on in
     let same_told = subst (λ (t : Told). HaveTurned stripes c.deref_mut.result.now items (world t start old) (world told now new) before after c.take_turns.result) same later in
     let first = (g.S.Shelf.view c.args.shelf.now).faults in
@@ -124,8 +124,8 @@ returns-clause-once g c = λ q once.
     let one = subst (λ (xs : List Named). IsOneProgram (map entry_in xs) q) (sym c.deref.ensures.value) (once.one_program _ c.in-Ok.ensures.list) in
     order_after (g.S.Shelf.view c.args.shelf.now).reach (g.S.Shelf.view c.load_list.new.shelf).reach (g.S.Shelf.view c.make_items.new.shelf).reach _ c.args.sharing.now.list.now q c.load_list.ensures.once c.load_list.ensures.others (λ e. c.make_items.ensures.others q (subst (λ (xs : List Named). IsNoProgram (map entry_in xs) q) (sym c.deref.ensures.value) (once.no_program e _ c.in-Ok.ensures.list))) (c.make_items.ensures.once q one)
 
-pub returns-in-Ok-make_place-clause-once : goal.returns-in-Ok-make_place-clause-once
-returns-in-Ok-make_place-clause-once g c = λ q once.
+pub returns-in-Ok-make_shared-clause-once : goal.returns-in-Ok-make_shared-clause-once
+returns-in-Ok-make_shared-clause-once g c = λ q once.
     let one = subst (λ (xs : List Named). IsOneProgram (map entry_in xs) q) (sym c.deref.ensures.value) (once.one_program _ c.in-Ok.ensures.list) in
     let ready = subst (λ (xs : List Named). AreItemsOf (g.S.Shelf.view c.load_list.new.shelf).told (map entry_in xs) c.in-Ok-make_items.items.items) c.deref.ensures.value c.in-Ok-make_items.ensures.ready in
     let names = items_unnamed _ (map entry_in c.in-Ok.entries.items) c.in-Ok-make_items.items.items q ready (once.no_samples _ c.in-Ok.ensures.list) in
