@@ -15,7 +15,7 @@ pub(crate) struct Bytes {
 
 /// What an element makes.
 #[derive(Clone, Copy)]
-pub(crate) struct Made {
+pub(crate) struct CellResult {
     pub(crate) byte: u8,
     /// The carry-out.
     pub(crate) carry: bool,
@@ -53,21 +53,21 @@ fn shifted(hi: u8, lo: u8, shift: u8) -> u8 {
 
 impl Bytes {
     /// What an element makes of these bytes, before its mask.
-    pub(crate) fn made(self, shift: u8, table: u8, mode: Mode) -> Made {
+    pub(crate) fn made(self, shift: u8, table: u8, mode: Mode) -> CellResult {
         let x = looked_up(table, self.a, shifted(self.hi, self.lo, shift), self.c);
         match mode {
-            Mode::Plain => Made {
+            Mode::Plain => CellResult {
                 byte: x,
                 carry: false,
             },
             Mode::Sum => {
                 let sum = u16::from(self.a) + u16::from(x) + u16::from(self.carry);
-                Made {
+                CellResult {
                     byte: (sum % 256) as u8,
                     carry: sum >= 256,
                 }
             }
-            Mode::Zero => Made {
+            Mode::Zero => CellResult {
                 byte: x,
                 carry: self.carry && x == 0,
             },

@@ -1,6 +1,6 @@
 //! What a net shows on samples, cell by cell on plain lists.
 
-use crate::elements::{Bytes, Made, at};
+use crate::elements::{Bytes, CellResult, at};
 use pr_base::{Carry, Next};
 use pr_net::{Cell, Net, Slice, Unit, Wire, WireBit};
 use std::alloc::{AllocError, Global};
@@ -61,7 +61,7 @@ impl Shown {
     }
 
     /// What a cell makes after one with this carry-out.
-    fn cell(&self, cell: &Cell, chain: bool) -> Made {
+    fn cell(&self, cell: &Cell, chain: bool) -> CellResult {
         let given = match cell.cin {
             Carry::Zero => false,
             Carry::One => true,
@@ -76,7 +76,7 @@ impl Shown {
             carry: given,
         };
         let made = bytes.made(cell.shift, cell.table, cell.mode);
-        Made {
+        CellResult {
             byte: made.byte & cell.mask,
             carry: made.carry,
         }

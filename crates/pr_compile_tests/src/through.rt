@@ -1,6 +1,6 @@
 //! What a configuration gives: each stage takes the whole list before the next one sees any of it.
 
-use crate::elements::{Bytes, Made, at};
+use crate::elements::{Bytes, CellResult, at};
 use pr_base::{Carry, Next};
 use pr_conf::{Bit, Configuration, Pe, Source, Stage, Tap};
 use std::alloc::{AllocError, Global};
@@ -56,7 +56,7 @@ impl Seat {
     }
 
     /// What an element makes beside one with this carry-out.
-    fn element(&self, pe: &Pe, chain: bool) -> Made {
+    fn element(&self, pe: &Pe, chain: bool) -> CellResult {
         let given = match pe.cin {
             Carry::Zero => false,
             Carry::One => true,
@@ -71,7 +71,7 @@ impl Seat {
             carry: given,
         };
         let made = bytes.made(pe.shift, pe.table, pe.mode);
-        Made {
+        CellResult {
             byte: made.byte & pe.mask,
             carry: made.carry,
         }

@@ -25,7 +25,7 @@ use Rattle.pr_scope_names.specs.Constants.{read, applied, fixed_step, constant_o
 use Rattle.pr_flat.specs.declared.equations.Op.TheVariants as op
 use Rattle.pr_lang_meaning.specs.Expressions.{constant_shift}
 use Rattle.pr_expand_spec.specs.Making.{constant}
-use Rattle.pr_expand_spec.specs.Expressions.{Plan, all_made, function_of, plan_of, plan_step, making_step, place}
+use Rattle.pr_expand_spec.specs.Expressions.{ExprPlan, all_made, function_of, plan_of, plan_step, making_step, place}
 use Rattle.pr_expand_spec.specs.Statements.{Change, change_of, stmt_step}
 use Rattle.pr_compile_verdicts.proofs.Shorts.{ShortFixed, ShortKnown, IsShort, then-short, then-also, applied-short, read-short, ShortMaking, ShortExpr, ShortPlans, ShortStmt, ShortChange, referred-short, earlier-short, all-made-short, apply-short, combined-short, concatenated-short, called-short, function-short, let-short, rec-short, for-short, each-change}
 
@@ -67,10 +67,10 @@ fixed-paren a short known seen = short known seen
 
 -- ---- expressions
 abbrev pub ShortLayer : Expr-F Expr → Type 0
-ShortLayer x = ShortMaking (making_step (map-Expr Expr Plan plan_of x))
+ShortLayer x = ShortMaking (making_step (map-Expr Expr ExprPlan plan_of x))
 
 pub expr-of : (x : Expr-F Expr) → ShortLayer x → ShortExpr (roll-Expr x)
-expr-of x short = subst (λ (p : Plan). ShortMaking p.making) (sym (fold-roll-Expr Plan plan_step x)) short
+expr-of x short = subst (λ (p : ExprPlan). ShortMaking p.making) (sym (fold-roll-Expr ExprPlan plan_step x)) short
 
 pub expr-tree : (x : Expr-F Expr) (t : Tree) → expr_layer (map-Expr Expr Tree expr_shape x) ≡ t → expr_shape (roll-Expr x) ≡ t
 expr-tree x t is = fold-roll-Expr Tree expr_layer x ∙ is

@@ -31,8 +31,8 @@ use Rattle.pr_lang_meaning.specs.Expressions.{operator}
 use Rattle.pr_expand_spec.specs.declared.givens.Given.{Given}
 use Rattle.pr_expand_spec.specs.declared.givens.Standing.{Standing}
 use Rattle.pr_expand_spec.specs.declared.givens.Standing.TheVariants.{Stream, Own}
-use Rattle.pr_expand_spec.specs.Making.{Equations, Made, made, given_operand, given_signed, kinds_read, with_equation, lawful, declare_last, delay_from, delay_step, delayed_once, delayed, constant}
-use Rattle.pr_expand_spec.specs.Expressions.{Streams, Inlined, Visible, Making, Plan, referred, earlier, AllMade, all_made, apply, combined, beside, concatenated, function_of, called, plan_of, declared_at_operator, declared_else, assigned, place}
+use Rattle.pr_expand_spec.specs.Making.{Equations, Expanded, made, given_operand, given_signed, kinds_read, with_equation, lawful, declare_last, delay_from, delay_step, delayed_once, delayed, constant}
+use Rattle.pr_expand_spec.specs.Expressions.{Streams, Inlined, Visible, Making, ExprPlan, referred, earlier, AllExpanded, all_made, apply, combined, beside, concatenated, function_of, called, plan_of, declared_at_operator, declared_else, assigned, place}
 use Rattle.pr_expand_spec.specs.Statements.{Progress, Change, with_standing, named, let_change, body_made, number_after, with_recurrence, settled, rec_change, in_turn, with_index, turns, change_of, changes_of}
 use Rattle.pr_expand_spec.specs.Programs.{no_streams, fitted_to, passed, with_arguments, inlined, signed_function}
 use Rattle.pr_scope_facts.specs.Numbers.{is_number}
@@ -123,11 +123,11 @@ abbrev pub ShortEquations : Equations → Type 0
 ShortEquations es = list_all are_short es ≡ true
 
 -- equations, and what they give
-pub record ShortMade (m : Made) : Type 0 where
+pub record ShortMade (m : Expanded) : Type 0 where
   pub equations : ShortEquations m.equations
   pub given : ShortGiven m.given
 
-pub record ShortAll (a : AllMade) : Type 0 where
+pub record ShortAll (a : AllExpanded) : Type 0 where
   pub equations : ShortEquations a.equations
   pub given : ShortGivens a.given
 
@@ -152,12 +152,12 @@ declare-same w [] = refl
 declare-same w (e ∷ []) = refl
 declare-same w (e ∷ d ∷ es) = ap (λ (b : Bool). are_short e && b) (declare-same w (d ∷ es))
 
-pub at-operator-short : (b : Bool) (width : Option ℕ) (m : Made) → ShortMade m → ShortMade (declared_at_operator b width m)
+pub at-operator-short : (b : Bool) (width : Option ℕ) (m : Expanded) → ShortMade m → ShortMade (declared_at_operator b width m)
 at-operator-short true (Some w) m short = record { equations = declare-same w m.equations ∙ short.equations; given = short.given }
 at-operator-short true None m short = short
 at-operator-short false width m short = short
 
-else-short : (b : Bool) (width : Option ℕ) (m : Made) → ShortMade m → ShortMade (declared_else b width m)
+else-short : (b : Bool) (width : Option ℕ) (m : Expanded) → ShortMade m → ShortMade (declared_else b width m)
 else-short false (Some w) m short = with-short op.Fit (m.given ∷ []) (Some w) m.equations (short.given, tt) short.equations
 else-short false None m short = short
 else-short true width m short = short
@@ -213,10 +213,10 @@ earlier-short k (Some (Stream g c)) es standing all = delayed-short k g c es sta
 earlier-short k (Some (Own number)) es standing all = record { equations = all; given = own-short (nat_le 1 k && nat_le k 256) number k }
 earlier-short k None es standing all = record { equations = all; given = zero-short }
 
-abbrev pub ShortPlans : List Plan → Type 0
-ShortPlans ps = AllByRecursion (λ (p : Plan). ShortMaking p.making) ps
+abbrev pub ShortPlans : List ExprPlan → Type 0
+ShortPlans ps = AllByRecursion (λ (p : ExprPlan). ShortMaking p.making) ps
 
-pub all-made-short : (ps : List Plan) → ShortPlans ps → (v : Visible) → ShortVisible v → (env : Streams) → ShortStreams env → (es : Equations) → ShortEquations es → ShortAll (all_made ps v env es)
+pub all-made-short : (ps : List ExprPlan) → ShortPlans ps → (v : Visible) → ShortVisible v → (env : Streams) → ShortStreams env → (es : Equations) → ShortEquations es → ShortAll (all_made ps v env es)
 all-made-short [] plans v seen env streams es all = record { equations = all; given = tt }
 all-made-short (p ∷ ps) plans v seen env streams es all =
     let first = p.making v env es in
@@ -224,14 +224,14 @@ all-made-short (p ∷ ps) plans v seen env streams es all =
     let rest = all-made-short ps plans.1 v seen env streams first.equations one.equations in
     record { equations = rest.equations; given = (one.given, rest.given) }
 
-pub apply-short : (o : Op) (a : AllMade) → ShortAll a → ShortMade (apply o a)
+pub apply-short : (o : Op) (a : AllExpanded) → ShortAll a → ShortMade (apply o a)
 apply-short o a short = with-short o a.given None a.equations short.given short.equations
 
-pub combined-short : (o : BinOp) (shift : Option Op) (a b : Plan) → ShortMaking a.making → ShortMaking b.making → ShortMaking (combined o shift a b)
+pub combined-short : (o : BinOp) (shift : Option Op) (a b : ExprPlan) → ShortMaking a.making → ShortMaking b.making → ShortMaking (combined o shift a b)
 combined-short o (Some shift) a b one other v seen env streams es all = apply-short shift (all_made (a ∷ []) v env es) (all-made-short (a ∷ []) (one, tt) v seen env streams es all)
 combined-short o None a b one other v seen env streams es all = apply-short (operator o) (all_made (a ∷ b ∷ []) v env es) (all-made-short (a ∷ b ∷ []) (one, (other, tt)) v seen env streams es all)
 
-beside-short : (above : Made) (gs : List Given) → ShortMade above → ShortGivens gs → ShortMade (beside above gs)
+beside-short : (above : Expanded) (gs : List Given) → ShortMade above → ShortGivens gs → ShortMade (beside above gs)
 beside-short above [] short given = short
 beside-short above (g ∷ gs) short given = beside-short _ gs (with-short op.Cat (above.given ∷ g ∷ []) None above.equations (short.given, (given.0, tt)) short.equations) given.1
 
@@ -239,7 +239,7 @@ pub concatenated-short : (gs : List Given) (es : Equations) → ShortGivens gs �
 concatenated-short [] es given all = record { equations = all; given = zero-short }
 concatenated-short (g ∷ gs) es given all = beside-short (made es g.operand false) gs (record { equations = all; given = given.0 }) given.1
 
-pub called-short : (f : Option Inlined) (a : AllMade) → IfSome f ShortInlined → ShortAll a → ShortMade (called f a)
+pub called-short : (f : Option Inlined) (a : AllExpanded) → IfSome f ShortInlined → ShortAll a → ShortMade (called f a)
 called-short (Some f) a does short = does a.given short.given a.equations short.equations
 called-short None a does short = record { equations = short.equations; given = zero-short }
 
@@ -267,7 +267,7 @@ ShortChange f = (v : Visible) → ShortVisible v → (s : Progress) → ShortPro
 abbrev pub ShortStmt : Stmt → Type 0
 ShortStmt s = ShortChange (change_of s)
 
-pub named-short : (name : List ℕ) (at : Option ℕ) (env : Streams) (m : Made) → ShortStreams env → ShortMade m → ShortProgress (named name at env m)
+pub named-short : (name : List ℕ) (at : Option ℕ) (env : Streams) (m : Expanded) → ShortStreams env → ShortMade m → ShortProgress (named name at env m)
 named-short name at env m streams short = record { streams = standing-more name at (Stream m.given 0) env short.given streams; equations = short.equations }
 
 pub let-short : (target : Ref) (width : Option ℕ) (e : Expr) → ShortExpr e → ShortChange (let_change target width e)
@@ -278,11 +278,11 @@ body-short name at width e number v s short seen all =
     let env = with_standing name at (Own number) s.streams in
     at-operator-short (plan_of e).is_operator (lawful width) ((plan_of e).making v env s.equations) (short v seen env (standing-more name at (Own number) s.streams tt all.streams) s.equations all.equations)
 
-settled-short : (b : Bool) (counted body : Made) → ShortMade counted → ShortMade body → ShortMade (cond b body counted)
+settled-short : (b : Bool) (counted body : Expanded) → ShortMade counted → ShortMade body → ShortMade (cond b body counted)
 settled-short true counted body one other = other
 settled-short false counted body one other = one
 
-recurrence-short : (name : List ℕ) (at width : Option ℕ) (init : ℕ) (s : Progress) (body : Made) → ShortProgress s → ShortMade body → ShortProgress (with_recurrence name at width init s body)
+recurrence-short : (name : List ℕ) (at width : Option ℕ) (init : ℕ) (s : Progress) (body : Expanded) → ShortProgress s → ShortMade body → ShortProgress (with_recurrence name at width init s body)
 recurrence-short name at width init s body all short = record {
   streams = standing-more name at (Stream (record { operand = Eq (length body.equations); signed = false }) init) s.streams refl all.streams;
   equations = (with-short (op.Rec init (length s.equations)) (body.given ∷ []) (lawful width) body.equations (short.given, tt) short.equations).equations;

@@ -3,7 +3,7 @@ use Rattle.std.proofs.Common.{◌≡◌, ℕ, zero, suc, ◌+◌, ◌-◌, ◌<�
 use Rattle.std.proofs.Math.ListN.{set}
 use Rattle.std.proofs.lemmas.List.{length-map, get_or-map, map-set}
 use Rattle.std.specs.List.{flat_map}
-use Rattle.pr_base.specs.Pe.{Made, next_state}
+use Rattle.pr_base.specs.Pe.{PeResult, next_state}
 use Rattle.pr_conf_pipeline.specs.Rows.{state_over, rows, state_after, resumed}
 use Rattle.pr_conf_pipeline.proofs.RowLaws.{state_first}
 use Rattle.pr_conf_pipeline.proofs.ResumeLaws.{rows_alike, state_alike, through-append, state_after-append}
@@ -48,26 +48,26 @@ begun_lawful site [] st = refl
 begun_lawful site (pe ∷ pes) [] = refl
 begun_lawful site (pe ∷ pes) (b ∷ st) = ap (λ rest. is_lawful_pe site pe && rest) (begun_lawful (record site { col = site.col + 1 }) pes st)
 
-made_from-begun : (N : ℕ) (row state : List ℕ) (columns : List Made) (pes : List Pe) (st : List ℕ) → made_from N row state columns (begun pes st) ≡ made_from N row state columns pes
+made_from-begun : (N : ℕ) (row state : List ℕ) (columns : List PeResult) (pes : List Pe) (st : List ℕ) → made_from N row state columns (begun pes st) ≡ made_from N row state columns pes
 made_from-begun N row state columns [] st = refl
 made_from-begun N row state columns (pe ∷ pes) [] = refl
 made_from-begun N row state columns (pe ∷ pes) (b ∷ st) = made_from-begun N row state (columns ++ pe_made N (record { row = row; state = state; columns = columns }) pe ∷ []) pes st
 
-states_from-begun : (N : ℕ) (sight : Sight) (pes : List Pe) (st : List ℕ) (columns : List Made) (state : List ℕ) → states_from N sight (begun pes st) columns state ≡ states_from N sight pes columns state
+states_from-begun : (N : ℕ) (sight : Sight) (pes : List Pe) (st : List ℕ) (columns : List PeResult) (state : List ℕ) → states_from N sight (begun pes st) columns state ≡ states_from N sight pes columns state
 states_from-begun N sight [] st columns state = refl
 states_from-begun N sight (pe ∷ pes) [] columns state = refl
 states_from-begun N sight (pe ∷ pes) (b ∷ st) [] state = refl
 states_from-begun N sight (pe ∷ pes) (b ∷ st) (m ∷ columns) [] = refl
 states_from-begun N sight (pe ∷ pes) (b ∷ st) (m ∷ columns) (old ∷ state) = ap (λ rest. next_state pe.next old m.output (source_byte N sight pe.a) ∷ rest) (states_from-begun N sight pes st columns state)
 
-passed-begun : (reg : ℕ) (pes : List Pe) (st : List ℕ) (columns : List Made) (before : List ℕ) → passed reg (begun pes st) columns before ≡ passed reg pes columns before
+passed-begun : (reg : ℕ) (pes : List Pe) (st : List ℕ) (columns : List PeResult) (before : List ℕ) → passed reg (begun pes st) columns before ≡ passed reg pes columns before
 passed-begun reg [] st columns before = refl
 passed-begun reg (pe ∷ pes) [] columns before = refl
 passed-begun reg (pe ∷ pes) (b ∷ st) [] before = refl
 passed-begun reg (pe ∷ pes) (b ∷ st) (m ∷ columns) [] = refl
 passed-begun reg (pe ∷ pes) (b ∷ st) (m ∷ columns) (old ∷ before) = ap (λ rest. (if pe.write == reg then m.output else old) ∷ rest) (passed-begun reg pes st columns before)
 
-registers_to-begun : (count N : ℕ) (first : Bool) (pes : List Pe) (st : List ℕ) (columns : List Made) (row : List ℕ) → registers_to count N first (begun pes st) columns row ≡ registers_to count N first pes columns row
+registers_to-begun : (count N : ℕ) (first : Bool) (pes : List Pe) (st : List ℕ) (columns : List PeResult) (row : List ℕ) → registers_to count N first (begun pes st) columns row ≡ registers_to count N first pes columns row
 registers_to-begun zero N first pes st columns row = refl
 registers_to-begun (suc count) N first pes st columns row =
     ap₂ (λ a b. a ++ b) (registers_to-begun count N first pes st columns row) (passed-begun (suc count) pes st columns (passed_bytes N first row (suc count)))

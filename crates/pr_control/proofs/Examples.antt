@@ -1,7 +1,8 @@
 -- The definitions at work.
 use Rattle.std.proofs.Common.{◌≡◌, Some, None, true, false, [], ◌∷◌, refl}
 use Rattle.pr_control.specs.Time.{event, occupant, turn}
-use Rattle.pr_control.specs.Counts.{cycles_of, drain}
+use Rattle.pr_control.specs.Counts.{cycles_of}
+use Rattle.pr_control.specs.Drain.{drain}
 use Rattle.pr_control.specs.StateRows.{rows_of, rows_in}
 
 -- seven stages on three stripes

@@ -5,7 +5,8 @@ use Rattle.std.proofs.Math.Nat.{mod-eq_of_lt, add-mod_right, mul-zero, zero-mul,
 use Rattle.std.proofs.lemmas.Nat.{mod_below, le-div}
 use Rattle.pr_control.specs.Time.{turn, ahead}
 use Rattle.pr_control.proofs.Round.{mod_ahead, ahead_cases}
-use Rattle.pr_control.specs.Counts.{turns_in, cycles_of, drain}
+use Rattle.pr_control.specs.Counts.{turns_in, cycles_of}
+use Rattle.pr_control.specs.Drain.{drain}
 
 -- ---- no more stages than stripes: each cycle but cycle 0 is a turn
 pub turn_line : (v p x : ℕ) → v ≤ p → turn v p (x + 1) ≡ true

@@ -1,4 +1,4 @@
--- How many cycles a run and a drain take, for v stages on p stripes.
+-- How many cycles a run takes, for v stages on p stripes.
 use Rattle.std.specs.Prelude.{ℕ, zero, suc, ◌+◌, ◌-◌, ◌*◌, ◌/◌, ◌%◌, nat_le, if◌then◌else◌}
 use Rattle.pr_control.specs.Time.{turn}
 
@@ -11,7 +11,3 @@ turns_in v p t (suc k) = turns_in v p t k + (if turn v p (t + k) then 1 else 0)
 abbrev pub cycles_of : ℕ → ℕ → ℕ → ℕ
 cycles_of v p zero = 0
 cycles_of v p (suc m) = if nat_le v p then suc m + v else v * (m / (p - 1) + 1) + m % (p - 1) + 1
-
--- in how many free turns n samples that have not entered come out, whatever is under way; n / (p - 1) is rounded up
-abbrev pub drain : ℕ → ℕ → ℕ → ℕ
-drain v p n = if nat_le v p then n + v else v * ((n + (p - 2)) / (p - 1) + 1)

@@ -1,4 +1,5 @@
 pub mod Time
 pub mod Residents
 pub mod Counts
+pub mod Drain
 pub mod StateRows

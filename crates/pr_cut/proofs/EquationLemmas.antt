@@ -19,7 +19,7 @@ use Rattle.pr_cut_units.specs.Widening.{Argument}
 use Rattle.pr_cut_units.specs.States.{held, delayed}
 use Rattle.pr_cut_units.specs.Table.{argument_forms, units_at}
 use Rattle.pr_cut_units.specs.Reached.{reached, hold_count}
-use Rattle.pr_cut_units.specs.Equations.{Plan, plan_of, arguments, equation_units, has_units, next_units, cut_whole}
+use Rattle.pr_cut_units.specs.Equations.{UnitPlan, plan_of, arguments, equation_units, has_units, next_units, cut_whole}
 use Rattle.pr_cut_units.proofs.CountNets.{forms_are, count_whole}
 use Rattle.pr_cut_units.proofs.WideNets.{are_counted}
 use Rattle.pr_cut_units.proofs.TiedNets.{holds_end}
@@ -27,10 +27,10 @@ use Rattle.pr_cut.specs.Operators.{is_operator}
 use Rattle.pr_cut.specs.Sources.{IsCutTo}
 use Rattle.pr_cut.proofs.OperatorLemmas.{not_rec}
 
-pub rec_units : (plan : Plan) (i : ℕ) (op : Op) (init first : ℕ) (args : List Argument) (body : Argument) → op ≡ Op.Rec init first → args ≡ body ∷ [] → equation_units plan i op args ≡ held (slice_index plan.widths i) init (hold_count plan.equations i) body
+pub rec_units : (plan : UnitPlan) (i : ℕ) (op : Op) (init first : ℕ) (args : List Argument) (body : Argument) → op ≡ Op.Rec init first → args ≡ body ∷ [] → equation_units plan i op args ≡ held (slice_index plan.widths i) init (hold_count plan.equations i) body
 rec_units plan i op init first args body eo ea = ap₂ (λ (o : Op) (xs : List Argument). equation_units plan i o xs) eo ea
 
-pub delay_units : (plan : Plan) (i : ℕ) (op : Op) (c : ℕ) (args : List Argument) (x : Argument) → op ≡ Op.Delay c → args ≡ x ∷ [] → equation_units plan i op args ≡ delayed (slice_index plan.widths i) c x.slices
+pub delay_units : (plan : UnitPlan) (i : ℕ) (op : Op) (c : ℕ) (args : List Argument) (x : Argument) → op ≡ Op.Delay c → args ≡ x ∷ [] → equation_units plan i op args ≡ delayed (slice_index plan.widths i) c x.slices
 delay_units plan i op c args x eo ea = ap₂ (λ (o : Op) (xs : List Argument). equation_units plan i o xs) eo ea
 
 takes_where : (b : Bool) (o : Option ℕ) (w : ℕ) → cond b o None ≡ Some w → b ≡ true
@@ -57,23 +57,23 @@ holds_few equations outputs widths i e flat wide few there counts h = go e.op re
     go op is t = absurd (false≢true t)
 
 -- ---- the next equation
-next_is : (plan : Plan) (i : ℕ) (units : List (List Cell)) (values : List (List Slice)) (e : EquationShape) (args : List Argument) → IsCutTo plan i units values → has_units plan i e ≡ true → args ≡ arguments plan values e.args e.kinds → next_units plan (record { units = units; values = values }) e ≡ equation_units plan i e.op args
+next_is : (plan : UnitPlan) (i : ℕ) (units : List (List Cell)) (values : List (List Slice)) (e : EquationShape) (args : List Argument) → IsCutTo plan i units values → has_units plan i e ≡ true → args ≡ arguments plan values e.args e.kinds → next_units plan (record { units = units; values = values }) e ≡ equation_units plan i e.op args
 next_is plan i units values e args cut has ea =
     let all = arguments plan values e.args e.kinds in
     ap (λ (k : ℕ). if has_units plan k e then equation_units plan k e.op all else kept []) cut.count
     ∙ ap (λ (b : Bool). if b then equation_units plan i e.op all else kept []) has
     ∙ ap (λ (xs : List Argument). equation_units plan i e.op xs) (sym ea)
 
-pub next_made : (plan : Plan) (i : ℕ) (units : List (List Cell)) (values : List (List Slice)) (e : EquationShape) (args : List Argument) (vs : List (List Cell)) → IsCutTo plan i units values → has_units plan i e ≡ true → args ≡ arguments plan values e.args e.kinds
+pub next_made : (plan : UnitPlan) (i : ℕ) (units : List (List Cell)) (values : List (List Slice)) (e : EquationShape) (args : List Argument) (vs : List (List Cell)) → IsCutTo plan i units values → has_units plan i e ≡ true → args ≡ arguments plan values e.args e.kinds
     → vs ≡ units ++ (equation_units plan i e.op args (length units)).units → vs ≡ units ++ (next_units plan (record { units = units; values = values }) e (length units)).units
 next_made plan i units values e args vs cut has ea ev = ev ∙ ap (λ (m : Making). units ++ (m (length units)).units) (sym (next_is plan i units values e args cut has ea))
 
-pub next_slices : (plan : Plan) (i : ℕ) (units : List (List Cell)) (values : List (List Slice)) (e : EquationShape) (args : List Argument) (x : List Slice) → IsCutTo plan i units values → has_units plan i e ≡ true → args ≡ arguments plan values e.args e.kinds
+pub next_slices : (plan : UnitPlan) (i : ℕ) (units : List (List Cell)) (values : List (List Slice)) (e : EquationShape) (args : List Argument) (x : List Slice) → IsCutTo plan i units values → has_units plan i e ≡ true → args ≡ arguments plan values e.args e.kinds
     → x ≡ (equation_units plan i e.op args (length units)).slices → x ≡ (next_units plan (record { units = units; values = values }) e (length units)).slices
 next_slices plan i units values e args x cut has ea ex = ex ∙ ap (λ (m : Making). (m (length units)).slices) (sym (next_is plan i units values e args cut has ea))
 
 -- an equation without units
-pub next_none : (plan : Plan) (i : ℕ) (units : List (List Cell)) (values : List (List Slice)) (e : EquationShape) → IsCutTo plan i units values → has_units plan i e ≡ false → next_units plan (record { units = units; values = values }) e ≡ kept []
+pub next_none : (plan : UnitPlan) (i : ℕ) (units : List (List Cell)) (values : List (List Slice)) (e : EquationShape) → IsCutTo plan i units values → has_units plan i e ≡ false → next_units plan (record { units = units; values = values }) e ≡ kept []
 next_none plan i units values e cut has =
     let all = arguments plan values e.args e.kinds in
     ap (λ (k : ℕ). if has_units plan k e then equation_units plan k e.op all else kept []) cut.count
@@ -89,7 +89,7 @@ operator_of (Op.Delay c) i d r = absurd (d c refl)
 operator_of (Op.Rec init first) i d r = absurd (r init first refl)
 operator_of op i d r = refl
 
-pub operator_units : (plan : Plan) (i : ℕ) (op : Op) (args : List Argument) → (op ≡ Op.Input → ⊥) → ((c : ℕ) → op ≡ Op.Delay c → ⊥) → ((init first : ℕ) → op ≡ Op.Rec init first → ⊥) → equation_units plan i op args ≡ units_at (slice_index plan.widths i) op args
+pub operator_units : (plan : UnitPlan) (i : ℕ) (op : Op) (args : List Argument) → (op ≡ Op.Input → ⊥) → ((c : ℕ) → op ≡ Op.Delay c → ⊥) → ((init first : ℕ) → op ≡ Op.Rec init first → ⊥) → equation_units plan i op args ≡ units_at (slice_index plan.widths i) op args
 operator_units plan i Op.Input args n d r = absurd (n refl)
 operator_units plan i (Op.Delay c) args n d r = absurd (d c refl)
 operator_units plan i (Op.Rec init first) args n d r = absurd (r init first refl)

@@ -7,12 +7,12 @@ use Rattle.pr_flat.specs.Shape.{EquationShape}
 use Rattle.pr_flat.specs.Facts.{IsFlat, is_lawful_output, reads_equation}
 use Rattle.pr_flat.specs.Widths.{AreWidths}
 use Rattle.pr_net.proofs.Lists.{any_here, at_head, in_tail}
-use Rattle.pr_cut_units.specs.Equations.{Plan, plan_of, Cut, next_units, cut_next, cut_after, cut_start, cut_whole}
+use Rattle.pr_cut_units.specs.Equations.{UnitPlan, plan_of, Cut, next_units, cut_next, cut_after, cut_start, cut_whole}
 use Rattle.pr_cut_units.proofs.WideNets.{are_counted}
 use Rattle.pr_cut_units.proofs.EndNets.{output_bounds, output_long}
 use Rattle.pr_cut.specs.Sources.{IsReady, AreReady}
 
-length_after : (plan : Plan) (cut : Cut) (rest : List EquationShape) → length (cut_after plan cut rest).values ≡ length cut.values + length rest
+length_after : (plan : UnitPlan) (cut : Cut) (rest : List EquationShape) → length (cut_after plan cut rest).values ≡ length cut.values + length rest
 length_after plan cut [] = omega arith
 length_after plan cut (e ∷ rest) =
     let one = length-append cut.values ((next_units plan cut e (length cut.units)).slices ∷ []) in

@@ -21,7 +21,7 @@ use Rattle.pr_net.specs.declared.cells.Slice.{Slice}
 use Rattle.pr_net.specs.declared.cells.Cell.{Cell}
 use Rattle.pr_net.proofs.Lists.{any_here, at_head, in_tail}
 use Rattle.pr_cut_units.specs.Reached.{reached}
-use Rattle.pr_cut_units.specs.Equations.{Plan, plan_of, hold_unit, has_units, Cut, cut_whole}
+use Rattle.pr_cut_units.specs.Equations.{UnitPlan, plan_of, hold_unit, has_units, Cut, cut_whole}
 use Rattle.pr_cut_units.proofs.CountNets.{count_whole}
 use Rattle.pr_cut_units.proofs.WideNets.{widths_some, are_counted}
 use Rattle.pr_cut_units.proofs.EndNets.{widths_most, output_bounds, value_long, values_added, values_are}
@@ -32,7 +32,7 @@ use Rattle.pr_cut.specs.Sources.{IsCutTo, IsReady, AreReady}
 
 -- ---- what is made so far
 -- the slices so far are those of the whole
-pub value_kept : (plan : Plan) (i : ℕ) (units : List (List Cell)) (values : List (List Slice)) (j : ℕ) → IsCutTo plan i units values → j < i → get_or values j [] ≡ get_or (cut_whole plan).values j []
+pub value_kept : (plan : UnitPlan) (i : ℕ) (units : List (List Cell)) (values : List (List Slice)) (j : ℕ) → IsCutTo plan i units values → j < i → get_or values j [] ≡ get_or (cut_whole plan).values j []
 value_kept plan i units values j cut l =
     let now : Cut = record { units = units; values = values } in
     let rest = drop i plan.equations in
@@ -41,7 +41,7 @@ value_kept plan i units values j cut l =
     ∙ ap (λ (vs : List (List Slice)). get_or vs j []) (sym (values_are plan now rest) ∙ ap (λ (c : Cut). c.values) cut.rest)
 
 -- and so are the units
-pub units_few : (plan : Plan) (i : ℕ) (units : List (List Cell)) (values : List (List Slice)) → IsCutTo plan i units values → length units ≤ length (cut_whole plan).units
+pub units_few : (plan : UnitPlan) (i : ℕ) (units : List (List Cell)) (values : List (List Slice)) → IsCutTo plan i units values → length units ≤ length (cut_whole plan).units
 units_few plan i units values cut =
     let now : Cut = record { units = units; values = values } in
     let rest = drop i plan.equations in
@@ -50,7 +50,7 @@ units_few plan i units values cut =
 
 -- ---- operands
 -- all that is known where the operands of equation i are looked up
-pub record Place (equations : List EquationShape) (outputs : List Operand) (widths : List ℕ) (i : ℕ) (values : List (List Slice)) (e : EquationShape) : Type 0 where
+pub record EquationPlace (equations : List EquationShape) (outputs : List Operand) (widths : List ℕ) (i : ℕ) (values : List (List Slice)) (e : EquationShape) : Type 0 where
   pub flat : IsFlat equations outputs
   pub wide : AreWidths equations widths
   pub few : length (cut_whole (plan_of equations widths outputs)).units ≤ 32768
@@ -62,7 +62,7 @@ pub record Place (equations : List EquationShape) (outputs : List Operand) (widt
 reads_self : (j : ℕ) → reads_equation j (Operand.Eq j) ≡ true
 reads_self j = eq-eqb j j refl
 
-ready : (equations : List EquationShape) (outputs : List Operand) (widths : List ℕ) (i : ℕ) (values : List (List Slice)) (e : EquationShape) → Place equations outputs widths i values e → (a : Operand) → Contains e.args a → is_lawful_operand equations i a ≡ true → is_within (length widths) a ≡ true → IsReady (plan_of equations widths outputs) values a
+ready : (equations : List EquationShape) (outputs : List Operand) (widths : List ℕ) (i : ℕ) (values : List (List Slice)) (e : EquationShape) → EquationPlace equations outputs widths i values e → (a : Operand) → Contains e.args a → is_lawful_operand equations i a ≡ true → is_within (length widths) a ≡ true → IsReady (plan_of equations widths outputs) values a
 ready equations outputs widths i values e p (Operand.Const c) has lawful within =
     let b = output_bounds equations outputs widths p.flat p.wide (Operand.Const c) lawful in
     record {
@@ -106,14 +106,14 @@ ready equations outputs widths i values e p (Operand.Past rec k) has lawful with
       few = widths_most equations outputs widths p.flat p.wide rec here;
     }
 
-ready_all : (equations : List EquationShape) (outputs : List Operand) (widths : List ℕ) (i : ℕ) (values : List (List Slice)) (e : EquationShape) → Place equations outputs widths i values e → (rest : List Operand) → ((a : Operand) → Contains rest a → Contains e.args a) → list_all (is_lawful_operand equations i) rest ≡ true → list_all (is_within (length widths)) rest ≡ true → AreReady (plan_of equations widths outputs) values rest
+ready_all : (equations : List EquationShape) (outputs : List Operand) (widths : List ℕ) (i : ℕ) (values : List (List Slice)) (e : EquationShape) → EquationPlace equations outputs widths i values e → (rest : List Operand) → ((a : Operand) → Contains rest a → Contains e.args a) → list_all (is_lawful_operand equations i) rest ≡ true → list_all (is_within (length widths)) rest ≡ true → AreReady (plan_of equations widths outputs) values rest
 ready_all equations outputs widths i values e p [] sub lawful within = tt
 ready_all equations outputs widths i values e p (a ∷ rest) sub lawful within =
     let l = and_parts (is_lawful_operand equations i a) (list_all (is_lawful_operand equations i) rest) lawful in
     let w = and_parts (is_within (length widths) a) (list_all (is_within (length widths)) rest) within in
     (ready equations outputs widths i values e p a (sub a (at_head a rest)) l.0 w.0, ready_all equations outputs widths i values e p rest (λ b c. sub b (in_tail a b rest c)) l.1 w.1)
 
-no_operands : (plan : Plan) (values : List (List Slice)) (args : List Operand) (op : Op) → length args ≡ arity op → is_input op ≡ true → AreReady plan values args
+no_operands : (plan : UnitPlan) (values : List (List Slice)) (args : List Operand) (op : Op) → length args ≡ arity op → is_input op ≡ true → AreReady plan values args
 no_operands plan values [] op n h = tt
 no_operands plan values (a ∷ args) Op.Input n h = absurd (omega (arith, n))
 no_operands plan values (a ∷ args) op n h = absurd (false≢true h)
@@ -125,7 +125,7 @@ operands_ready equations outputs widths i units values e flat wide few cut there
   | inr h ↦
       (let plan = plan_of equations widths outputs in
       let counts : get_or (reached equations outputs) i false ≡ true = subst (λ (b : Bool). (b || get_or (reached equations outputs) i false) ≡ true) h has in
-      let p : Place equations outputs widths i values e = record { flat = flat; wide = wide; few = few; count = cut.count; same = λ j l. value_kept plan i units values j cut l; there = there; counts = counts } in
+      let p : EquationPlace equations outputs widths i values e = record { flat = flat; wide = wide; few = few; count = cut.count; same = λ j l. value_kept plan i units values j cut l; there = there; counts = counts } in
       let lawful = flat.operands i e there in
       ready_all equations outputs widths i values e p e.args (λ a c. c) lawful (operands_within equations i (length widths) e.args wide.count (subst (λ (n : ℕ). i < n) (sym wide.count) (slice_get_within equations i e there)) lawful))
 ]

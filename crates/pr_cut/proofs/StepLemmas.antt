@@ -16,7 +16,7 @@ use Rattle.pr_cut_units.specs.Parts.{each}
 use Rattle.pr_cut_units.specs.Widening as Widening
 use Rattle.pr_cut_cells.specs.declared.arguments.Argument.{Argument}
 use Rattle.pr_cut_cells.specs.Arguments.{argument_of}
-use Rattle.pr_cut_units.specs.Equations.{Plan, operand_slices, arguments, Cut, next_units, cut_next, cut_after, cut_whole}
+use Rattle.pr_cut_units.specs.Equations.{UnitPlan, operand_slices, arguments, Cut, next_units, cut_next, cut_after, cut_whole}
 use Rattle.pr_cut.specs.Operators.{arguments_of}
 use Rattle.pr_cut.specs.Sources.{IsCutTo, IsReady, AreReady}
 
@@ -27,7 +27,7 @@ drop_at (y ∷ xs) zero x h = let same : y ≡ x = cc in ap (λ z. z ∷ xs) sam
 drop_at (y ∷ xs) (suc i) x h = drop_at xs i x h
 
 -- one more equation
-pub cut_more : (plan : Plan) (i : ℕ) (e : EquationShape) (us vs : List (List Cell)) (values more : List (List Slice)) (slices : List Slice) → slice_get plan.equations i ≡ Some e → IsCutTo plan i us values
+pub cut_more : (plan : UnitPlan) (i : ℕ) (e : EquationShape) (us vs : List (List Cell)) (values more : List (List Slice)) (slices : List Slice) → slice_get plan.equations i ≡ Some e → IsCutTo plan i us values
     → vs ≡ us ++ (next_units plan (record { units = us; values = values }) e (length us)).units → slices ≡ (next_units plan (record { units = us; values = values }) e (length us)).slices → more ≡ values ++ slices ∷ []
     → IsCutTo plan (i + 1) vs more
 cut_more plan i e us vs values more slices there cut ev es em =
@@ -63,7 +63,7 @@ arguments_push [] x = refl
 arguments_push (y ∷ xs) x = ap (λ (ys : List Widening.Argument). argument_of y ∷ ys) (arguments_push xs x)
 
 -- one more operand
-pub arguments_more : (plan : Plan) (values : List (List Slice)) (args : List Operand) (kinds : List Bool) (i : ℕ) (a : Operand) (kind : Bool) (xs ys : List Argument) (x : Argument) (whole : List Widening.Argument) → slice_get args i ≡ Some a → slice_get kinds i ≡ Some kind
+pub arguments_more : (plan : UnitPlan) (values : List (List Slice)) (args : List Operand) (kinds : List Bool) (i : ℕ) (a : Operand) (kind : Bool) (xs ys : List Argument) (x : Argument) (whole : List Widening.Argument) → slice_get args i ≡ Some a → slice_get kinds i ≡ Some kind
     → argument_of x ≡ record { slices = operand_slices plan values a; form = record { signed = kind; width = operand_width plan.widths a } } → ys ≡ xs ++ x ∷ []
     → arguments_of xs ++ arguments plan values (drop i args) (drop i kinds) ≡ whole → arguments_of ys ++ arguments plan values (drop (i + 1) args) (drop (i + 1) kinds) ≡ whole
 arguments_more plan values args kinds i a kind xs ys x whole ha hk hx hy is =
@@ -75,7 +75,7 @@ arguments_more plan values args kinds i a kind xs ys x whole ha hk hx hy is =
     ap₂ (λ (ys : List Widening.Argument) (k : ℕ). ys ++ arguments plan values (drop k args) (drop k kinds)) all after
     ∙ append_assoc (arguments_of xs) (now ∷ []) rest ∙ ap (λ (ys : List Widening.Argument). arguments_of xs ++ ys) (sym before) ∙ is
 
-pub arguments_done : (plan : Plan) (values : List (List Slice)) (args : List Operand) (kinds : List Bool) (i : ℕ) (xs : List Argument) (whole : List Widening.Argument) → length args ≤ i → arguments_of xs ++ arguments plan values (drop i args) (drop i kinds) ≡ whole → arguments_of xs ≡ whole
+pub arguments_done : (plan : UnitPlan) (values : List (List Slice)) (args : List Operand) (kinds : List Bool) (i : ℕ) (xs : List Argument) (whole : List Widening.Argument) → length args ≤ i → arguments_of xs ++ arguments plan values (drop i args) (drop i kinds) ≡ whole → arguments_of xs ≡ whole
 arguments_done plan values args kinds i xs whole l is =
     sym (append-nil (arguments_of xs)) ∙ ap (λ (bs : List Operand). arguments_of xs ++ arguments plan values bs (drop i kinds)) (sym (drop_end args i l)) ∙ is
   where
@@ -85,7 +85,7 @@ arguments_done plan values args kinds i xs whole l is =
     drop_end (x ∷ xs) zero l = absurd (omega (arith, l))
     drop_end (x ∷ xs) (suc i) l = drop_end xs i (omega (arith, l))
 
-pub ready_at : (plan : Plan) (values : List (List Slice)) (args : List Operand) (i : ℕ) (a : Operand) → AreReady plan values args → i < length args → a ≡ get_or args i a → IsReady plan values a
+pub ready_at : (plan : UnitPlan) (values : List (List Slice)) (args : List Operand) (i : ℕ) (a : Operand) → AreReady plan values args → i < length args → a ≡ get_or args i a → IsReady plan values a
 ready_at plan values [] i a h l read = absurd (omega (arith, l))
 ready_at plan values (b ∷ args) zero a h l read = subst (IsReady plan values) (sym read) h.0
 ready_at plan values (b ∷ args) (suc i) a h l read = ready_at plan values args i a h.1 (omega (arith, l)) read
@@ -108,13 +108,13 @@ drop_all [] (suc i) l = refl
 drop_all (x ∷ xs) zero l = absurd (omega (arith, l))
 drop_all (x ∷ xs) (suc i) l = drop_all xs i (omega (arith, l))
 
-cut_done : (plan : Plan) (i : ℕ) (units : List (List Cell)) (values : List (List Slice)) → IsCutTo plan i units values → length plan.equations ≤ i → record { units = units; values = values } ≡ cut_whole plan
+cut_done : (plan : UnitPlan) (i : ℕ) (units : List (List Cell)) (values : List (List Slice)) → IsCutTo plan i units values → length plan.equations ≤ i → record { units = units; values = values } ≡ cut_whole plan
 cut_done plan i units values cut l = ap (cut_after plan (record { units = units; values = values })) (sym (drop_all plan.equations i l)) ∙ cut.rest
 
-pub cut_units : (plan : Plan) (i : ℕ) (units : List (List Cell)) (values : List (List Slice)) → IsCutTo plan i units values → length plan.equations ≤ i → units ≡ (cut_whole plan).units
+pub cut_units : (plan : UnitPlan) (i : ℕ) (units : List (List Cell)) (values : List (List Slice)) → IsCutTo plan i units values → length plan.equations ≤ i → units ≡ (cut_whole plan).units
 cut_units plan i units values cut l = ap (λ (c : Cut). c.units) (cut_done plan i units values cut l)
 
-pub cut_values : (plan : Plan) (i : ℕ) (units : List (List Cell)) (values : List (List Slice)) → IsCutTo plan i units values → length plan.equations ≤ i → values ≡ (cut_whole plan).values
+pub cut_values : (plan : UnitPlan) (i : ℕ) (units : List (List Cell)) (values : List (List Slice)) → IsCutTo plan i units values → length plan.equations ≤ i → values ≡ (cut_whole plan).values
 cut_values plan i units values cut l = ap (λ (c : Cut). c.values) (cut_done plan i units values cut l)
 
 pub inputs_few : (equations : List EquationShape) → length (input_widths equations) ≤ length equations

@@ -11,7 +11,7 @@ use Rattle.pr_net.specs.declared.cells.Slice.{Slice}
 use Rattle.pr_net.specs.declared.cells.Cell.{Cell}
 use Rattle.pr_cut_units.specs.Parts.{Making}
 use Rattle.pr_cut_units.specs.Widening.{Argument, read_as}
-use Rattle.pr_cut_units.specs.Equations.{Plan, plan_of, hold_unit, operand_slices, equation_units, next_units, cut_after, cut_whole}
+use Rattle.pr_cut_units.specs.Equations.{UnitPlan, plan_of, hold_unit, operand_slices, equation_units, next_units, cut_after, cut_whole}
 use Rattle.pr_cut_plan.specs.Plans.{IsPlanOf}
 use Rattle.pr_cut.specs.declared.sources.PlannedEquations.{PlannedEquations}
 use Rattle.pr_cut.specs.declared.sources.NextEquation.{NextEquation}
@@ -20,7 +20,7 @@ abbrev pub equations_in : PlannedEquations → List EquationShape
 equations_in s = shapes_of s.flat.now.equations.items
 
 -- what the units are made by
-abbrev pub plan_in : PlannedEquations → Plan
+abbrev pub plan_in : PlannedEquations → UnitPlan
 plan_in s = plan_of (equations_in s) s.widths.now s.flat.now.outputs.items
 
 -- the units of an equation whose turn it is, on these operands, and after what the equations before it have
@@ -46,24 +46,24 @@ pub record IsTurn (s : PlannedEquations) (turn : NextEquation) : Type 0 where
   pub inputs : turn.inputs ≡ count_by (λ (e : EquationShape). is_input e.op) (take turn.number (equations_in s))
 
 -- these are the units and the slices of the equations before this one
-pub record IsCutTo (plan : Plan) (number : ℕ) (units : List (List Cell)) (values : List (List Slice)) : Type 0 where
+pub record IsCutTo (plan : UnitPlan) (number : ℕ) (units : List (List Cell)) (values : List (List Slice)) : Type 0 where
   pub count : length values ≡ number
   pub rest : cut_after plan (record { units = units; values = values }) (drop number plan.equations) ≡ cut_whole plan
 
 -- an operand that is a number, an equation whose slices are there, or a past that is held
-abbrev pub IsNamed : Plan → List (List Slice) → Operand → Type 0
+abbrev pub IsNamed : UnitPlan → List (List Slice) → Operand → Type 0
 IsNamed plan values (Operand.Const c) = Unit {0}
 IsNamed plan values (Operand.Eq i) = i < length values
 IsNamed plan values (Operand.Past rec k) = (rec < length plan.equations) × (1 ≤ k) × (hold_unit plan rec + k ≤ 32768)
 
 -- and that has a slice for each byte of its width
-pub record IsReady (plan : Plan) (values : List (List Slice)) (a : Operand) : Type 0 where
+pub record IsReady (plan : UnitPlan) (values : List (List Slice)) (a : Operand) : Type 0 where
   pub named : IsNamed plan values a
   pub within : is_within (length plan.widths) a ≡ true
   pub whole : length (operand_slices plan values a) ≡ slices_of (operand_width plan.widths a)
   pub some : 1 ≤ operand_width plan.widths a
   pub few : operand_width plan.widths a ≤ 128
 
-abbrev pub AreReady : Plan → List (List Slice) → List Operand → Type 0
+abbrev pub AreReady : UnitPlan → List (List Slice) → List Operand → Type 0
 AreReady plan values [] = Unit {0}
 AreReady plan values (a ∷ args) = IsReady plan values a × AreReady plan values args

@@ -1,6 +1,6 @@
 //! Equations with their widths and their plan.
 
-use pr_cut_plan::Plan;
+use pr_cut_plan::CutPlan;
 use pr_flat::{Equation, Flat};
 use pr_net::Slice;
 use std::marker::Model;
@@ -10,7 +10,7 @@ use std::marker::Model;
 pub struct PlannedEquations<'a> {
     pub flat: &'a Flat,
     pub widths: &'a [u8],
-    pub plan: &'a Plan,
+    pub plan: &'a CutPlan,
 }
 
 /// An equation whose turn it is.

@@ -20,7 +20,7 @@ use Rattle.pr_net.specs.Runs.{slice_list}
 use Rattle.pr_net.specs.Whole.{net_reading, output_list as net_list}
 use Rattle.pr_net.proofs.WholeLaws.{net_bytes}
 use Rattle.pr_cut_units.specs.Cells.{slice_at}
-use Rattle.pr_cut_units.specs.Equations.{Plan, plan_of, operand_slices, cut_whole}
+use Rattle.pr_cut_units.specs.Equations.{UnitPlan, plan_of, operand_slices, cut_whole}
 use Rattle.pr_cut_units.specs.Nets.{output_of, net_of}
 use Rattle.pr_cut_units.proofs.AddMeaning.{Bytes}
 use Rattle.pr_cut_units.proofs.GoodNets.{good_whole, operand_known}
@@ -57,7 +57,7 @@ module _ (net : NetShape) (samples : List (List ℕ)) (xs : List Slice) (bytes :
 
 -- ---- the net of flat equations
 module _ (equations : List EquationShape) (outputs : List Operand) (widths : List ℕ) (samples : List (List ℕ)) (flat : IsFlat equations outputs) (wide : AreWidths equations widths) where
-  abbrev plan : Plan
+  abbrev plan : UnitPlan
   plan = plan_of equations widths outputs
 
   -- what an operand names shows bytes

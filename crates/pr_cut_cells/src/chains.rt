@@ -142,14 +142,14 @@ fn append_chain(
 
 /// Where the next cell of a chain stands, if its segment has room.
 #[derive(Clone, Copy)]
-struct Place {
+struct ChainPlace {
     unit: u32,
     room: u8,
     cell: u8,
 }
 
 /// The slice of the next cell.
-fn next_slice(style: Style, place: Place) -> Slice
+fn next_slice(style: Style, place: ChainPlace) -> Slice
     requires fits { place.unit + 1 < 2 ^ 32 }
     ensures { (k : Cell) → slices_from style place (k ∷ []) ≡ result ∷ [] }
 {
@@ -163,7 +163,7 @@ fn next_slice(style: Style, place: Place) -> Slice
 }
 
 /// The place after the next cell.
-fn next_place(style: Style, place: Place) -> Place
+fn next_place(style: Style, place: ChainPlace) -> ChainPlace
     requires fits { place.unit + 1 < 2 ^ 32 }
     requires short { place.cell + place.room ≤ 5 }
     ensures places { (k : Cell) (rest : List Cell) →
@@ -175,19 +175,19 @@ fn next_place(style: Style, place: Place) -> Place
 {
     if place.room == 0 {
         return match style {
-            Style::ByBit => Place {
+            Style::ByBit => ChainPlace {
                 unit: place.unit + 1,
                 room: 3,
                 cell: 1,
             },
-            Style::ByEntry => Place {
+            Style::ByEntry => ChainPlace {
                 unit: place.unit + 1,
                 room: 3,
                 cell: 2,
             },
         };
     }
-    Place {
+    ChainPlace {
         unit: place.unit,
         room: place.room - 1,
         cell: place.cell + 1,
@@ -205,7 +205,7 @@ fn chain_slices(
     ensures { IfOk result (λ s. s.items ≡ places style unit 4 0 cells.now) }
 {
     let mut slices = Vec::with_capacity(alloc, cells.len())?;
-    let mut place = Place {
+    let mut place = ChainPlace {
         unit,
         room: 4,
         cell: 0,
@@ -222,7 +222,7 @@ fn closing_slice(unit: u32, cells: &[Cell]) -> Slice
     requires { unit + length cells.now + 1 < 2 ^ 32 }
     ensures { result ≡ place_after Style.ByBit unit 4 0 cells.now }
 {
-    let mut place = Place {
+    let mut place = ChainPlace {
         unit,
         room: 4,
         cell: 0,

@@ -14,7 +14,7 @@ use Rattle.pr_net.specs.Reading.{Reading}
 use Rattle.pr_net.specs.Runs.{Runs, reading_at}
 use Rattle.pr_net.proofs.RunsLemmas.{Small, function_runs, function_bytes}
 use Rattle.pr_cut_units.specs.Reached.{hold_count}
-use Rattle.pr_cut_units.specs.Equations.{Plan, plan_of, has_units, Cut, input_units, cut_start, cut_whole}
+use Rattle.pr_cut_units.specs.Equations.{UnitPlan, plan_of, has_units, Cut, input_units, cut_start, cut_whole}
 use Rattle.pr_cut_units.proofs.GoodNets.{WideOperands, AllWide, GoodCut, good_whole, inputs_count}
 use Rattle.pr_cut_units.proofs.GoodParts.{GoodPart, good_unit}
 use Rattle.pr_cut_units.proofs.Operands.{top_small}
@@ -69,7 +69,7 @@ all_from widths (e ∷ rest) h = (h 0 e refl, all_from widths rest (λ j d there
 pub all_wide : (equations : List EquationShape) (outputs : List Operand) (widths : List ℕ) → IsFlat equations outputs → AreWidths equations widths → AllWide widths equations
 all_wide equations outputs widths flat all = all_from widths equations (λ i e there. wide_operands equations widths i e.args (has_widths equations outputs widths flat all) (slice_get_within equations i e there) (flat.operands i e there))
 
-counted_from : (plan : Plan) (k : ℕ) (rest : List EquationShape) → ((j : ℕ) (e : EquationShape) → slice_get rest j ≡ Some e → IsCounted plan (k + j) e) → AreCounted plan k rest
+counted_from : (plan : UnitPlan) (k : ℕ) (rest : List EquationShape) → ((j : ℕ) (e : EquationShape) → slice_get rest j ≡ Some e → IsCounted plan (k + j) e) → AreCounted plan k rest
 counted_from plan k [] h = tt
 counted_from plan k (e ∷ rest) h =
     let z : k + 0 ≡ k = omega arith in
@@ -138,7 +138,7 @@ inputs_heads offset (w ∷ widths) = ((good_input w offset).heads.0, inputs_head
     good_input : (w offset : ℕ) → GoodPart 0 (input_unit w offset 0)
     good_input w offset = good_unit 0 (slices_of w) _ (λ i. record { reads = record { a = tt; hi = tt; lo = tt; c = tt }; bytes = record { a = tt; mask = top_small w i; init = omega arith } }) (λ i. tt)
 
-pub good_start : (plan : Plan) → GoodCut plan (cut_start plan.equations)
+pub good_start : (plan : UnitPlan) → GoodCut plan (cut_start plan.equations)
 good_start plan = record {
   order = inputs_order 0 0 (input_widths plan.equations);
   bytes = inputs_bytes 0 (input_widths plan.equations);
@@ -148,15 +148,15 @@ good_start plan = record {
 }
 
 -- an equation that has units
-abbrev pub HasUnits : Plan → ℕ → Type 0
+abbrev pub HasUnits : UnitPlan → ℕ → Type 0
 HasUnits plan i = (e : EquationShape) → slice_get plan.equations i ≡ Some e → has_units plan i e ≡ true
 
 -- the slices of inputs show the numbers of the samples
-pub record IsFed (plan : Plan) (samples : List (List ℕ)) (v : ℕ → Reading) : Type 0 where
+pub record IsFed (plan : UnitPlan) (samples : List (List ℕ)) (v : ℕ → Reading) : Type 0 where
   pub shows : (n i : ℕ) (e : EquationShape) → slice_get plan.equations i ≡ Some e → e.op ≡ Op.Input → ShowsNumber (v n) (value_of (cut_whole plan).values i) (get_or plan.widths i 0) (val plan.equations plan.widths samples n i)
 
 -- what an equation with units reads has units, and a past has its hold unit
-pub record IsClosedPlan (plan : Plan) : Type 0 where
+pub record IsClosedPlan (plan : UnitPlan) : Type 0 where
   pub closed : (i : ℕ) (e : EquationShape) → slice_get plan.equations i ≡ Some e → HasUnits plan i → AllClosed (HasUnits plan) (hold_count plan.equations) e.args
 
 -- the slices of every equation that has units show its number at every sample
@@ -164,7 +164,7 @@ pub cut_shows : (equations : List EquationShape) (outputs : List Operand) (width
     → (n i : ℕ) (e : EquationShape) → slice_get equations i ≡ Some e → HasUnits (plan_of equations widths outputs) i → ShowsNumber (reading_at (cut_whole (plan_of equations widths outputs)).units buses n) (value_of (cut_whole (plan_of equations widths outputs)).values i) (get_or widths i 0) (val equations widths samples n i)
 cut_shows equations outputs widths samples buses flat all small closed fed n i e there made = net_shows plan outputs samples v (HasUnits plan) final.values (hold_count equations) flat all has net n i e there made
   where
-    plan : Plan
+    plan : UnitPlan
     plan = plan_of equations widths outputs
 
     final : Cut

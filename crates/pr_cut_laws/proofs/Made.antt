@@ -24,7 +24,7 @@ use Rattle.pr_net.proofs.Readings.{has-append}
 use Rattle.pr_cut_units.specs.Parts.{Making, kept}
 use Rattle.pr_cut_units.specs.Widening.{Argument}
 use Rattle.pr_cut_units.specs.Table.{argument_forms, units_at}
-use Rattle.pr_cut_units.specs.Equations.{Plan, Cut, operand_slices, arguments, equation_units, has_units, next_units, cut_next, cut_after}
+use Rattle.pr_cut_units.specs.Equations.{UnitPlan, Cut, operand_slices, arguments, equation_units, has_units, next_units, cut_next, cut_after}
 use Rattle.pr_cut_units.proofs.EachLemmas.{length-each}
 use Rattle.pr_cut_units.proofs.Operands.{AreOperands, operands-each}
 use Rattle.pr_cut_units.proofs.GoodTable.{KnownArguments, good_at}
@@ -36,14 +36,14 @@ use Rattle.pr_cut_laws.proofs.Holds.{Stays}
 use Rattle.pr_cut_laws.proofs.Whole.{ShowsNumber, AreShown, IsOrdinary, value_of}
 
 -- ---- the fold appends
-pub units_more : (plan : Plan) (cut : Cut) (rest : List EquationShape) → (more : List (List Cell)) × ((cut_after plan cut rest).units ≡ cut.units ++ more)
+pub units_more : (plan : UnitPlan) (cut : Cut) (rest : List EquationShape) → (more : List (List Cell)) × ((cut_after plan cut rest).units ≡ cut.units ++ more)
 units_more plan cut [] = ([], sym (append-nil cut.units))
 units_more plan cut (e ∷ rest) =
     let us : List (List Cell) = (next_units plan cut e (length cut.units)).units in
     let t = units_more plan (cut_next plan cut e) rest in
     (us ++ t.0, t.1 ∙ append_assoc cut.units us t.0)
 
-values_more : (plan : Plan) (cut : Cut) (rest : List EquationShape) → (more : List (List Slice)) × ((cut_after plan cut rest).values ≡ cut.values ++ more)
+values_more : (plan : UnitPlan) (cut : Cut) (rest : List EquationShape) → (more : List (List Slice)) × ((cut_after plan cut rest).values ≡ cut.values ++ more)
 values_more plan cut [] = ([], sym (append-nil cut.values))
 values_more plan cut (e ∷ rest) =
     let x : List Slice = (next_units plan cut e (length cut.units)).slices in
@@ -51,7 +51,7 @@ values_more plan cut (e ∷ rest) =
     (x ∷ t.0, t.1 ∙ append_assoc cut.values (x ∷ []) t.0)
 
 -- equation i was made after these units and values
-pub record IsMade (plan : Plan) (final : Cut) (i : ℕ) (e : EquationShape) : Type 0 where
+pub record IsMade (plan : UnitPlan) (final : Cut) (i : ℕ) (e : EquationShape) : Type 0 where
   pub cut : Cut
   pub count : length cut.values ≡ i
   pub after : List (List Cell)
@@ -65,7 +65,7 @@ pub record IsMade (plan : Plan) (final : Cut) (i : ℕ) (e : EquationShape) : Ty
   pub place : length before ≡ i
   pub final_is : final ≡ cut_after plan cut rest
 
-made_from : (plan : Plan) (cut : Cut) (before rest : List EquationShape) (k : ℕ) (e : EquationShape) → plan.equations ≡ before ++ rest → length cut.values ≡ length before → AllWide plan.widths rest → GoodCut plan cut → slice_get rest k ≡ Some e → IsMade plan (cut_after plan cut rest) (length before + k) e
+made_from : (plan : UnitPlan) (cut : Cut) (before rest : List EquationShape) (k : ℕ) (e : EquationShape) → plan.equations ≡ before ++ rest → length cut.values ≡ length before → AllWide plan.widths rest → GoodCut plan cut → slice_get rest k ≡ Some e → IsMade plan (cut_after plan cut rest) (length before + k) e
 made_from plan cut before [] k e is long w g there = cc
 made_from plan cut before (d ∷ rest) zero e is long w g there =
     let same : d ≡ e = cc in
@@ -104,11 +104,11 @@ made_from plan cut before (d ∷ rest) (suc k) e is long w g there =
     let t : IsMade plan (cut_after plan (cut_next plan cut d) rest) (length (before ++ d ∷ []) + k) e = made_from plan (cut_next plan cut d) (before ++ d ∷ []) rest k e (is ∙ sym (append_assoc before (d ∷ []) rest)) (length-append cut.values (x ∷ []) ∙ omega (arith, long, length-append before (d ∷ []))) w.1 (good_next plan cut before rest d is long w.0 g) there in
     subst (λ (i : ℕ). IsMade plan (cut_after plan cut (d ∷ rest)) i e) (omega (arith, length-append before (d ∷ []))) t
 
-pub made_at : (plan : Plan) (cut : Cut) (k : ℕ) (e : EquationShape) → length cut.values ≡ 0 → AllWide plan.widths plan.equations → GoodCut plan cut → slice_get plan.equations k ≡ Some e → IsMade plan (cut_after plan cut plan.equations) k e
+pub made_at : (plan : UnitPlan) (cut : Cut) (k : ℕ) (e : EquationShape) → length cut.values ≡ 0 → AllWide plan.widths plan.equations → GoodCut plan cut → slice_get plan.equations k ≡ Some e → IsMade plan (cut_after plan cut plan.equations) k e
 made_at plan cut k e none w g there = subst (λ (i : ℕ). IsMade plan (cut_after plan cut plan.equations) i e) (omega arith) (made_from plan cut [] plan.equations k e refl none w g there)
 
 -- ---- units of the net in a reading, and in a run
-pub stands : (r : Reading) (plan : Plan) (final : Cut) (i : ℕ) (e : EquationShape) (m : IsMade plan final i e) → Has r 0 final.units → Has r (length m.cut.units) (next_units plan m.cut e (length m.cut.units)).units
+pub stands : (r : Reading) (plan : UnitPlan) (final : Cut) (i : ℕ) (e : EquationShape) (m : IsMade plan final i e) → Has r 0 final.units → Has r (length m.cut.units) (next_units plan m.cut e (length m.cut.units)).units
 stands r plan final i e m h =
     let us : List (List Cell) = (next_units plan m.cut e (length m.cut.units)).units in
     let one = (has-append r 0 m.cut.units (us ++ m.after) (subst (Has r 0) m.units h)).1 in
@@ -134,12 +134,12 @@ stays v all before ks after u is at run =
 
 -- ---- operands
 -- operands that were made before are the same in the whole
-pub operand_same : (plan : Plan) (xs ys : List (List Slice)) (i : ℕ) (a : Operand) → ((j : ℕ) → j < i → value_of xs j ≡ value_of ys j) → is_lawful_operand plan.equations i a ≡ true → operand_slices plan xs a ≡ operand_slices plan ys a
+pub operand_same : (plan : UnitPlan) (xs ys : List (List Slice)) (i : ℕ) (a : Operand) → ((j : ℕ) → j < i → value_of xs j ≡ value_of ys j) → is_lawful_operand plan.equations i a ≡ true → operand_slices plan xs a ≡ operand_slices plan ys a
 operand_same plan xs ys i (Operand.Const c) h l = refl
 operand_same plan xs ys i (Operand.Eq j) h l = h j (ltb-true j i l)
 operand_same plan xs ys i (Operand.Past rec k) h l = refl
 
-pub arguments_same : (plan : Plan) (xs ys : List (List Slice)) (i : ℕ) (args : List Operand) (kinds : List Bool) → ((j : ℕ) → j < i → value_of xs j ≡ value_of ys j) → list_all (is_lawful_operand plan.equations i) args ≡ true → arguments plan xs args kinds ≡ arguments plan ys args kinds
+pub arguments_same : (plan : UnitPlan) (xs ys : List (List Slice)) (i : ℕ) (args : List Operand) (kinds : List Bool) → ((j : ℕ) → j < i → value_of xs j ≡ value_of ys j) → list_all (is_lawful_operand plan.equations i) args ≡ true → arguments plan xs args kinds ≡ arguments plan ys args kinds
 arguments_same plan xs ys i [] kinds h l = refl
 arguments_same plan xs ys i (a ∷ args) [] h l = refl
 arguments_same plan xs ys i (a ∷ args) (kind ∷ kinds) h l =
@@ -156,7 +156,7 @@ bytes_known : (v k c : ℕ) → AreOperands v (map (λ b. Slice.Const b) (bytes_
 bytes_known v zero c = tt
 bytes_known v (suc k) c = (record { before = tt; byte = omega arith }, bytes_known v k (c / 256))
 
-pub operand_known : (plan : Plan) (values : List (List Slice)) (n : ℕ) (a : Operand) → AllValues n values → AreOperands n (operand_slices plan values a)
+pub operand_known : (plan : UnitPlan) (values : List (List Slice)) (n : ℕ) (a : Operand) → AllValues n values → AreOperands n (operand_slices plan values a)
 operand_known plan values n (Operand.Const c) h = bytes_known n (slices_of (number_width c)) c
 operand_known plan values n (Operand.Eq i) h = value_known n values i h
 operand_known plan values n (Operand.Past rec k) h = operands-each n _ _ (λ i. record { before = tt; byte = tt })
@@ -166,7 +166,7 @@ abbrev pub FewBits : List ℕ → List Operand → Type 0
 FewBits widths [] = Unit {0}
 FewBits widths (a ∷ args) = (operand_width widths a ≤ 128) × FewBits widths args
 
-shown_arguments : (r : Reading) (u : ℕ) (plan : Plan) (xs ys : List (List Slice)) (i : ℕ) (sight : Sight) (args : List Operand) (kinds : List Bool) → sight.widths ≡ plan.widths → length args ≡ length kinds → ((j : ℕ) → j < i → value_of xs j ≡ value_of ys j) → list_all (is_lawful_operand plan.equations i) args ≡ true → AllValues u ys → FewBits plan.widths args → AreShown r (map (operand_slices plan xs) args) (points_in sight args kinds) → AreArguments r u (arguments plan ys args kinds) × (points_of r (arguments plan ys args kinds) ≡ points_in sight args kinds)
+shown_arguments : (r : Reading) (u : ℕ) (plan : UnitPlan) (xs ys : List (List Slice)) (i : ℕ) (sight : Sight) (args : List Operand) (kinds : List Bool) → sight.widths ≡ plan.widths → length args ≡ length kinds → ((j : ℕ) → j < i → value_of xs j ≡ value_of ys j) → list_all (is_lawful_operand plan.equations i) args ≡ true → AllValues u ys → FewBits plan.widths args → AreShown r (map (operand_slices plan xs) args) (points_in sight args kinds) → AreArguments r u (arguments plan ys args kinds) × (points_of r (arguments plan ys args kinds) ≡ points_in sight args kinds)
 shown_arguments r u plan xs ys i sight [] [] ew len h l known few s = (tt, refl)
 shown_arguments r u plan xs ys i sight [] (kind ∷ kinds) ew len h l known few s = absurd (omega arith)
 shown_arguments r u plan xs ys i sight (a ∷ args) [] ew len h l known few s = absurd (omega arith)
@@ -213,31 +213,31 @@ takes_operator op (a ∷ []) len o t = absurd (omega (arith, len))
 takes_operator op (a ∷ b ∷ []) len o t = absurd (omega (arith, len))
 takes_operator op (a ∷ b ∷ c ∷ args) len o t = absurd (omega (arith, len))
 
-ordinary_units : (plan : Plan) (i : ℕ) (op : Op) (args : List Argument) → IsOrdinary op → equation_units plan i op args ≡ units_at (get_or plan.widths i 0) op args
+ordinary_units : (plan : UnitPlan) (i : ℕ) (op : Op) (args : List Argument) → IsOrdinary op → equation_units plan i op args ≡ units_at (get_or plan.widths i 0) op args
 ordinary_units plan i Op.Input args o = absurd o
 ordinary_units plan i (Op.Delay c) args o = absurd o
 ordinary_units plan i (Op.Rec init first) args o = absurd o
 ordinary_units plan i op args o = refl
 
 -- the part of equation i, which has units
-pub own_part : (plan : Plan) (final : Cut) (i : ℕ) (e : EquationShape) (m : IsMade plan final i e) → has_units plan i e ≡ true → next_units plan m.cut e ≡ equation_units plan i e.op (arguments plan m.cut.values e.args e.kinds)
+pub own_part : (plan : UnitPlan) (final : Cut) (i : ℕ) (e : EquationShape) (m : IsMade plan final i e) → has_units plan i e ≡ true → next_units plan m.cut e ≡ equation_units plan i e.op (arguments plan m.cut.values e.args e.kinds)
 own_part plan final i e m has =
     let args : List Argument = arguments plan m.cut.values e.args e.kinds in
     ap (λ (k : ℕ). if has_units plan k e then equation_units plan k e.op args else kept []) m.count ∙ ap (λ (t : Bool). if t then equation_units plan i e.op args else kept []) has
 
-length-argument_list : (plan : Plan) (values : List (List Slice)) (args : List Operand) (kinds : List Bool) (n : ℕ) → length args ≡ n → length kinds ≡ n → length (arguments plan values args kinds) ≡ n
+length-argument_list : (plan : UnitPlan) (values : List (List Slice)) (args : List Operand) (kinds : List Bool) (n : ℕ) → length args ≡ n → length kinds ≡ n → length (arguments plan values args kinds) ≡ n
 length-argument_list plan values [] kinds n h k = h
 length-argument_list plan values (a ∷ args) [] n h k = absurd (omega (arith, h, k))
 length-argument_list plan values (a ∷ args) (kind ∷ kinds) zero h k = absurd (omega (arith, h))
 length-argument_list plan values (a ∷ args) (kind ∷ kinds) (suc n) h k = ap suc (length-argument_list plan values args kinds n (omega (arith, h)) (omega (arith, k)))
 
-wide_known : (plan : Plan) (values : List (List Slice)) (n : ℕ) (args : List Operand) (kinds : List Bool) → AllValues n values → WideOperands plan.widths args → KnownArguments n (arguments plan values args kinds)
+wide_known : (plan : UnitPlan) (values : List (List Slice)) (n : ℕ) (args : List Operand) (kinds : List Bool) → AllValues n values → WideOperands plan.widths args → KnownArguments n (arguments plan values args kinds)
 wide_known plan values n [] kinds h w = tt
 wide_known plan values n (a ∷ args) [] h w = tt
 wide_known plan values n (a ∷ args) (kind ∷ kinds) h w = ((operand_known plan values n a h, w.0), wide_known plan values n args kinds h w.1)
 
 -- the slices of an operator without state show its number, wherever in the net its units stand
-pub operator_in_net : (r : Reading) (plan : Plan) (final : Cut) (i : ℕ) (e : EquationShape) (sight : Sight) (m : IsMade plan final i e) → AreBytes r → Has r 0 final.units → has_units plan i e ≡ true → IsOrdinary e.op
+pub operator_in_net : (r : Reading) (plan : UnitPlan) (final : Cut) (i : ℕ) (e : EquationShape) (sight : Sight) (m : IsMade plan final i e) → AreBytes r → Has r 0 final.units → has_units plan i e ≡ true → IsOrdinary e.op
     → 1 ≤ get_or plan.widths i 0 → get_or plan.widths i 0 ≤ 128 → length e.args ≡ arity e.op → length e.kinds ≡ arity e.op → takes e.op (forms_in plan.widths e) ≡ true → list_all (is_lawful_operand plan.equations i) e.args ≡ true → FewBits plan.widths e.args → WideOperands plan.widths e.args → sight.widths ≡ plan.widths
     → AreShown r (map (operand_slices plan final.values) e.args) (points_in sight e.args e.kinds)
     → ShowsNumber r (value_of final.values i) (get_or plan.widths i 0) (operator_number (get_or plan.widths i 0) e.op (points_in sight e.args e.kinds))

@@ -18,7 +18,7 @@ use Rattle.pr_net.specs.Runs.{AreBytes, reading_at}
 use Rattle.pr_net.proofs.Readings.{has-append}
 use Rattle.pr_net.proofs.RunsLemmas.{Small, function_runs, function_bytes}
 use Rattle.pr_cut_units.specs.Parts.{Making}
-use Rattle.pr_cut_units.specs.Equations.{Plan, plan_of, has_units, arguments, equation_units, input_units, Cut, cut_start, cut_whole}
+use Rattle.pr_cut_units.specs.Equations.{UnitPlan, plan_of, has_units, arguments, equation_units, input_units, Cut, cut_start, cut_whole}
 use Rattle.pr_cut_units.proofs.GoodNets.{AllWide, GoodCut, good_whole}
 use Rattle.pr_cut_laws.proofs.Histories.{val, sight_at, val_law}
 use Rattle.pr_cut_laws.proofs.Holds.{unit_slices}
@@ -103,7 +103,7 @@ inputs_fed equations outputs widths samples flat all rows = record { shows = one
 
     one : (n i : ℕ) (e : EquationShape) → slice_get equations i ≡ Some e → e.op ≡ Op.Input → ShowsNumber (reading_at (cut_whole (plan_of equations widths outputs)).units (map (row_bytes (input_widths equations)) samples) n) (value_of (cut_whole (plan_of equations widths outputs)).values i) (get_or widths i 0) (val equations widths samples n i)
     one n i e there op =
-        let plan : Plan = plan_of equations widths outputs in
+        let plan : UnitPlan = plan_of equations widths outputs in
         let final : Cut = cut_whole plan in
         let ws : List ℕ = input_widths equations in
         let buses : List (List ℕ) = map (row_bytes ws) samples in

@@ -23,7 +23,7 @@ use Rattle.pr_cut_units.specs.Widening.{Argument, widened}
 use Rattle.pr_cut_units.specs.States.{hold_cell, later_cell, held, delayed}
 use Rattle.pr_cut_units.specs.Counts.{widening_count, body_count}
 use Rattle.pr_cut_units.specs.Reached.{hold_count, reached_from}
-use Rattle.pr_cut_units.specs.Equations.{Plan, plan_of, own_count, counts_from, first_unit, hold_unit, arguments, operand_slices, equation_units, has_units, next_units, Cut, cut_whole}
+use Rattle.pr_cut_units.specs.Equations.{UnitPlan, plan_of, own_count, counts_from, first_unit, hold_unit, arguments, operand_slices, equation_units, has_units, next_units, Cut, cut_whole}
 use Rattle.pr_cut_units.proofs.Operands.{AreOperands}
 use Rattle.pr_cut_units.proofs.GoodParts.{GoodPart}
 use Rattle.pr_cut_units.proofs.GoodTable.{good_widened}
@@ -34,7 +34,7 @@ use Rattle.pr_cut_laws.proofs.Whole.{hold_at, value_of, body_of, IsDelayAt, IsRe
 use Rattle.pr_cut_laws.proofs.Made.{IsMade, stands, stays, arguments_same, operand_same, operand_known, own_part}
 
 -- ---- the number of an equation's first unit
-later_counted : (plan : Plan) (i : ℕ) (before rest : List EquationShape) → AreCounted plan i (before ++ rest) → AreCounted plan (i + length before) rest
+later_counted : (plan : UnitPlan) (i : ℕ) (before rest : List EquationShape) → AreCounted plan i (before ++ rest) → AreCounted plan (i + length before) rest
 later_counted plan i [] rest h = subst (λ (k : ℕ). AreCounted plan k rest) (omega arith) h
 later_counted plan i (e ∷ before) rest h = subst (λ (k : ℕ). AreCounted plan k rest) (omega arith) (later_counted plan (suc i) before rest h.1)
 
@@ -52,7 +52,7 @@ split_counts equations widths k (e ∷ before) rest (b ∷ flags) h =
     let first : ℕ = if b then own_count equations widths k e e.op else 0 in
     omega (arith, ih, w, sum_by-cons (λ (n : ℕ). n) first all, sum_by-cons (λ (n : ℕ). n) first (take (length before) all))
 
-dropped_flags : (plan : Plan) (i : ℕ) → Flags plan i (drop i plan.reached)
+dropped_flags : (plan : UnitPlan) (i : ℕ) → Flags plan i (drop i plan.reached)
 dropped_flags plan i = record { at = λ j. dropped plan.reached i j }
   where
     dropped : (flags : List Bool) (i j : ℕ) → get_or flags (i + j) false ≡ get_or (drop i flags) j false
@@ -67,7 +67,7 @@ length-flags outputs i (e ∷ equations) = ap suc (length-flags outputs (suc i) 
 -- the units of equation i begin where its plan says
 pub first_number : (equations : List EquationShape) (widths : List ℕ) (outputs : List Operand) (i : ℕ) (e : EquationShape) (m : IsMade (plan_of equations widths outputs) (cut_whole (plan_of equations widths outputs)) i e) → AreCounted (plan_of equations widths outputs) 0 equations → length m.cut.units ≡ first_unit (plan_of equations widths outputs) i
 first_number equations widths outputs i e m c =
-    let plan : Plan = plan_of equations widths outputs in
+    let plan : UnitPlan = plan_of equations widths outputs in
     let flags : List Bool = drop i plan.reached in
     let n : ℕ = length m.before in
     let z : 0 + n ≡ i = omega (arith, m.place) in
@@ -92,10 +92,10 @@ first_number equations widths outputs i e m c =
         subst (λ (j : ℕ). Q j i) at a
 
 -- ---- units with state, where they stand in the net
-one_argument : (plan : Plan) (values : List (List Slice)) (a : Operand) (kind : Bool) (args : List Operand) (kinds : List Bool) → args ≡ a ∷ [] → kinds ≡ kind ∷ [] → arguments plan values args kinds ≡ body_of plan values a kind ∷ []
+one_argument : (plan : UnitPlan) (values : List (List Slice)) (a : Operand) (kind : Bool) (args : List Operand) (kinds : List Bool) → args ≡ a ∷ [] → kinds ≡ kind ∷ [] → arguments plan values args kinds ≡ body_of plan values a kind ∷ []
 one_argument plan values a kind args kinds e f = ap₂ (arguments plan values) e f
 
-pub delay_in_net : (plan : Plan) (final : Cut) (v : ℕ → Reading) (i c : ℕ) (a : Operand) (kind : Bool) (e : EquationShape) (m : IsMade plan final i e) → Runs final.units v → has_units plan i e ≡ true → e.op ≡ Op.Delay c → e.args ≡ a ∷ [] → e.kinds ≡ kind ∷ [] → list_all (is_lawful_operand plan.equations i) e.args ≡ true → IsDelayAt v (get_or plan.widths i 0) c (operand_slices plan final.values a) (value_of final.values i)
+pub delay_in_net : (plan : UnitPlan) (final : Cut) (v : ℕ → Reading) (i c : ℕ) (a : Operand) (kind : Bool) (e : EquationShape) (m : IsMade plan final i e) → Runs final.units v → has_units plan i e ≡ true → e.op ≡ Op.Delay c → e.args ≡ a ∷ [] → e.kinds ≡ kind ∷ [] → list_all (is_lawful_operand plan.equations i) e.args ≡ true → IsDelayAt v (get_or plan.widths i 0) c (operand_slices plan final.values a) (value_of final.values i)
 delay_in_net plan final v i c a kind e m run has op ea ek lawful =
     let w : ℕ = get_or plan.widths i 0 in
     let u : ℕ = length m.cut.units in
@@ -123,12 +123,12 @@ split_each f a (suc n) (suc j) h =
     let z : (a + 1) + j ≡ a + suc j = omega arith in
     record { front = f a ∷ t.front; back = t.back; is = ap (λ xs. f a ∷ xs) (t.is ∙ ap (λ (k : ℕ). t.front ++ (f k ∷ t.back)) z); long = ap suc t.long }
 
-body_number : (plan : Plan) (i : ℕ) (a : Operand) (kind : Bool) (e : EquationShape) → slice_get plan.equations i ≡ Some e → e.args ≡ a ∷ [] → e.kinds ≡ kind ∷ [] → hold_unit plan i ≡ first_unit plan i + widening_count (record { signed = kind; width = operand_width plan.widths a }) (get_or plan.widths i 0)
+body_number : (plan : UnitPlan) (i : ℕ) (a : Operand) (kind : Bool) (e : EquationShape) → slice_get plan.equations i ≡ Some e → e.args ≡ a ∷ [] → e.kinds ≡ kind ∷ [] → hold_unit plan i ≡ first_unit plan i + widening_count (record { signed = kind; width = operand_width plan.widths a }) (get_or plan.widths i 0)
 body_number plan i a kind e there ea ek =
     ap (λ (o : Option EquationShape). first_unit plan i + option_map_or (λ (e : EquationShape). body_count (get_or plan.widths i 0) (forms_in plan.widths e)) o 0) there
     ∙ ap₂ (λ (xs : List Operand) (bs : List Bool). first_unit plan i + body_count (get_or plan.widths i 0) (operand_forms plan.widths xs bs)) ea ek
 
-pub rec_in_net : (plan : Plan) (final : Cut) (v : ℕ → Reading) (i init first : ℕ) (a : Operand) (kind : Bool) (e : EquationShape) (m : IsMade plan final i e) → Runs final.units v → slice_get plan.equations i ≡ Some e → length m.cut.units ≡ first_unit plan i → has_units plan i e ≡ true → e.op ≡ Op.Rec init first → e.args ≡ a ∷ [] → e.kinds ≡ kind ∷ [] → list_all (is_lawful_operand plan.equations i) e.args ≡ true → IsRecAt v (get_or plan.widths i 0) init (hold_count plan.equations i) (hold_at plan i) (body_of plan final.values a kind) (value_of final.values i)
+pub rec_in_net : (plan : UnitPlan) (final : Cut) (v : ℕ → Reading) (i init first : ℕ) (a : Operand) (kind : Bool) (e : EquationShape) (m : IsMade plan final i e) → Runs final.units v → slice_get plan.equations i ≡ Some e → length m.cut.units ≡ first_unit plan i → has_units plan i e ≡ true → e.op ≡ Op.Rec init first → e.args ≡ a ∷ [] → e.kinds ≡ kind ∷ [] → list_all (is_lawful_operand plan.equations i) e.args ≡ true → IsRecAt v (get_or plan.widths i 0) init (hold_count plan.equations i) (hold_at plan i) (body_of plan final.values a kind) (value_of final.values i)
 rec_in_net plan final v i init first a kind e m run there num has op ea ek lawful =
     let w : ℕ = get_or plan.widths i 0 in
     let count : ℕ = hold_count plan.equations i in

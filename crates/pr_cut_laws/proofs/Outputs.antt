@@ -13,7 +13,7 @@ use Rattle.pr_net.specs.Reading.{shown}
 use Rattle.pr_net.specs.Runs.{AreBytes, reading_at}
 use Rattle.pr_net.specs.Whole.{output_list as net_list}
 use Rattle.pr_net.proofs.RunsLemmas.{function_bytes}
-use Rattle.pr_cut_units.specs.Equations.{Plan, plan_of, has_units, operand_slices, cut_whole}
+use Rattle.pr_cut_units.specs.Equations.{UnitPlan, plan_of, has_units, operand_slices, cut_whole}
 use Rattle.pr_cut_units.specs.Nets.{output_of, net_of}
 use Rattle.pr_cut_units.proofs.GoodNets.{good_whole}
 use Rattle.pr_cut_laws.proofs.Histories.{history, row_at}
@@ -45,7 +45,7 @@ lists_are equations widths samples F G h = lists_from equations widths samples 0
 -- an output's slices show its number at every sample
 output_shows : (equations : List EquationShape) (outputs : List Operand) (widths : List ℕ) (samples : List (List ℕ)) → IsFlat equations outputs → AreWidths equations widths → ((n : ℕ) (sample : List ℕ) → slice_get samples n ≡ Some sample → IsRow (input_widths equations) sample) → (o : Operand) → is_lawful_output (length equations) o ≡ true → ((t : ℕ) → reads_equation t o ≡ true → list_any (reads_equation t) outputs ≡ true) → (n : ℕ) → shown (reading_at (cut_whole (plan_of equations widths outputs)).units (map (row_bytes (input_widths equations)) samples) n) (operand_slices (plan_of equations widths outputs) (cut_whole (plan_of equations widths outputs)).values o) ≡ operand_number equations [] (row_at equations widths samples n) o
 output_shows equations outputs widths samples flat all rows (Operand.Const c) lawful reads n =
-    let plan : Plan = plan_of equations widths outputs in
+    let plan : UnitPlan = plan_of equations widths outputs in
     let good = good_whole plan (all_wide equations outputs widths flat all) in
     let b : AreBytes (reading_at (cut_whole plan).units (map (row_bytes (input_widths equations)) samples) n) = function_bytes (cut_whole plan).units (map (row_bytes (input_widths equations)) samples) n good.bytes (samples_small (input_widths equations) samples) in
     (const_is (reading_at (cut_whole plan).units (map (row_bytes (input_widths equations)) samples) n) c b (ltb-true c (2 ^ 64) lawful)).is

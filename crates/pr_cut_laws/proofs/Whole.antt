@@ -20,13 +20,13 @@ use Rattle.pr_flat.specs.Values.{initial_of, init_of, number_before, operand_num
 use Rattle.pr_flat.proofs.NumberLemmas.{number_width-holds, initial-holds, constant-holds}
 use Rattle.pr_flat.proofs.WidthLemmas.{PastOf, past_of, equation_at}
 use Rattle.pr_flat_ops.proofs.Residues.{residue_below}
-use Rattle.pr_net.specs.declared.cells.Slice.{Slice as Place}
+use Rattle.pr_net.specs.declared.cells.Slice.{Slice as NetSlice}
 use Rattle.pr_net.specs.Reading.{Reading, Has, shown}
 use Rattle.pr_net.specs.Runs.{AreBytes}
 use Rattle.pr_cut_units.specs.Parts.{each}
 use Rattle.pr_cut_units.specs.Widening.{Argument, widened}
 use Rattle.pr_cut_units.specs.States.{hold_cell, later_cell, past_slices}
-use Rattle.pr_cut_units.specs.Equations.{Plan, hold_unit, number_slices, operand_slices}
+use Rattle.pr_cut_units.specs.Equations.{UnitPlan, hold_unit, number_slices, operand_slices}
 use Rattle.pr_cut_units.proofs.EachLemmas.{length-each}
 use Rattle.pr_cut_units.proofs.Operands.{AreOperands, operands-each}
 use Rattle.pr_cut_units.proofs.Sums.{mod_scaled}
@@ -39,11 +39,11 @@ use Rattle.pr_cut_laws.proofs.Flows.{flows}
 use Rattle.pr_cut_laws.proofs.Holds.{Stays, delay_cell, unit_slices, first_holds, first_shows, later_holds, later_shows, delay_holds, bytes_hold}
 
 -- slices that show a number of so many bits
-pub record ShowsNumber (r : Reading) (x : List Place) (w n : ℕ) : Type 0 where
+pub record ShowsNumber (r : Reading) (x : List NetSlice) (w n : ℕ) : Type 0 where
   pub operand : IsOperand r x w
   pub is : shown r x ≡ n
 
-abbrev pub AreShown : Reading → List (List Place) → List Point → Type 0
+abbrev pub AreShown : Reading → List (List NetSlice) → List Point → Type 0
 AreShown r [] [] = Unit {0}
 AreShown r (x ∷ xs) (p ∷ points) = ShowsNumber r x p.form.width p.number × AreShown r xs points
 AreShown r [] (p ∷ points) = ⊥
@@ -66,23 +66,23 @@ AllClosed Made depth [] = Unit {0}
 AllClosed Made depth (a ∷ args) = IsClosed Made depth a × AllClosed Made depth args
 
 -- the number of hold unit k
-abbrev pub hold_at : Plan → ℕ → ℕ → ℕ
+abbrev pub hold_at : UnitPlan → ℕ → ℕ → ℕ
 hold_at plan rec k = hold_unit plan rec + (k - 1)
 
-abbrev pub value_of : List (List Place) → ℕ → List Place
+abbrev pub value_of : List (List NetSlice) → ℕ → List NetSlice
 value_of values i = get_or values i []
 
-abbrev pub body_of : Plan → List (List Place) → Operand → Bool → Argument
+abbrev pub body_of : UnitPlan → List (List NetSlice) → Operand → Bool → Argument
 body_of plan values a kind = record { slices = operand_slices plan values a; form = record { signed = kind; width = operand_width plan.widths a } }
 
 -- the unit of a delay
-pub record IsDelayAt (v : ℕ → Reading) (w c : ℕ) (from out : List Place) : Type 0 where
+pub record IsDelayAt (v : ℕ → Reading) (w c : ℕ) (from out : List NetSlice) : Type 0 where
   pub u : ℕ
   pub stays : Stays v u (each (slices_of w) (delay_cell c u from))
   pub slices_are : out ≡ unit_slices w u
 
 -- the units of a recurrence: those that widen its body, and its hold units
-pub record IsRecAt (v : ℕ → Reading) (w c depth : ℕ) (hold : ℕ → ℕ) (body : Argument) (out : List Place) : Type 0 where
+pub record IsRecAt (v : ℕ → Reading) (w c depth : ℕ) (hold : ℕ → ℕ) (body : Argument) (out : List NetSlice) : Type 0 where
   pub u : ℕ
   pub later_u : ℕ
   pub wide : (n : ℕ) → Has (v n) u (widened body w u).units
@@ -93,7 +93,7 @@ pub record IsRecAt (v : ℕ → Reading) (w c depth : ℕ) (hold : ℕ → ℕ) 
   pub slices_are : out ≡ unit_slices w (hold 1)
 
 -- the units of all equations, wherever they stand
-pub record IsNet (plan : Plan) (samples : List (List ℕ)) (v : ℕ → Reading) (Made : ℕ → Type 0) (values : List (List Place)) (depth : ℕ → ℕ) : Type 0 where
+pub record IsNet (plan : UnitPlan) (samples : List (List ℕ)) (v : ℕ → Reading) (Made : ℕ → Type 0) (values : List (List NetSlice)) (depth : ℕ → ℕ) : Type 0 where
   pub bytes : (n : ℕ) → AreBytes (v n)
   pub closed : (i : ℕ) (e : EquationShape) → slice_get plan.equations i ≡ Some e → Made i → AllClosed Made depth e.args
   pub inputs : (i : ℕ) (e : EquationShape) → slice_get plan.equations i ≡ Some e → Made i → e.op ≡ Input → (n : ℕ) → ShowsNumber (v n) (value_of values i) (get_or plan.widths i 0) (val plan.equations plan.widths samples n i)
@@ -107,7 +107,7 @@ pub record HasWidths (equations : List EquationShape) (widths : List ℕ) : Type
   pub delay : (i c : ℕ) (a : Operand) (e : EquationShape) → slice_get equations i ≡ Some e → e.op ≡ Delay c → e.args ≡ a ∷ [] → get_or widths i 0 ≡ operand_width widths a
 
 -- what is held at sample n
-abbrev pub HeldBy : Plan → List (List Place) → List (List ℕ) → (ℕ → Reading) → (ℕ → ℕ) → Op → List Operand → ℕ → ℕ → Type 0
+abbrev pub HeldBy : UnitPlan → List (List NetSlice) → List (List ℕ) → (ℕ → Reading) → (ℕ → ℕ) → Op → List Operand → ℕ → ℕ → Type 0
 HeldBy plan values samples v depth (Rec init first) args n p = (k : ℕ) → 1 ≤ k → k ≤ depth p → ShowsNumber (v n) (past_slices (get_or plan.widths p 0) (hold_at plan p k)) (get_or plan.widths p 0) (number_before (history plan.equations plan.widths samples n) p k init)
 HeldBy plan values samples v depth (Delay c) (a ∷ []) n p = (u : ℕ) → Stays v u (each (slices_of (get_or plan.widths p 0)) (delay_cell c u (operand_slices plan values a))) → ShowsNumber (v n) (past_slices (get_or plan.widths p 0) u) (get_or plan.widths p 0) (val plan.equations plan.widths samples n p)
 HeldBy plan values samples v depth op args n p = Unit {0}
@@ -124,15 +124,15 @@ number_width-some c = go 64 1 (λ w. nat_lt c (2 ^ w)) (omega arith)
         by true l = h
         by false l = l
 
-const_shown : (r : Reading) (n c : ℕ) → shown r (map (λ b. Place.Const b) (bytes_of n c)) ≡ c % 256 ^ n
+const_shown : (r : Reading) (n c : ℕ) → shown r (map (λ b. NetSlice.Const b) (bytes_of n c)) ≡ c % 256 ^ n
 const_shown r zero c = omega arith
 const_shown r (suc n) c = ap (λ (k : ℕ). c % 256 + 256 * k) (const_shown r n (c / 256)) ∙ sym (mod_scaled (c % 256) 256 (c / 256) (256 ^ n) (omega arith) (big_pos n)) ∙ ap₂ (λ (a b : ℕ). a % b) (mod-add-div c 256) (sym (more_bytes n))
 
-const_known : (k c : ℕ) → AreOperands 0 (map (λ b. Place.Const b) (bytes_of k c))
+const_known : (k c : ℕ) → AreOperands 0 (map (λ b. NetSlice.Const b) (bytes_of k c))
 const_known zero c = tt
 const_known (suc k) c = (record { before = tt; byte = omega arith }, const_known k (c / 256))
 
-length-const : (k c : ℕ) → length (map (λ b. Place.Const b) (bytes_of k c)) ≡ k
+length-const : (k c : ℕ) → length (map (λ b. NetSlice.Const b) (bytes_of k c)) ≡ k
 length-const zero c = refl
 length-const (suc k) c = ap suc (length-const k (c / 256))
 
@@ -146,20 +146,20 @@ const_is r c b h =
 
 states_are : (r : Reading) → AreBytes r → (u w x : ℕ) → 1 ≤ w → x < 2 ^ w → shown r (past_slices w u) ≡ x → ShowsNumber r (past_slices w u) w x
 states_are r b u w x hw l is =
-    let len : length (past_slices w u) ≡ slices_of w = length-each (λ i. Place.State u i) (slices_of w) in
-    record { operand = record { some = hw; count = omega (arith, len); bytes = operand_bytes r 0 (past_slices w u) b (operands-each 0 (slices_of w) (λ i. Place.State u i) (λ i. record { before = tt; byte = tt })); below = subst (λ (k : ℕ). k < 2 ^ w) (sym is) l }; is = is }
+    let len : length (past_slices w u) ≡ slices_of w = length-each (λ i. NetSlice.State u i) (slices_of w) in
+    record { operand = record { some = hw; count = omega (arith, len); bytes = operand_bytes r 0 (past_slices w u) b (operands-each 0 (slices_of w) (λ i. NetSlice.State u i) (λ i. record { before = tt; byte = tt })); below = subst (λ (k : ℕ). k < 2 ^ w) (sym is) l }; is = is }
 
 pub unit_is : (r : Reading) → AreBytes r → (u w x : ℕ) → 1 ≤ w → x < 2 ^ w → shown r (unit_slices w u) ≡ x → ShowsNumber r (unit_slices w u) w x
 unit_is r b u w x hw l is =
-    let len : length (unit_slices w u) ≡ slices_of w = length-each (λ i. Place.Of u i) (slices_of w) in
-    record { operand = record { some = hw; count = omega (arith, len); bytes = operand_bytes r (u + 1) (unit_slices w u) b (operands-each (u + 1) (slices_of w) (λ i. Place.Of u i) (λ i. record { before = omega arith; byte = tt })); below = subst (λ (k : ℕ). k < 2 ^ w) (sym is) l }; is = is }
+    let len : length (unit_slices w u) ≡ slices_of w = length-each (λ i. NetSlice.Of u i) (slices_of w) in
+    record { operand = record { some = hw; count = omega (arith, len); bytes = operand_bytes r (u + 1) (unit_slices w u) b (operands-each (u + 1) (slices_of w) (λ i. NetSlice.Of u i) (λ i. record { before = omega arith; byte = tt })); below = subst (λ (k : ℕ). k < 2 ^ w) (sym is) l }; is = is }
 
 one_of : {A : Type 0} (xs : List A) → length xs ≡ 1 → (a : A) × (xs ≡ a ∷ [])
 one_of [] h = absurd (omega arith)
 one_of (a ∷ []) h = (a, refl)
 one_of (a ∷ b ∷ xs) h = absurd (omega arith)
 
-pub net_shows : (plan : Plan) (outputs : List Operand) (samples : List (List ℕ)) (v : ℕ → Reading) (Made : ℕ → Type 0) (values : List (List Place)) (depth : ℕ → ℕ)
+pub net_shows : (plan : UnitPlan) (outputs : List Operand) (samples : List (List ℕ)) (v : ℕ → Reading) (Made : ℕ → Type 0) (values : List (List NetSlice)) (depth : ℕ → ℕ)
     → IsFlat plan.equations outputs → AreWidths plan.equations plan.widths → HasWidths plan.equations plan.widths → IsNet plan samples v Made values depth
     → (n i : ℕ) (e : EquationShape) → slice_get plan.equations i ≡ Some e → Made i → ShowsNumber (v n) (value_of values i) (get_or plan.widths i 0) (val plan.equations plan.widths samples n i)
 net_shows plan outputs samples v Made values depth flat all has net n i = flows Shows Held (record { made = made_at; first = first_at; later = later_at }) n i
@@ -247,7 +247,7 @@ net_shows plan outputs samples v Made values depth flat all has net n i = flows 
         let at = net.delays q c one.0 e there m is one.1 in
         let on = delay_holds v w c at.u (operand_slices plan values one.0) (constant_small q c e there is) at.stays in
         let h = delay_shows n q c at.u e one.0 held there m is one.1 at.stays in
-        let P : List Place → Type 0 = λ x. ShowsNumber (v n) x w (val plan.equations plan.widths samples n q) in
+        let P : List NetSlice → Type 0 = λ x. ShowsNumber (v n) x w (val plan.equations plan.widths samples n q) in
         let l : val plan.equations plan.widths samples n q < 2 ^ w = subst (λ (k : ℕ). k < 2 ^ w) h.is h.operand.below in
         subst P (sym at.slices_are) (unit_is (v n) (net.bytes n) at.u w (val plan.equations plan.widths samples n q) (has.some q e there) l (on.shows n (net.bytes n) ∙ h.is))
     made_by (Rec init first) n q e before held there m is =
@@ -264,7 +264,7 @@ net_shows plan outputs samples v Made values depth flat all has net n i = flows 
         let same : val plan.equations plan.widths samples n q ≡ residue w (value f x) = rec_val n q init first e one.0 kind.0 there is one.1 kind.1 in
         let shows : shown (v n) (unit_slices w (hold_at plan q 1)) ≡ val plan.equations plan.widths samples n q = first_shows v w init (hold_at plan q 1) n (widened body w found.u).slices (has.some q e there) (operand_bytes (v n) found.later_u (widened body w found.u).slices (net.bytes n) found.known) found.first ∙ wide.number ∙ ap (λ (k : ℕ). residue w (value f k)) b.is ∙ sym same in
         let l : val plan.equations plan.widths samples n q < 2 ^ w = subst (λ (k : ℕ). k < 2 ^ w) (sym same) (residue_below w (value f x)) in
-        let P : List Place → Type 0 = λ ws. ShowsNumber (v n) ws w (val plan.equations plan.widths samples n q) in
+        let P : List NetSlice → Type 0 = λ ws. ShowsNumber (v n) ws w (val plan.equations plan.widths samples n q) in
         subst P (sym found.slices_are) (unit_is (v n) (net.bytes n) (hold_at plan q 1) w (val plan.equations plan.widths samples n q) (has.some q e there) l shows)
     made_by other n q e before held there m is =
         let within : q < length plan.equations = slice_get_within plan.equations q e there in
@@ -331,7 +331,7 @@ net_shows plan outputs samples v Made values depth flat all has net n i = flows 
         keeps (suc zero) low high a kind at =
             let s = shows p e there m in
             let w : ℕ = get_or plan.widths p 0 in
-            let P : List Place → Type 0 = λ ws. shown (v n) ws ≡ val plan.equations plan.widths samples n p in
+            let P : List NetSlice → Type 0 = λ ws. shown (v n) ws ≡ val plan.equations plan.widths samples n p in
             let here : shown (v n) (unit_slices w (hold_at plan p 1)) ≡ val plan.equations plan.widths samples n p = subst P at.slices_are s.is in
             let l : val plan.equations plan.widths samples n p < 2 ^ w = subst (λ (x : ℕ). x < 2 ^ w) s.is s.operand.below in
             states_are (v (suc n)) (net.bytes (suc n)) (hold_at plan p 1) w (val plan.equations plan.widths samples n p) (has.some p e there) l ((first_holds v w init (hold_at plan p 1) (widened (body_of plan values a kind) w at.u).slices (initial_small p init first e there is) at.first).keeps n ∙ here)

@@ -10,15 +10,15 @@ use Rattle.pr_flat.specs.Shape.{EquationShape}
 use Rattle.pr_flat.specs.Facts.{is_rec}
 use Rattle.pr_cut_units.specs.Reached.{hold_count}
 use Rattle.pr_cut_units.specs.Groups.{Holds}
-use Rattle.pr_cut_units.specs.Equations.{Plan, plan_of, hold_unit}
+use Rattle.pr_cut_units.specs.Equations.{UnitPlan, plan_of, hold_unit}
 use Rattle.pr_cut_units.specs.Nets.{holds_from}
-use Rattle.pr_cut_plan.specs.declared.plans.Plan.{Plan as Known}
+use Rattle.pr_cut_plan.specs.declared.plans.CutPlan.{CutPlan}
 use Rattle.pr_cut_plan.specs.Plans.{IsPlanOf}
 
 abbrev some_holds : Bool → ℕ → ℕ → List Holds
 some_holds some first count = if some then record { first = first; count = count } ∷ [] else []
 
-holds_step : (plan : Plan) (k : ℕ) (es : List EquationShape) (flags : List Bool) (i : ℕ) (e : EquationShape) → slice_get es i ≡ Some e → i < length flags
+holds_step : (plan : UnitPlan) (k : ℕ) (es : List EquationShape) (flags : List Bool) (i : ℕ) (e : EquationShape) → slice_get es i ≡ Some e → i < length flags
     → holds_from plan (k + i) (drop i es) (drop i flags) ≡ some_holds (get_or flags i false && is_rec e.op) (hold_unit plan (k + i)) (hold_count plan.equations (k + i)) ++ holds_from plan (k + (i + 1)) (drop (i + 1) es) (drop (i + 1) flags)
 holds_step plan k [] flags i e there l = cc
 holds_step plan k (d ∷ es) [] i e there l = absurd (omega (arith, l))
@@ -43,7 +43,7 @@ holds_step plan k (d ∷ es) (b ∷ flags) (suc i) e there l =
     ∙ ap (λ (n : ℕ). some_holds (get_or flags i false && is_rec e.op) (hold_unit plan (k + suc i)) (hold_count plan.equations (k + suc i)) ++ holds_from plan (k + (suc i + 1)) (drop n (d ∷ es)) (drop n (b ∷ flags))) (sym x)
 
 -- one equation more, where the plan's tables have its hold units
-pub holds_next : (known : Known) (equations : List EquationShape) (widths : List ℕ) (outputs : List Operand) (i first count : ℕ) (e : EquationShape) (some : Bool) (now next whole : List Holds) → IsPlanOf known equations widths outputs → slice_get equations i ≡ Some e → first ≡ get_or known.hold_units.items i 0 → count ≡ get_or known.hold_counts.items i 0 → length known.reached.items ≡ length equations
+pub holds_next : (known : CutPlan) (equations : List EquationShape) (widths : List ℕ) (outputs : List Operand) (i first count : ℕ) (e : EquationShape) (some : Bool) (now next whole : List Holds) → IsPlanOf known equations widths outputs → slice_get equations i ≡ Some e → first ≡ get_or known.hold_units.items i 0 → count ≡ get_or known.hold_counts.items i 0 → length known.reached.items ≡ length equations
     → some ≡ (get_or known.reached.items i false && is_rec e.op) → next ≡ now ++ some_holds (some) (first) (count)
     → now ++ holds_from (plan_of equations widths outputs) i (drop i equations) (drop i known.reached.items) ≡ whole → next ++ holds_from (plan_of equations widths outputs) (i + 1) (drop (i + 1) equations) (drop (i + 1) known.reached.items) ≡ whole
 holds_next known equations widths outputs i first count e some now next whole p there at of long is step was =
@@ -71,7 +71,7 @@ holds_next known equations widths outputs i first count e some now next whole p 
         let c : count ≡ hold_count equations i = of ∙ p.counts i e there rec in
         ap (λ (n : ℕ). some_holds true n count) f ∙ ap (λ (n : ℕ). some_holds true (hold_unit (plan_of equations widths outputs) i) n) c
 
-pub holds_last : (plan : Plan) (i : ℕ) (es : List EquationShape) (flags : List Bool) (all whole : List Holds) → length es ≤ i → all ++ holds_from plan i (drop i es) (drop i flags) ≡ whole → all ≡ whole
+pub holds_last : (plan : UnitPlan) (i : ℕ) (es : List EquationShape) (flags : List Bool) (all whole : List Holds) → length es ≤ i → all ++ holds_from plan i (drop i es) (drop i flags) ≡ whole → all ≡ whole
 holds_last plan i es flags all whole l h = sym (ap (λ (xs : List Holds). all ++ xs) (none i es flags i l) ∙ append-nil all) ∙ h
   where
     empty : (k : ℕ) (xs : List EquationShape) → holds_from plan k xs [] ≡ []

@@ -11,7 +11,7 @@ use Rattle.pr_flat.specs.Facts.{is_rec, IsFlat}
 use Rattle.pr_flat.specs.Widths.{AreWidths}
 use Rattle.pr_cut_units.specs.Reached.{reached}
 use Rattle.pr_cut_units.specs.Groups.{tied_from}
-use Rattle.pr_cut_units.specs.Equations.{Plan, plan_of, hold_unit, cut_whole}
+use Rattle.pr_cut_units.specs.Equations.{UnitPlan, plan_of, hold_unit, cut_whole}
 use Rattle.pr_cut_units.specs.Nets.{holds_from}
 use Rattle.pr_cut_units.proofs.WideNets.{are_counted, Rest, rest_more, rest_first, rest_all}
 use Rattle.pr_cut_units.proofs.CountNets.{count_whole}
@@ -56,7 +56,7 @@ parts_from equations widths outputs from i [] flags flat wide r f b = tt
 parts_from equations widths outputs from i (e ∷ rest) [] flat wide r f b = tt
 parts_from equations widths outputs from i (e ∷ rest) (counts ∷ flags) flat wide r f b = by (counts && is_rec e.op) refl (λ after q. parts_from equations widths outputs after (suc i) rest flags flat wide (rest_more equations i e rest r) more q)
   where
-    plan : Plan
+    plan : UnitPlan
     plan = plan_of equations widths outputs
 
     more : (j : ℕ) → slice_index_or (reached equations outputs) (suc i + j) false ≡ slice_index_or flags j false

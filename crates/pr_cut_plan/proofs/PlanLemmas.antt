@@ -15,7 +15,7 @@ use Rattle.pr_flat.specs.Widths.{forms_in, AreWidths}
 use Rattle.pr_flat.specs.Values.{input_widths}
 use Rattle.pr_cut_units.specs.Counts.{body_count}
 use Rattle.pr_cut_units.specs.Reached.{reached}
-use Rattle.pr_cut_units.specs.Equations.{Plan, plan_of, own_count, counts_from, first_unit, hold_unit, cut_whole}
+use Rattle.pr_cut_units.specs.Equations.{UnitPlan, plan_of, own_count, counts_from, first_unit, hold_unit, cut_whole}
 use Rattle.pr_cut_units.specs.Nets.{output_of, net_of, limit_passed}
 use Rattle.pr_cut_units.proofs.CountNets.{count_whole, length-reached}
 use Rattle.pr_cut_units.proofs.WideNets.{are_counted}
@@ -53,13 +53,13 @@ sum_next [] (suc i) = refl
 sum_next (x ∷ xs) zero = omega (arith, sum_by-cons (λ (k : ℕ). k) x [])
 sum_next (x ∷ xs) (suc i) = omega (arith, sum_next xs i, sum_by-cons (λ (k : ℕ). k) x (take (suc i) xs), sum_by-cons (λ (k : ℕ). k) x (take i xs))
 
-pub first_next : (plan : Plan) (i : ℕ) → first_unit plan (i + 1) ≡ first_unit plan i + slice_index plan.counts i
+pub first_next : (plan : UnitPlan) (i : ℕ) → first_unit plan (i + 1) ≡ first_unit plan i + slice_index plan.counts i
 first_next plan i =
     let z : i + 1 ≡ suc i = omega arith in
     let s = sum_next plan.counts i in
     ap (first_unit plan) z ∙ omega (arith, s)
 
-pub first_within : (plan : Plan) (i : ℕ) → first_unit plan i ≤ all_units plan
+pub first_within : (plan : UnitPlan) (i : ℕ) → first_unit plan i ≤ all_units plan
 first_within plan i = let s = sum_by-take-le (λ (k : ℕ). k) plan.counts i in omega (arith, s)
 
 take_all : (xs : List ℕ) (i : ℕ) → length xs ≤ i → take i xs ≡ xs
@@ -79,7 +79,7 @@ first_last equations widths outputs i l =
     let few = length-counts equations widths 0 equations (reached equations outputs) in
     ap (λ (xs : List ℕ). count_by (λ (e : EquationShape). is_input e.op) equations + sum xs) (take_all plan.counts i (omega (arith, few, l)))
 
-pub first_none : (plan : Plan) → first_unit plan 0 ≡ count_by (λ (e : EquationShape). is_input e.op) plan.equations
+pub first_none : (plan : UnitPlan) → first_unit plan 0 ≡ count_by (λ (e : EquationShape). is_input e.op) plan.equations
 first_none plan = omega arith
 
 pub hold_at : (equations : List EquationShape) (widths : List ℕ) (outputs : List Operand) (i n first body : ℕ) (e : EquationShape) → slice_get equations i ≡ Some e → first ≡ first_unit (plan_of equations widths outputs) i → body ≡ body_count (slice_index widths i) (forms_in widths e) → n ≡ first + body → n ≡ hold_unit (plan_of equations widths outputs) i

@@ -8,11 +8,11 @@ use Rattle.pr_flat.specs.Flats.{equations_of}
 use Rattle.pr_flat.specs.Shape.{EquationShape, EachEquation}
 use Rattle.pr_flat.specs.Facts.{is_rec}
 use Rattle.pr_cut_units.specs.Reached.{reached, hold_count}
-use Rattle.pr_cut_units.specs.Equations.{Plan, plan_of, own_count, hold_unit}
+use Rattle.pr_cut_units.specs.Equations.{UnitPlan, plan_of, own_count, hold_unit}
 use Rattle.pr_cut_units.specs.Flats.{flat_plan}
 use Rattle.pr_cut_units.specs.Groups.{Holds}
 use Rattle.pr_cut_units.specs.Nets.{holds_from}
-use Rattle.pr_cut_plan.specs.declared.plans.Plan.{Plan as Known}
+use Rattle.pr_cut_plan.specs.declared.plans.CutPlan.{CutPlan}
 
 -- equation rec is a recurrence, whose body begins with this equation
 pub record IsRecurrence (equations : List EquationShape) (rec first : ℕ) : Type 0 where
@@ -38,11 +38,11 @@ abbrev pub IsOwnCount : List EquationShape → List ℕ → ℕ → ℕ → Type
 IsOwnCount equations widths i count = (e : EquationShape) → slice_get equations i ≡ Some e → count ≡ own_count equations widths i e e.op
 
 -- the hold units of each recurrence begin here
-abbrev pub AreHoldUnits : Plan → List ℕ → Type 0
+abbrev pub AreHoldUnits : UnitPlan → List ℕ → Type 0
 AreHoldUnits plan units = (i : ℕ) → i < length plan.equations → slice_index units i ≡ hold_unit plan i
 
 -- it has an entry for each equation: whether an output can be reached from it, where the hold units of a recurrence begin, and how many they are
-pub record IsPlanOf (plan : Known) (equations : List EquationShape) (widths : List ℕ) (outputs : List Operand) : Type 0 where
+pub record IsPlanOf (plan : CutPlan) (equations : List EquationShape) (widths : List ℕ) (outputs : List Operand) : Type 0 where
   pub reached : plan.reached.items ≡ reached equations outputs
   pub firsts : AreHoldUnits (plan_of equations widths outputs) plan.hold_units.items
   pub counts : AreHoldCounts equations plan.hold_counts.items
@@ -51,5 +51,5 @@ pub record IsPlanOf (plan : Known) (equations : List EquationShape) (widths : Li
   pub holds : vec_len plan.hold_counts ≡ length equations
 
 -- by every such plan these are the hold units of the recurrences that have units
-abbrev pub AreHoldsOf : Flat → Known → List Holds → Type 0
+abbrev pub AreHoldsOf : Flat → CutPlan → List Holds → Type 0
 AreHoldsOf flat plan holds = (widths : List ℕ) → IsPlanOf plan (equations_of flat) widths flat.outputs.items → holds ≡ holds_from (flat_plan flat widths) 0 (equations_of flat) plan.reached.items

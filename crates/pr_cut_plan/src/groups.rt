@@ -11,7 +11,7 @@ ghost use Rattle.pr_cut_units.specs.Groups.{bit_wires, cell_wires, ties, is_tied
 ghost use Rattle.pr_cut_plan.specs.Plans.{AreHoldsOf};
 ghost use Rattle.pr_cut_plan.specs.Parts.{AreMarked, IsPart, AreParts, end_of, part_groups, untied_groups, parts_groups, parts_end};
 
-use crate::plans::Plan;
+use crate::plans::CutPlan;
 use pr_flat::{Flat, Op};
 use pr_net::{Cell, Group, Unit, Wire, WireBit};
 use std::alloc::{AllocError, Global};
@@ -59,7 +59,7 @@ fn is_rec(op: Op) -> bool
 }
 
 /// Whether equation `i` is a recurrence that has units.
-fn has_holds(flat: &Flat, plan: &Plan, i: usize) -> bool
+fn has_holds(flat: &Flat, plan: &CutPlan, i: usize) -> bool
     requires there { i < vec_len flat.now.equations }
     requires flags { vec_len plan.now.reached ≡ vec_len flat.now.equations }
     ensures { EachEquation (equations_of flat.now)
@@ -80,7 +80,7 @@ fn push_where(all: &mut Vec<Holds>, some: bool, first: u32, count: u32) -> Resul
 }
 
 /// The hold units of the recurrences that have units, in their order.
-pub fn holds_of(alloc: Global, flat: &Flat, plan: &Plan) -> Result<Vec<Holds>, AllocError>
+pub fn holds_of(alloc: Global, flat: &Flat, plan: &CutPlan) -> Result<Vec<Holds>, AllocError>
     requires flags { vec_len plan.now.reached ≡ vec_len flat.now.equations }
     requires units { vec_len plan.now.hold_units ≡ vec_len flat.now.equations }
     requires counts { vec_len plan.now.hold_counts ≡ vec_len flat.now.equations }

@@ -12,4 +12,4 @@ mod reached;
 pub use faults::CutFault;
 pub use groups::{Holds, groups_of, holds_of};
 pub use laws::parts_law;
-pub use plans::{Plan, plan_of};
+pub use plans::{CutPlan, plan_of};

@@ -21,7 +21,7 @@ use std::alloc::{AllocError, Global};
 
 /// What is known of each equation before a unit is made.
 #[derive(Debug, Drop)]
-pub struct Plan {
+pub struct CutPlan {
     /// Whether an output can be reached from it.
     pub reached: Vec<bool>,
     /// The number of a recurrence's first hold unit.
@@ -97,7 +97,7 @@ pub fn plan_of(
     flat: &Flat,
     widths: &Widths,
     columns: usize,
-) -> Result<Plan, CutFault>
+) -> Result<CutPlan, CutFault>
     requires { AreWidths (equations_of flat.now) widths.now }
     ensures plan { IfOk result (λ plan. IsPlanOf plan (equations_of flat.now) widths.now flat.now.outputs.items) }
     ensures none { IfOk result (λ plan. HaveNoHolds (equations_of flat.now) plan.hold_counts.items) }
@@ -117,7 +117,7 @@ pub fn plan_of(
     let reached = reached(alloc, flat)?;
     let hold_counts = hold_counts(alloc, flat)?;
     let hold_units = hold_units(alloc, flat, &widths.of, &reached, &hold_counts)?;
-    Ok(Plan {
+    Ok(CutPlan {
         reached,
         hold_units,
         hold_counts,

@@ -20,12 +20,12 @@ use Rattle.pr_cut_units.specs.Counts.{widening_count, body_count, count_at}
 use Rattle.pr_cut_units.specs.Reached.{hold_count, reached_from}
 use Rattle.pr_flat.specs.Facts.{is_input}
 use Rattle.pr_cut_units.proofs.GoodNets.{WideOperands, inputs_count}
-use Rattle.pr_cut_units.specs.Equations.{plan_of, cut_start, cut_whole, Cut, next_units, cut_next, cut_after, counts_from, Plan, own_count, arguments, equation_units}
+use Rattle.pr_cut_units.specs.Equations.{plan_of, cut_start, cut_whole, Cut, next_units, cut_next, cut_after, counts_from, UnitPlan, own_count, arguments, equation_units}
 use Rattle.pr_cut_units.proofs.EachLemmas.{length-each}
 use Rattle.pr_cut_units.proofs.CountTable.{Takes, takes_kept, takes_then, takes_widened, WideForms, takes_at}
 
 -- operands have the forms that widths and kinds give them
-pub forms_are : (plan : Plan) (values : List (List Slice)) (args : List Operand) (kinds : List Bool) → argument_forms (arguments plan values args kinds) ≡ operand_forms plan.widths args kinds
+pub forms_are : (plan : UnitPlan) (values : List (List Slice)) (args : List Operand) (kinds : List Bool) → argument_forms (arguments plan values args kinds) ≡ operand_forms plan.widths args kinds
 forms_are plan values [] kinds = refl
 forms_are plan values (a ∷ args) [] = refl
 forms_are plan values (a ∷ args) (kind ∷ kinds) = ap (λ (fs : List Form). record { signed = kind; width = operand_width plan.widths a } ∷ fs) (forms_are plan values args kinds)
@@ -59,7 +59,7 @@ own_count_is equations widths i e op = refl
 some_holds : (n : ℕ) → 1 ≤ max 1 n
 some_holds n = omega arith
 
-pub takes_equation : (plan : Plan) (i : ℕ) (op : Op) (args : List Argument) → length args ≡ arity op → WideForms args → (is_stated op ≡ false → 1 ≤ computed_bits (slice_index plan.widths i) op (argument_forms args)) → Takes (equation_units plan i op args) (made_count plan.equations plan.widths i op (argument_forms args))
+pub takes_equation : (plan : UnitPlan) (i : ℕ) (op : Op) (args : List Argument) → length args ≡ arity op → WideForms args → (is_stated op ≡ false → 1 ≤ computed_bits (slice_index plan.widths i) op (argument_forms args)) → Takes (equation_units plan i op args) (made_count plan.equations plan.widths i op (argument_forms args))
 takes_equation plan i Op.Input args long w b = record { at = λ u. refl }
 takes_equation plan i (Op.Delay c) (x ∷ []) long w b = record { at = λ u. refl }
 takes_equation plan i (Op.Delay c) [] long w b = absurd (omega arith)
@@ -71,29 +71,29 @@ takes_equation plan i op args long w b = takes_at (slice_index plan.widths i) op
 
 -- ---- the fold
 -- what the counts ask of equation i: its operands as many as the operation has, each with a width, and a width of its own
-pub record IsCounted (plan : Plan) (i : ℕ) (e : EquationShape) : Type 0 where
+pub record IsCounted (plan : UnitPlan) (i : ℕ) (e : EquationShape) : Type 0 where
   pub args : length e.args ≡ arity e.op
   pub kinds : length e.kinds ≡ arity e.op
   pub wide : WideOperands plan.widths e.args
   pub bits : is_stated e.op ≡ false → 1 ≤ computed_bits (slice_index plan.widths i) e.op (forms_in plan.widths e)
 
-abbrev pub AreCounted : Plan → ℕ → List EquationShape → Type 0
+abbrev pub AreCounted : UnitPlan → ℕ → List EquationShape → Type 0
 AreCounted plan i [] = Unit {0}
 AreCounted plan i (e ∷ rest) = IsCounted plan i e × AreCounted plan (suc i) rest
 
-pub wide_forms : (plan : Plan) (values : List (List Slice)) (args : List Operand) (kinds : List Bool) → WideOperands plan.widths args → WideForms (arguments plan values args kinds)
+pub wide_forms : (plan : UnitPlan) (values : List (List Slice)) (args : List Operand) (kinds : List Bool) → WideOperands plan.widths args → WideForms (arguments plan values args kinds)
 wide_forms plan values [] kinds h = tt
 wide_forms plan values (a ∷ args) [] h = tt
 wide_forms plan values (a ∷ args) (kind ∷ kinds) h = (h.0, wide_forms plan values args kinds h.1)
 
-pub length-arguments : (plan : Plan) (values : List (List Slice)) (args : List Operand) (kinds : List Bool) (n : ℕ) → length args ≡ n → length kinds ≡ n → length (arguments plan values args kinds) ≡ n
+pub length-arguments : (plan : UnitPlan) (values : List (List Slice)) (args : List Operand) (kinds : List Bool) (n : ℕ) → length args ≡ n → length kinds ≡ n → length (arguments plan values args kinds) ≡ n
 length-arguments plan values [] kinds n h k = h
 length-arguments plan values (a ∷ args) [] n h k = absurd (omega arith)
 length-arguments plan values (a ∷ args) (kind ∷ kinds) zero h k = absurd (omega arith)
 length-arguments plan values (a ∷ args) (kind ∷ kinds) (suc n) h k = ap suc (length-arguments plan values args kinds n (omega arith) (omega arith))
 
 -- the units of equation i are as many as counted
-pub takes_own : (plan : Plan) (values : List (List Slice)) (i : ℕ) (e : EquationShape) → IsCounted plan i e → Takes (equation_units plan i e.op (arguments plan values e.args e.kinds)) (own_count plan.equations plan.widths i e e.op)
+pub takes_own : (plan : UnitPlan) (values : List (List Slice)) (i : ℕ) (e : EquationShape) → IsCounted plan i e → Takes (equation_units plan i e.op (arguments plan values e.args e.kinds)) (own_count plan.equations plan.widths i e e.op)
 takes_own plan values i e c =
     let args = arguments plan values e.args e.kinds in
     let forms : argument_forms args ≡ forms_in plan.widths e = forms_are plan values e.args e.kinds in
@@ -102,7 +102,7 @@ takes_own plan values i e c =
     record { at = λ u. t.at u ∙ ap (made_count plan.equations plan.widths i e.op) forms ∙ sym (own_count_is plan.equations plan.widths i e e.op) }
 
 -- an equation that has no units counts none, and an input none of its own
-pub next_count : (plan : Plan) (cut : Cut) (e : EquationShape) → IsCounted plan (length cut.values) e → Takes (next_units plan cut e) (if slice_index_or plan.reached (length cut.values) false then own_count plan.equations plan.widths (length cut.values) e e.op else 0)
+pub next_count : (plan : UnitPlan) (cut : Cut) (e : EquationShape) → IsCounted plan (length cut.values) e → Takes (next_units plan cut e) (if slice_index_or plan.reached (length cut.values) false then own_count plan.equations plan.widths (length cut.values) e e.op else 0)
 next_count plan cut e c = go e.op refl (slice_index_or plan.reached (length cut.values) false)
   where
     own : Takes (equation_units plan (length cut.values) e.op (arguments plan cut.values e.args e.kinds)) (own_count plan.equations plan.widths (length cut.values) e e.op)
@@ -118,17 +118,17 @@ next_count plan cut e c = go e.op refl (slice_index_or plan.reached (length cut.
     go op is b = all b (ap is_input is)
 
 -- the flag of an equation, and those of the equations after it
-pub record Flags (plan : Plan) (i : ℕ) (flags : List Bool) : Type 0 where
+pub record Flags (plan : UnitPlan) (i : ℕ) (flags : List Bool) : Type 0 where
   pub at : (j : ℕ) → slice_index_or plan.reached (i + j) false ≡ slice_index_or flags j false
 
-pub flags_more : (plan : Plan) (i : ℕ) (b : Bool) (flags : List Bool) → Flags plan i (b ∷ flags) → Flags plan (suc i) flags
+pub flags_more : (plan : UnitPlan) (i : ℕ) (b : Bool) (flags : List Bool) → Flags plan i (b ∷ flags) → Flags plan (suc i) flags
 flags_more plan i b flags f = record { at = λ j. ap (λ (k : ℕ). slice_index_or plan.reached k false) (omega arith) ∙ f.at (suc j) }
 
-pub flags_first : (plan : Plan) (i : ℕ) (b : Bool) (flags : List Bool) → Flags plan i (b ∷ flags) → slice_index_or plan.reached i false ≡ b
+pub flags_first : (plan : UnitPlan) (i : ℕ) (b : Bool) (flags : List Bool) → Flags plan i (b ∷ flags) → slice_index_or plan.reached i false ≡ b
 flags_first plan i b flags f = ap (λ (k : ℕ). slice_index_or plan.reached k false) (omega arith) ∙ f.at 0
 
 -- the fold has so many units more as the equations count
-pub count_after : (plan : Plan) (cut : Cut) (i : ℕ) (rest : List EquationShape) (flags : List Bool) → length cut.values ≡ i → length flags ≡ length rest → Flags plan i flags → AreCounted plan i rest → length (cut_after plan cut rest).units ≡ length cut.units + sum (counts_from plan.equations plan.widths i rest flags)
+pub count_after : (plan : UnitPlan) (cut : Cut) (i : ℕ) (rest : List EquationShape) (flags : List Bool) → length cut.values ≡ i → length flags ≡ length rest → Flags plan i flags → AreCounted plan i rest → length (cut_after plan cut rest).units ≡ length cut.units + sum (counts_from plan.equations plan.widths i rest flags)
 count_after plan cut i [] flags long same f c = omega arith
 count_after plan cut i (e ∷ rest) [] long same f c = absurd (omega arith)
 count_after plan cut i (e ∷ rest) (b ∷ flags) long same f c =

@@ -25,7 +25,7 @@ use Rattle.pr_net.specs.Shape.{NetShape}
 use Rattle.pr_cut_units.specs.Parts.{kept}
 use Rattle.pr_cut_units.specs.Widening.{Argument}
 use Rattle.pr_cut_units.specs.Reached.{is_read, reached_from}
-use Rattle.pr_cut_units.specs.Equations.{Plan, plan_of, operand_slices, arguments, equation_units, Cut, has_units, next_units, cut_next, cut_after, cut_start, cut_whole}
+use Rattle.pr_cut_units.specs.Equations.{UnitPlan, plan_of, operand_slices, arguments, equation_units, Cut, has_units, next_units, cut_next, cut_after, cut_start, cut_whole}
 use Rattle.pr_cut_units.specs.Nets.{limit_passed}
 use Rattle.pr_cut_units.proofs.CountNets.{IsCounted, AreCounted, length-arguments}
 use Rattle.pr_cut_units.proofs.WideNets.{Rest, rest_more, rest_first, widths_some}
@@ -126,7 +126,7 @@ output_bounds equations outputs widths flat wide (Operand.Eq i) h = let l = ltb-
 output_bounds equations outputs widths flat wide (Operand.Past rec k) h = absurd (false≢true h)
 
 -- ---- a value has a slice for each byte of its width
-pub units_long : (plan : Plan) (i : ℕ) (op : Op) (args : List Argument) (u : ℕ) → length args ≡ arity op → length (equation_units plan i op args u).slices ≡ slices_of (slice_index plan.widths i)
+pub units_long : (plan : UnitPlan) (i : ℕ) (op : Op) (args : List Argument) (u : ℕ) → length args ≡ arity op → length (equation_units plan i op args u).slices ≡ slices_of (slice_index plan.widths i)
 units_long plan i Op.Input args u h = length-map-range_with_len _ 0 (slices_of (slice_index plan.widths i))
 units_long plan i (Op.Delay c) (x ∷ []) u h = length-map-range_with_len _ 0 (slices_of (slice_index plan.widths i))
 units_long plan i (Op.Delay c) [] u h = absurd (omega (arith, h))
@@ -137,22 +137,22 @@ units_long plan i (Op.Rec init first) (x ∷ y ∷ args) u h = absurd (omega (ar
 units_long plan i op args u h = length-map-range_with_len _ 0 (slices_of (slice_index plan.widths i))
 
 -- the slices of equations that these add
-abbrev pub values_added : Plan → Cut → List EquationShape → List (List Slice)
+abbrev pub values_added : UnitPlan → Cut → List EquationShape → List (List Slice)
 values_added plan cut [] = []
 values_added plan cut (e ∷ rest) = (next_units plan cut e (length cut.units)).slices ∷ values_added plan (cut_next plan cut e) rest
 
-pub values_are : (plan : Plan) (cut : Cut) (rest : List EquationShape) → (cut_after plan cut rest).values ≡ cut.values ++ values_added plan cut rest
+pub values_are : (plan : UnitPlan) (cut : Cut) (rest : List EquationShape) → (cut_after plan cut rest).values ≡ cut.values ++ values_added plan cut rest
 values_are plan cut [] = sym (append-nil cut.values)
 values_are plan cut (e ∷ rest) = values_are plan (cut_next plan cut e) rest ∙ append_assoc cut.values ((next_units plan cut e (length cut.units)).slices ∷ []) (values_added plan (cut_next plan cut e) rest)
 
-next_long : (plan : Plan) (cut : Cut) (e : EquationShape) → IsCounted plan (length cut.values) e → has_units plan (length cut.values) e ≡ true → length (next_units plan cut e (length cut.units)).slices ≡ slices_of (slice_index plan.widths (length cut.values))
+next_long : (plan : UnitPlan) (cut : Cut) (e : EquationShape) → IsCounted plan (length cut.values) e → has_units plan (length cut.values) e ≡ true → length (next_units plan cut e (length cut.units)).slices ≡ slices_of (slice_index plan.widths (length cut.values))
 next_long plan cut e c h = go (has_units plan (length cut.values) e) h
   where
     go : (b : Bool) → b ≡ true → length ((if b then equation_units plan (length cut.values) e.op (arguments plan cut.values e.args e.kinds) else kept []) (length cut.units)).slices ≡ slices_of (slice_index plan.widths (length cut.values))
     go true q = units_long plan (length cut.values) e.op (arguments plan cut.values e.args e.kinds) (length cut.units) (length-arguments plan cut.values e.args e.kinds (arity e.op) c.args c.kinds)
     go false q = absurd (false≢true q)
 
-added_long : (plan : Plan) (cut : Cut) (i : ℕ) (rest : List EquationShape) → length cut.values ≡ i → AreCounted plan i rest → (j : ℕ) (e : EquationShape) → slice_get rest j ≡ Some e → has_units plan (i + j) e ≡ true → length (get_or (values_added plan cut rest) j []) ≡ slices_of (slice_index plan.widths (i + j))
+added_long : (plan : UnitPlan) (cut : Cut) (i : ℕ) (rest : List EquationShape) → length cut.values ≡ i → AreCounted plan i rest → (j : ℕ) (e : EquationShape) → slice_get rest j ≡ Some e → has_units plan (i + j) e ≡ true → length (get_or (values_added plan cut rest) j []) ≡ slices_of (slice_index plan.widths (i + j))
 added_long plan cut i [] long c j e there h = cc
 added_long plan cut i (d ∷ rest) long c zero e there h =
     let same : d ≡ e = cc in

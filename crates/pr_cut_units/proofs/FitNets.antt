@@ -28,7 +28,7 @@ use Rattle.pr_cut_units.specs.States.{delayed, hold_cell, later_cell, hold_units
 use Rattle.pr_cut_units.specs.Table.{argument_forms, computed_bits}
 use Rattle.pr_cut_units.specs.Counts.{widening_count, body_count}
 use Rattle.pr_cut_units.specs.Reached.{hold_count}
-use Rattle.pr_cut_units.specs.Equations.{Plan, own_count, first_unit, hold_unit, operand_slices, arguments, input_slices, equation_units, Cut, has_units, next_units, cut_next, cut_after, counts_from}
+use Rattle.pr_cut_units.specs.Equations.{UnitPlan, own_count, first_unit, hold_unit, operand_slices, arguments, input_slices, equation_units, Cut, has_units, next_units, cut_next, cut_after, counts_from}
 use Rattle.pr_cut_units.proofs.CountTable.{takes_widened}
 use Rattle.pr_cut_units.proofs.CountNets.{forms_are, is_stated, IsCounted, AreCounted, takes_own, next_count, length-arguments, Flags, flags_more, flags_first}
 use Rattle.pr_cut_units.proofs.GoodNets.{WideOperands}
@@ -172,7 +172,7 @@ fit_held z T Q R u w init k body some one h m own s =
 fit_wide : (z : ℕ → ℕ) (T Q : ℕ → ℕ → Type 0) (R : ℕ → ℕ → ℕ → Type 0) (u : ℕ) (p : Part) → Wider T Q → FitHere z T R u p → FitHere z Q R u p
 fit_wide z T Q R u p m f = record { units = f.units; slices = slices_wider z T Q m p.slices f.slices }
 
-pub fit_equation : (z : ℕ → ℕ) (S V R : ℕ → ℕ → ℕ → Type 0) (plan : Plan) (i u : ℕ) (op : Op) (args : List Argument) → length args ≡ arity op → 1 ≤ slice_index plan.widths i → ThereArguments z (S i) args → (is_stated op ≡ false → 1 ≤ computed_bits (slice_index plan.widths i) op (argument_forms args))
+pub fit_equation : (z : ℕ → ℕ) (S V R : ℕ → ℕ → ℕ → Type 0) (plan : UnitPlan) (i u : ℕ) (op : Op) (args : List Argument) → length args ≡ arity op → 1 ≤ slice_index plan.widths i → ThereArguments z (S i) args → (is_stated op ≡ false → 1 ≤ computed_bits (slice_index plan.widths i) op (argument_forms args))
     → (is_input op ≡ true → AreThere z (V i) (input_slices plan i)) → 1 ≤ hold_count plan.equations i → (is_rec op ≡ false → Wider (S i) (V i))
     → MayRead (S i) R u (u + length (equation_units plan i op args u).units) → ReadsOwn z R u (u + body_count (slice_index plan.widths i) (argument_forms args)) (hold_count plan.equations i) op
     → Sized z u (equation_units plan i op args u).units → FitHere z (V i) R u (equation_units plan i op args u)
@@ -201,12 +201,12 @@ values_push z S m [] x h k = let e : m + 0 ≡ m = omega arith in (subst (λ (n 
 values_push z S m (y ∷ values) x h k = let e : m + suc (length values) ≡ suc m + length values = omega arith in (h.0, values_push z S (suc m) values x h.1 (subst (λ (n : ℕ). AreThere z (S n) x) e k))
 
 -- what equation i may take: states of what it reads, and pasts
-abbrev pub MayTake : (ℕ → ℕ → ℕ → Type 0) → (ℕ → ℕ → ℕ → Type 0) → Plan → ℕ → Operand → Type 0
+abbrev pub MayTake : (ℕ → ℕ → ℕ → Type 0) → (ℕ → ℕ → ℕ → Type 0) → UnitPlan → ℕ → Operand → Type 0
 MayTake S V plan i (Operand.Const c) = Unit {0}
 MayTake S V plan i (Operand.Eq m) = Wider (V m) (S i)
 MayTake S V plan i (Operand.Past rec k) = (j : ℕ) → j < slices_of (slice_index plan.widths rec) → S i (hold_unit plan rec + (k - 1)) j
 
-abbrev pub MayTakeAll : (ℕ → ℕ → ℕ → Type 0) → (ℕ → ℕ → ℕ → Type 0) → Plan → ℕ → List Operand → Type 0
+abbrev pub MayTakeAll : (ℕ → ℕ → ℕ → Type 0) → (ℕ → ℕ → ℕ → Type 0) → UnitPlan → ℕ → List Operand → Type 0
 MayTakeAll S V plan i [] = Unit {0}
 MayTakeAll S V plan i (a ∷ args) = MayTake S V plan i a × MayTakeAll S V plan i args
 
@@ -214,21 +214,21 @@ pub bytes_there : (z : ℕ → ℕ) (T : ℕ → ℕ → Type 0) (k c : ℕ) →
 bytes_there z T zero c = tt
 bytes_there z T (suc k) c = (tt, bytes_there z T k (c / 256))
 
-operand_there : (z : ℕ → ℕ) (S V : ℕ → ℕ → ℕ → Type 0) (plan : Plan) (values : List (List Slice)) (i : ℕ) (a : Operand) → ValuesThere z V 0 values → MayTake S V plan i a → AreThere z (S i) (operand_slices plan values a)
+operand_there : (z : ℕ → ℕ) (S V : ℕ → ℕ → ℕ → Type 0) (plan : UnitPlan) (values : List (List Slice)) (i : ℕ) (a : Operand) → ValuesThere z V 0 values → MayTake S V plan i a → AreThere z (S i) (operand_slices plan values a)
 operand_there z S V plan values i (Operand.Const c) h m = bytes_there z (S i) (slices_of (number_width c)) c
 operand_there z S V plan values i (Operand.Eq n) h m =
     let e : 0 + n ≡ n = omega arith in
     slices_wider z (V n) (S i) m (slice_index_or values n []) (subst (λ (q : ℕ). AreThere z (V q) (slice_index_or values n [])) e (value_there z V 0 values n h))
 operand_there z S V plan values i (Operand.Past rec k) h m = there-each z (S i) (slices_of (slice_index plan.widths rec)) (λ j. Slice.State (hold_unit plan rec + (k - 1)) j) m
 
-arguments_there : (z : ℕ → ℕ) (S V : ℕ → ℕ → ℕ → Type 0) (plan : Plan) (values : List (List Slice)) (i : ℕ) (args : List Operand) (kinds : List Bool) → ValuesThere z V 0 values → MayTakeAll S V plan i args → WideOperands plan.widths args → ThereArguments z (S i) (arguments plan values args kinds)
+arguments_there : (z : ℕ → ℕ) (S V : ℕ → ℕ → ℕ → Type 0) (plan : UnitPlan) (values : List (List Slice)) (i : ℕ) (args : List Operand) (kinds : List Bool) → ValuesThere z V 0 values → MayTakeAll S V plan i args → WideOperands plan.widths args → ThereArguments z (S i) (arguments plan values args kinds)
 arguments_there z S V plan values i [] kinds h m w = tt
 arguments_there z S V plan values i (a ∷ args) [] h m w = tt
 arguments_there z S V plan values i (a ∷ args) (kind ∷ kinds) h m w = ((operand_there z S V plan values i a h m.0, w.0), arguments_there z S V plan values i args kinds h m.1 w.1)
 
 -- ---- the fold
 -- what an equation with units asks of sizes and states
-pub record IsAllowed (z : ℕ → ℕ) (S V R : ℕ → ℕ → ℕ → Type 0) (plan : Plan) (i : ℕ) (e : EquationShape) : Type 0 where
+pub record IsAllowed (z : ℕ → ℕ) (S V R : ℕ → ℕ → ℕ → Type 0) (plan : UnitPlan) (i : ℕ) (e : EquationShape) : Type 0 where
   pub width : 1 ≤ slice_index plan.widths i
   pub input : is_input e.op ≡ true → AreThere z (V i) (input_slices plan i)
   pub keeps : is_rec e.op ≡ false → Wider (S i) (V i)
@@ -236,14 +236,14 @@ pub record IsAllowed (z : ℕ → ℕ) (S V R : ℕ → ℕ → ℕ → Type 0) 
   pub may : MayRead (S i) R (first_unit plan i) (first_unit plan i + own_count plan.equations plan.widths i e e.op)
   pub own : ReadsOwn z R (first_unit plan i) (first_unit plan i + body_count (slice_index plan.widths i) (forms_in plan.widths e)) (hold_count plan.equations i) e.op
 
-abbrev pub AreAllowed : (ℕ → ℕ) → (ℕ → ℕ → ℕ → Type 0) → (ℕ → ℕ → ℕ → Type 0) → (ℕ → ℕ → ℕ → Type 0) → Plan → ℕ → List EquationShape → Type 0
+abbrev pub AreAllowed : (ℕ → ℕ) → (ℕ → ℕ → ℕ → Type 0) → (ℕ → ℕ → ℕ → Type 0) → (ℕ → ℕ → ℕ → Type 0) → UnitPlan → ℕ → List EquationShape → Type 0
 AreAllowed z S V R plan i [] = Unit {0}
 AreAllowed z S V R plan i (e ∷ rest) = (has_units plan i e ≡ true → IsAllowed z S V R plan i e) × AreAllowed z S V R plan (suc i) rest
 
 some_holds : (n : ℕ) → 1 ≤ max 1 n
 some_holds n = omega arith
 
-fit_own : (z : ℕ → ℕ) (S V R : ℕ → ℕ → ℕ → Type 0) (plan : Plan) (cut : Cut) (e : EquationShape) → length cut.units ≡ first_unit plan (length cut.values) → IsCounted plan (length cut.values) e → ValuesThere z V 0 cut.values → IsAllowed z S V R plan (length cut.values) e
+fit_own : (z : ℕ → ℕ) (S V R : ℕ → ℕ → ℕ → Type 0) (plan : UnitPlan) (cut : Cut) (e : EquationShape) → length cut.units ≡ first_unit plan (length cut.values) → IsCounted plan (length cut.values) e → ValuesThere z V 0 cut.values → IsAllowed z S V R plan (length cut.values) e
     → Sized z (length cut.units) (equation_units plan (length cut.values) e.op (arguments plan cut.values e.args e.kinds) (length cut.units)).units
     → FitHere z (V (length cut.values)) R (length cut.units) (equation_units plan (length cut.values) e.op (arguments plan cut.values e.args e.kinds) (length cut.units))
 fit_own z S V R plan cut e at c h a s =
@@ -261,7 +261,7 @@ fit_own z S V R plan cut e at c h a s =
     (subst (λ (fs : List Form). ReadsOwn z R n (n + body_count w fs) (hold_count plan.equations i) e.op) (sym forms) (subst (λ (m : ℕ). ReadsOwn z R m (m + body_count w (forms_in plan.widths e)) (hold_count plan.equations i) e.op) (sym at) a.own))
     s
 
-fit_next : (z : ℕ → ℕ) (S V R : ℕ → ℕ → ℕ → Type 0) (plan : Plan) (cut : Cut) (e : EquationShape) → length cut.units ≡ first_unit plan (length cut.values) → IsCounted plan (length cut.values) e → ValuesThere z V 0 cut.values → (has_units plan (length cut.values) e ≡ true → IsAllowed z S V R plan (length cut.values) e)
+fit_next : (z : ℕ → ℕ) (S V R : ℕ → ℕ → ℕ → Type 0) (plan : UnitPlan) (cut : Cut) (e : EquationShape) → length cut.units ≡ first_unit plan (length cut.values) → IsCounted plan (length cut.values) e → ValuesThere z V 0 cut.values → (has_units plan (length cut.values) e ≡ true → IsAllowed z S V R plan (length cut.values) e)
     → Sized z (length cut.units) (next_units plan cut e (length cut.units)).units → FitHere z (V (length cut.values)) R (length cut.units) (next_units plan cut e (length cut.units))
 fit_next z S V R plan cut e at c h a s = go (has_units plan (length cut.values) e) refl s
   where
@@ -276,11 +276,11 @@ fit_next z S V R plan cut e at c h a s = go (has_units plan (length cut.values) 
     go false q t = record { units = tt; slices = tt }
 
 -- the units that these equations add
-abbrev pub added_after : Plan → Cut → List EquationShape → List (List Cell)
+abbrev pub added_after : UnitPlan → Cut → List EquationShape → List (List Cell)
 added_after plan cut [] = []
 added_after plan cut (e ∷ rest) = (next_units plan cut e (length cut.units)).units ++ added_after plan (cut_next plan cut e) rest
 
-pub added_is : (plan : Plan) (cut : Cut) (rest : List EquationShape) → (cut_after plan cut rest).units ≡ cut.units ++ added_after plan cut rest
+pub added_is : (plan : UnitPlan) (cut : Cut) (rest : List EquationShape) → (cut_after plan cut rest).units ≡ cut.units ++ added_after plan cut rest
 added_is plan cut [] = sym (append-nil cut.units)
 added_is plan cut (e ∷ rest) = added_is plan (cut_next plan cut e) rest ∙ append_assoc cut.units (next_units plan cut e (length cut.units)).units (added_after plan (cut_next plan cut e) rest)
 
@@ -289,7 +289,7 @@ sum_push [] c = sum_by-cons (λ (k : ℕ). k) c [] ∙ omega arith
 sum_push (x ∷ xs) c = omega (arith, sum_by-cons (λ (k : ℕ). k) x (xs ++ c ∷ []), sum_by-cons (λ (k : ℕ). k) x xs, sum_push xs c)
 
 -- the first unit of an equation, by the counts of those before it
-pub first_by : (plan : Plan) (i : ℕ) (done more : List ℕ) → plan.counts ≡ done ++ more → length done ≡ i → first_unit plan i ≡ count_by (λ (e : EquationShape). is_input e.op) plan.equations + sum done
+pub first_by : (plan : UnitPlan) (i : ℕ) (done more : List ℕ) → plan.counts ≡ done ++ more → length done ≡ i → first_unit plan i ≡ count_by (λ (e : EquationShape). is_input e.op) plan.equations + sum done
 first_by plan i done more is long =
     let e : take i plan.counts ≡ done = ap (take i) is ∙ ap (λ (n : ℕ). take n (done ++ more)) (sym long) ∙ take-append_seam done more in
     ap (λ (xs : List ℕ). count_by (λ (e : EquationShape). is_input e.op) plan.equations + sum xs) e
@@ -298,7 +298,7 @@ pub record FitAfter (z : ℕ → ℕ) (V R : ℕ → ℕ → ℕ → Type 0) (n 
   pub units : UnitsRead z R n us
   pub values : ValuesThere z V 0 vs
 
-pub fit_after : (z : ℕ → ℕ) (S V R : ℕ → ℕ → ℕ → Type 0) (plan : Plan) (cut : Cut) (i : ℕ) (rest : List EquationShape) (done : List ℕ) (flags : List Bool) → length cut.values ≡ i → plan.counts ≡ done ++ counts_from plan.equations plan.widths i rest flags → length done ≡ i → length flags ≡ length rest → Flags plan i flags
+pub fit_after : (z : ℕ → ℕ) (S V R : ℕ → ℕ → ℕ → Type 0) (plan : UnitPlan) (cut : Cut) (i : ℕ) (rest : List EquationShape) (done : List ℕ) (flags : List Bool) → length cut.values ≡ i → plan.counts ≡ done ++ counts_from plan.equations plan.widths i rest flags → length done ≡ i → length flags ≡ length rest → Flags plan i flags
     → AreCounted plan i rest → AreAllowed z S V R plan i rest → length cut.units ≡ count_by (λ (e : EquationShape). is_input e.op) plan.equations + sum done → ValuesThere z V 0 cut.values → Sized z (length cut.units) (added_after plan cut rest)
     → FitAfter z V R (length cut.units) (added_after plan cut rest) (cut_after plan cut rest).values
 fit_after z S V R plan cut i [] done flags long counts past same f c a at h s = record { units = tt; values = h }

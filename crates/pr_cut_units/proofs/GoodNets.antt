@@ -20,7 +20,7 @@ use Rattle.pr_cut_units.specs.Widening.{Argument, widened}
 use Rattle.pr_cut_units.specs.Operators.{input_unit}
 use Rattle.pr_cut_units.specs.States.{delayed, hold_cell, later_cell, hold_units, held}
 use Rattle.pr_cut_units.specs.Reached.{hold_count}
-use Rattle.pr_cut_units.specs.Equations.{Plan, operand_slices, arguments, input_slices, equation_units, Cut, has_units, next_units, cut_next, cut_after, input_units, cut_start, cut_whole}
+use Rattle.pr_cut_units.specs.Equations.{UnitPlan, operand_slices, arguments, input_slices, equation_units, Cut, has_units, next_units, cut_next, cut_after, input_units, cut_start, cut_whole}
 use Rattle.pr_cut_units.proofs.Operands.{AreOperands, operand_at, operands_more, operands-each, IsGood, AllGood, all-each, top_small}
 use Rattle.pr_cut_units.proofs.GoodParts.{GoodPart, all_before, all_bytes, good_kept, good_unit, good_then, order-append, bytes-append, heads-append}
 use Rattle.pr_cut_units.proofs.GoodTable.{KnownArguments, good_widened, good_at}
@@ -98,7 +98,7 @@ bytes_known : (v k c : ℕ) → AreOperands v (map (λ b. Slice.Const b) (bytes_
 bytes_known v zero c = tt
 bytes_known v (suc k) c = (record { before = tt; byte = omega arith }, bytes_known v k (c / 256))
 
-pub operand_known : (plan : Plan) (values : List (List Slice)) (n : ℕ) (a : Operand) → AllValues n values → AreOperands n (operand_slices plan values a)
+pub operand_known : (plan : UnitPlan) (values : List (List Slice)) (n : ℕ) (a : Operand) → AllValues n values → AreOperands n (operand_slices plan values a)
 operand_known plan values n (Operand.Const c) h = bytes_known n (slices_of (number_width c)) c
 operand_known plan values n (Operand.Eq i) h = value_at n values i h
 operand_known plan values n (Operand.Past rec k) h = operands-each n _ _ (λ i. record { before = tt; byte = tt })
@@ -112,19 +112,19 @@ abbrev pub AllWide : List ℕ → List EquationShape → Type 0
 AllWide widths [] = Unit {0}
 AllWide widths (e ∷ equations) = WideOperands widths e.args × AllWide widths equations
 
-arguments_known : (plan : Plan) (values : List (List Slice)) (n : ℕ) (args : List Operand) (kinds : List Bool) → AllValues n values → WideOperands plan.widths args → KnownArguments n (arguments plan values args kinds)
+arguments_known : (plan : UnitPlan) (values : List (List Slice)) (n : ℕ) (args : List Operand) (kinds : List Bool) → AllValues n values → WideOperands plan.widths args → KnownArguments n (arguments plan values args kinds)
 arguments_known plan values n [] kinds h w = tt
 arguments_known plan values n (a ∷ args) [] h w = tt
 arguments_known plan values n (a ∷ args) (kind ∷ kinds) h w = ((operand_known plan values n a h, w.0), arguments_known plan values n args kinds h w.1)
 
-good_equation : (plan : Plan) (i v : ℕ) (op : Op) (args : List Argument) → (is_input op ≡ true → AreOperands v (input_slices plan i)) → KnownArguments v args → GoodPart v (equation_units plan i op args v)
+good_equation : (plan : UnitPlan) (i v : ℕ) (op : Op) (args : List Argument) → (is_input op ≡ true → AreOperands v (input_slices plan i)) → KnownArguments v args → GoodPart v (equation_units plan i op args v)
 good_equation plan i v Op.Input args h k = good_kept v (input_slices plan i) (h refl)
 good_equation plan i v (Op.Delay c) (x ∷ []) h k = good_delayed v (slice_index plan.widths i) c x.slices k.0.0
 good_equation plan i v (Op.Rec init first) (body ∷ []) h k = good_held v (slice_index plan.widths i) init (hold_count plan.equations i) body k.0.0
 good_equation plan i v op args h k = good_at v (slice_index plan.widths i) op args k
 
 -- ---- the fold
-pub record GoodCut (plan : Plan) (cut : Cut) : Type 0 where
+pub record GoodCut (plan : UnitPlan) (cut : Cut) : Type 0 where
   pub order : AreInOrder 0 cut.units
   pub bytes : UnitsHaveBytes cut.units
   pub heads : HaveHeads cut.units
@@ -145,7 +145,7 @@ input_before (x ∷ before) rest e h =
     let counted : EquationShape → ℕ = λ x. cond (is_input x.op) 1 0 in
     omega (arith, sum_by-cons counted x (take (length before) (before ++ e ∷ rest)), sum_by-cons counted x (before ++ e ∷ rest), input_before before rest e h)
 
-pub good_next : (plan : Plan) (cut : Cut) (before rest : List EquationShape) (e : EquationShape) → plan.equations ≡ before ++ e ∷ rest → length cut.values ≡ length before → WideOperands plan.widths e.args → GoodCut plan cut → GoodCut plan (cut_next plan cut e)
+pub good_next : (plan : UnitPlan) (cut : Cut) (before rest : List EquationShape) (e : EquationShape) → plan.equations ≡ before ++ e ∷ rest → length cut.values ≡ length before → WideOperands plan.widths e.args → GoodCut plan cut → GoodCut plan (cut_next plan cut e)
 good_next plan cut before rest e is long w g =
     let n : ℕ = length cut.units in
     let i : ℕ = length cut.values in
@@ -166,7 +166,7 @@ good_next plan cut before rest e is long w g =
       inputs = omega (arith, g.inputs, more);
     }
 
-pub good_after : (plan : Plan) (cut : Cut) (before rest : List EquationShape) → plan.equations ≡ before ++ rest → length cut.values ≡ length before → AllWide plan.widths rest → GoodCut plan cut → GoodCut plan (cut_after plan cut rest)
+pub good_after : (plan : UnitPlan) (cut : Cut) (before rest : List EquationShape) → plan.equations ≡ before ++ rest → length cut.values ≡ length before → AllWide plan.widths rest → GoodCut plan cut → GoodCut plan (cut_after plan cut rest)
 good_after plan cut before [] is long w g = g
 good_after plan cut before (e ∷ rest) is long w g = good_after plan (cut_next plan cut e) (before ++ e ∷ []) rest
     (is ∙ sym (append_assoc before (e ∷ []) rest))
@@ -206,7 +206,7 @@ inputs_count offset (e ∷ equations) = go (is_input e.op) (λ (o : ℕ). inputs
     go false ih = omega (arith, ih offset)
 
 -- the units of all equations are in order, begin without a carry, and have fields of bytes
-pub good_whole : (plan : Plan) → AllWide plan.widths plan.equations → GoodCut plan (cut_whole plan)
+pub good_whole : (plan : UnitPlan) → AllWide plan.widths plan.equations → GoodCut plan (cut_whole plan)
 good_whole plan w = good_after plan (cut_start plan.equations) [] plan.equations refl refl w (record {
   order = inputs_order 0 0 (input_widths plan.equations);
   bytes = inputs_bytes 0 (input_widths plan.equations);

@@ -19,7 +19,7 @@ use Rattle.pr_cut_units.specs.States.{hold_cell, later_cell, hold_units, held}
 use Rattle.pr_cut_units.specs.Table.{argument_forms}
 use Rattle.pr_cut_units.specs.Counts.{widening_count, body_count}
 use Rattle.pr_cut_units.specs.Reached.{hold_count}
-use Rattle.pr_cut_units.specs.Equations.{Plan, own_count, first_unit, arguments, equation_units, Cut, has_units, next_units, cut_next, counts_from}
+use Rattle.pr_cut_units.specs.Equations.{UnitPlan, own_count, first_unit, arguments, equation_units, Cut, has_units, next_units, cut_next, counts_from}
 use Rattle.pr_cut_units.proofs.CountTable.{takes_widened}
 use Rattle.pr_cut_units.proofs.CountNets.{forms_are, IsCounted, AreCounted, next_count, length-arguments, Flags, flags_more, flags_first}
 use Rattle.pr_cut_units.proofs.FitParts.{Sized, sized-append}
@@ -48,7 +48,7 @@ held_sizes z u w init k body n some l s =
     let many : length vs ≡ suc (k - 1) = ap suc (length-map-range_with_len (λ (j : ℕ). each (slices_of w) (later_cell init (v + j))) 0 (k - 1)) in
     ap (λ (c : ℕ). z (u + c + n)) (sym count) ∙ sized_at z v vs n both.1 (omega (arith, l, many, some)) ∙ hold_long v w init k x n (omega (arith, l))
 
-equation_sizes : (z : ℕ → ℕ) (plan : Plan) (i u init first : ℕ) (args : List Argument) (n : ℕ) → length args ≡ 1 → 1 ≤ hold_count plan.equations i → n < hold_count plan.equations i → Sized z u (equation_units plan i (Op.Rec init first) args u).units → z (u + body_count (slice_index plan.widths i) (argument_forms args) + n) ≡ slices_of (slice_index plan.widths i)
+equation_sizes : (z : ℕ → ℕ) (plan : UnitPlan) (i u init first : ℕ) (args : List Argument) (n : ℕ) → length args ≡ 1 → 1 ≤ hold_count plan.equations i → n < hold_count plan.equations i → Sized z u (equation_units plan i (Op.Rec init first) args u).units → z (u + body_count (slice_index plan.widths i) (argument_forms args) + n) ≡ slices_of (slice_index plan.widths i)
 equation_sizes z plan i u init first (body ∷ []) n long some l s = held_sizes z u (slice_index plan.widths i) init (hold_count plan.equations i) body n some l s
 equation_sizes z plan i u init first [] n long some l s = absurd (omega (arith, long))
 equation_sizes z plan i u init first (x ∷ y ∷ args) n long some l s = absurd (omega (arith, long))
@@ -56,7 +56,7 @@ equation_sizes z plan i u init first (x ∷ y ∷ args) n long some l s = absurd
 some_holds : (n : ℕ) → 1 ≤ max 1 n
 some_holds n = omega arith
 
-next_sizes : (z : ℕ → ℕ) (plan : Plan) (cut : Cut) (e : EquationShape) (init first n : ℕ) → e.op ≡ Op.Rec init first → IsCounted plan (length cut.values) e → has_units plan (length cut.values) e ≡ true → n < hold_count plan.equations (length cut.values) → Sized z (length cut.units) (next_units plan cut e (length cut.units)).units
+next_sizes : (z : ℕ → ℕ) (plan : UnitPlan) (cut : Cut) (e : EquationShape) (init first n : ℕ) → e.op ≡ Op.Rec init first → IsCounted plan (length cut.values) e → has_units plan (length cut.values) e ≡ true → n < hold_count plan.equations (length cut.values) → Sized z (length cut.units) (next_units plan cut e (length cut.units)).units
     → z (length cut.units + body_count (slice_index plan.widths (length cut.values)) (forms_in plan.widths e) + n) ≡ slices_of (slice_index plan.widths (length cut.values))
 next_sizes z plan cut e init first n op c h l s =
     let i : ℕ = length cut.values in
@@ -68,7 +68,7 @@ next_sizes z plan cut e init first n op c h l s =
     let t : Sized z u (made true (Op.Rec init first)).units = subst (λ (o : Op). Sized z u (made true o).units) op (subst (λ (b : Bool). Sized z u (made b e.op).units) h s) in
     ap (λ (fs : List Form). z (u + body_count (slice_index plan.widths i) fs + n)) (sym forms) ∙ equation_sizes z plan i u init first args n long (some_holds _) l t
 
-pub sizes_after : (z : ℕ → ℕ) (plan : Plan) (cut : Cut) (i : ℕ) (rest : List EquationShape) (done : List ℕ) (flags : List Bool) → length cut.values ≡ i → plan.counts ≡ done ++ counts_from plan.equations plan.widths i rest flags → length done ≡ i → length flags ≡ length rest → Flags plan i flags
+pub sizes_after : (z : ℕ → ℕ) (plan : UnitPlan) (cut : Cut) (i : ℕ) (rest : List EquationShape) (done : List ℕ) (flags : List Bool) → length cut.values ≡ i → plan.counts ≡ done ++ counts_from plan.equations plan.widths i rest flags → length done ≡ i → length flags ≡ length rest → Flags plan i flags
     → AreCounted plan i rest → length cut.units ≡ count_by (λ (e : EquationShape). is_input e.op) plan.equations + sum done → Sized z (length cut.units) (added_after plan cut rest)
     → (j init first n : ℕ) (d : EquationShape) → slice_get rest j ≡ Some d → d.op ≡ Op.Rec init first → slice_index_or plan.reached (i + j) false ≡ true → n < hold_count plan.equations (i + j)
     → z (first_unit plan (i + j) + body_count (slice_index plan.widths (i + j)) (forms_in plan.widths d) + n) ≡ slices_of (slice_index plan.widths (i + j))

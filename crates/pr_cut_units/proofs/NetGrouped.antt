@@ -14,7 +14,7 @@ use Rattle.pr_net.specs.declared.cells.Cell.{Cell}
 use Rattle.pr_net.proofs.Lists.{any_found, in_none, head_or_tail}
 use Rattle.pr_cut_units.specs.Groups.{Holds, is_among, group_of}
 use Rattle.pr_cut_units.specs.Reached.{hold_count}
-use Rattle.pr_cut_units.specs.Equations.{Plan, plan_of, hold_unit, input_units, cut_start}
+use Rattle.pr_cut_units.specs.Equations.{UnitPlan, plan_of, hold_unit, input_units, cut_start}
 use Rattle.pr_cut_units.specs.Nets.{holds_from, net_of, limit_passed}
 use Rattle.pr_cut_units.proofs.FitNets.{added_after, added_is}
 use Rattle.pr_cut_units.proofs.GoodNets.{inputs_count}
@@ -27,7 +27,7 @@ use Rattle.pr_cut_units.proofs.ApartLists.{AreApart, AreLists, in_places, front_
 use Rattle.pr_cut_units.proofs.TiedLists.{group_order, group_some, input_outside}
 
 -- the hold units of recurrence i
-abbrev pub holds_of : Plan → ℕ → Holds
+abbrev pub holds_of : UnitPlan → ℕ → Holds
 holds_of plan i = record { first = hold_unit plan i; count = hold_count plan.equations i }
 
 -- a recurrence that has units, at a place of these equations
@@ -38,15 +38,15 @@ pub record IsRec (es : List EquationShape) (flags : List Bool) (i : ℕ) : Type 
   pub reached : slice_index_or flags i false ≡ true
 
 -- the group of one of these recurrences
-record IsGroup (units : List (List Cell)) (plan : Plan) (k : ℕ) (es : List EquationShape) (flags : List Bool) (x : List ℕ) : Type 0 where
+record IsGroup (units : List (List Cell)) (plan : UnitPlan) (k : ℕ) (es : List EquationShape) (flags : List Bool) (x : List ℕ) : Type 0 where
   pub place : ℕ
   pub rec : IsRec es flags place
   pub is : x ≡ group_of units (holds_of plan (k + place))
 
-abbrev groups_from : List (List Cell) → Plan → ℕ → List EquationShape → List Bool → List (List ℕ)
+abbrev groups_from : List (List Cell) → UnitPlan → ℕ → List EquationShape → List Bool → List (List ℕ)
 groups_from units plan k es flags = map (group_of units) (holds_from plan k es flags)
 
-from_holds : (units : List (List Cell)) (plan : Plan) (k : ℕ) (es : List EquationShape) (flags : List Bool) (x : List ℕ) → Contains (groups_from units plan k es flags) x → IsGroup units plan k es flags x
+from_holds : (units : List (List Cell)) (plan : UnitPlan) (k : ℕ) (es : List EquationShape) (flags : List Bool) (x : List ℕ) → Contains (groups_from units plan k es flags) x → IsGroup units plan k es flags x
 from_holds units plan k [] flags x c = absurd (in_none x c)
 from_holds units plan k (e ∷ rest) [] x c = absurd (in_none x c)
 from_holds units plan k (e ∷ rest) (b ∷ flags) x c = go (b && is_rec e.op) refl (λ d. from_holds units plan (suc k) rest flags x d) c
@@ -72,7 +72,7 @@ from_holds units plan k (e ∷ rest) (b ∷ flags) x c = go (b && is_rec e.op) r
     go false q ih d = later (ih d)
 
 -- groups of recurrences among which no two have a unit in common
-holds_apart : (units : List (List Cell)) (plan : Plan) (k : ℕ) (es : List EquationShape) (flags : List Bool)
+holds_apart : (units : List (List Cell)) (plan : UnitPlan) (k : ℕ) (es : List EquationShape) (flags : List Bool)
     → ((a b u : ℕ) → a < b → IsRec es flags a → IsRec es flags b → Contains (group_of units (holds_of plan (k + a))) u → Contains (group_of units (holds_of plan (k + b))) u → ⊥)
     → AreApart (groups_from units plan k es flags)
 holds_apart units plan k [] flags h = tt
@@ -113,7 +113,7 @@ pub rec_parts : (op : Op) → is_rec op ≡ true → RecParts op
 rec_parts (Op.Rec x y) h = record { init = x; first = y; is = refl }
 rec_parts op h = absurd (false≢true h)
 
-held_some : (plan : Plan) (i : ℕ) → 1 ≤ hold_count plan.equations i
+held_some : (plan : UnitPlan) (i : ℕ) → 1 ≤ hold_count plan.equations i
 held_some plan i = omega arith
 
 -- no unit is in the groups of two recurrences

@@ -12,7 +12,7 @@ use Rattle.pr_net.specs.declared.cells.Slice.{Slice}
 use Rattle.pr_net.specs.Shape.{OutputShape, NetShape, cells_of}
 use Rattle.pr_net.specs.Nets.{IsLawfulSlice, IsLawfulOutput, IsNet}
 use Rattle.pr_net.specs.Whole.{SlicesAreBytes, OutputsAreBytes, ShowsBytes}
-use Rattle.pr_cut_units.specs.Equations.{Plan, plan_of, operand_slices, cut_whole}
+use Rattle.pr_cut_units.specs.Equations.{UnitPlan, plan_of, operand_slices, cut_whole}
 use Rattle.pr_cut_units.specs.Nets.{output_of, net_of, limit_passed}
 use Rattle.pr_cut_units.proofs.Operands.{AreOperands}
 use Rattle.pr_cut_units.proofs.GoodNets.{AllValues, good_whole, operand_known}
@@ -38,7 +38,7 @@ pub record NoStates (S : ℕ → ℕ → ℕ → Type 0) (outputs : List Operand
 no_state : ℕ → ℕ → Type 0
 no_state v j = ⊥
 
-output_there : (net : NetShape) (S : ℕ → ℕ → ℕ → Type 0) (outputs : List Operand) (plan : Plan) (values : List (List Slice)) (count : ℕ) (a : Operand) → NoStates S outputs → ((i : ℕ) → a ≡ Operand.Eq i → list_any (reads_equation i) outputs ≡ true) → is_lawful_output count a ≡ true
+output_there : (net : NetShape) (S : ℕ → ℕ → ℕ → Type 0) (outputs : List Operand) (plan : UnitPlan) (values : List (List Slice)) (count : ℕ) (a : Operand) → NoStates S outputs → ((i : ℕ) → a ≡ Operand.Eq i → list_any (reads_equation i) outputs ≡ true) → is_lawful_output count a ≡ true
     → AreOperands (length net.units) (operand_slices plan values a) → ValuesThere (λ v. length (cells_of net v)) S 0 values → (i : ℕ) (d : Slice) → i < length (operand_slices plan values a) → IsLawfulSlice net (get_or (operand_slices plan values a) i d)
 output_there net S outputs plan values count (Operand.Const c) none r h o t i d l = slice_lawful net (λ v j. ⊥) (operand_slices plan values (Operand.Const c)) (λ v j k. k) o (bytes_there (λ v. length (cells_of net v)) (λ v j. ⊥) _ c) i d l
 output_there net S outputs plan values count (Operand.Eq n) none r h o t i d l =
@@ -69,7 +69,7 @@ slices_bytes : (n : ℕ) (x : List Slice) → AreOperands n x → SlicesAreBytes
 slices_bytes n [] h = tt
 slices_bytes n (s ∷ x) h = (h.0.byte, slices_bytes n x h.1)
 
-outputs_bytes : (plan : Plan) (values : List (List Slice)) (n : ℕ) (os : List Operand) → AllValues n values → OutputsAreBytes (map (output_of plan values) os)
+outputs_bytes : (plan : UnitPlan) (values : List (List Slice)) (n : ℕ) (os : List Operand) → AllValues n values → OutputsAreBytes (map (output_of plan values) os)
 outputs_bytes plan values n [] h = tt
 outputs_bytes plan values n (a ∷ os) h = (slices_bytes n (operand_slices plan values a) (operand_known plan values n a h), outputs_bytes plan values n os h)
 

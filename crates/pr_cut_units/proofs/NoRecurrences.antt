@@ -22,7 +22,7 @@ use Rattle.pr_net.specs.Nets.{group_of}
 use Rattle.pr_net.proofs.Lists.{only_head}
 use Rattle.pr_cut_units.specs.Groups.{Holds, groups_at, groups_of}
 use Rattle.pr_cut_units.specs.Reached.{hold_count}
-use Rattle.pr_cut_units.specs.Equations.{Plan, plan_of, hold_unit, input_units, input_slices, cut_start}
+use Rattle.pr_cut_units.specs.Equations.{UnitPlan, plan_of, hold_unit, input_units, input_slices, cut_start}
 use Rattle.pr_cut_units.specs.Nets.{holds_from, net_of, limit_passed}
 use Rattle.pr_cut_units.proofs.FitParts.{AreThere, there-each}
 use Rattle.pr_cut_units.proofs.FitNets.{MayTakeAll, AreAllowed, added_after, added_is}
@@ -35,7 +35,7 @@ use Rattle.pr_cut_units.proofs.NetOf.{StatesInGroups}
 one_group : ℕ → List ℕ
 one_group u = u ∷ []
 
-holds_none : (plan : Plan) (i : ℕ) (es : List EquationShape) (flags : List Bool) → list_any (λ (e : EquationShape). is_rec e.op) es ≡ false → holds_from plan i es flags ≡ []
+holds_none : (plan : UnitPlan) (i : ℕ) (es : List EquationShape) (flags : List Bool) → list_any (λ (e : EquationShape). is_rec e.op) es ≡ false → holds_from plan i es flags ≡ []
 holds_none plan i [] flags h = refl
 holds_none plan i (e ∷ rest) [] h = refl
 holds_none plan i (e ∷ rest) (counts ∷ flags) h =
@@ -157,7 +157,7 @@ rec_there [] i e there h = cc
 rec_there (d ∷ equations) zero e there h = let same : d ≡ e = cc in or_left (is_rec d.op) (list_any (λ (e : EquationShape). is_rec e.op) equations) (ap (λ (q : EquationShape). is_rec q.op) same ∙ h)
 rec_there (d ∷ equations) (suc i) e there h = or_right (is_rec d.op) (list_any (λ (e : EquationShape). is_rec e.op) equations) (rec_there equations i e there h)
 
-take_none : (equations : List EquationShape) (plan : Plan) (i : ℕ) (args : List Operand) → list_any (λ (e : EquationShape). is_rec e.op) equations ≡ false → list_all (is_lawful_operand equations i) args ≡ true → MayTakeAll no_states no_states plan i args
+take_none : (equations : List EquationShape) (plan : UnitPlan) (i : ℕ) (args : List Operand) → list_any (λ (e : EquationShape). is_rec e.op) equations ≡ false → list_all (is_lawful_operand equations i) args ≡ true → MayTakeAll no_states no_states plan i args
 take_none equations plan i [] none h = tt
 take_none equations plan i (Operand.Const c ∷ args) none h = (tt, take_none equations plan i args none (and_parts (is_lawful_operand equations i (Operand.Const c)) (list_all (is_lawful_operand equations i) args) h).1)
 take_none equations plan i (Operand.Eq j ∷ args) none h = (record { at = λ v k s. s }, take_none equations plan i args none (and_parts (is_lawful_operand equations i (Operand.Eq j)) (list_all (is_lawful_operand equations i) args) h).1)

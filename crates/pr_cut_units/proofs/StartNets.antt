@@ -17,7 +17,7 @@ use Rattle.pr_net.specs.Nets.{IsNet}
 use Rattle.pr_net.proofs.Lists.{head_or_tail, in_none, only_head, any_found, all_pass}
 use Rattle.pr_cut_units.specs.Reached.{hold_count}
 use Rattle.pr_cut_units.specs.Groups.{bit_wires, cell_wires}
-use Rattle.pr_cut_units.specs.Equations.{Plan, plan_of, hold_unit, first_unit, input_units, cut_start}
+use Rattle.pr_cut_units.specs.Equations.{UnitPlan, plan_of, hold_unit, first_unit, input_units, cut_start}
 use Rattle.pr_cut_units.specs.Nets.{net_of, limit_passed}
 use Rattle.pr_cut_units.proofs.FitParts.{IsThere, IsBitThere, IsFit, AllFit}
 use Rattle.pr_cut_units.proofs.FitNets.{added_after, added_is}
@@ -84,7 +84,7 @@ cell_fit z T (x ∷ ks) k b c = elim (head_or_tail x k ks c) [
   | inr t ↦ cell_fit z T ks k b.1 t
 ]
 
-units_later : (plan : Plan) (i m : ℕ) → i ≤ m → first_unit plan i ≤ first_unit plan m
+units_later : (plan : UnitPlan) (i m : ℕ) → i ≤ m → first_unit plan i ≤ first_unit plan m
 units_later plan i m l = elim (cases_lt i m) [
   | inl s ↦ (let t = sum_upto plan.counts i m s in omega (arith, t))
   | inr s ↦ (let e : i ≡ m = omega (arith, l, s) in let t = ap (first_unit plan) e in omega (arith, t))

@@ -18,7 +18,7 @@ use Rattle.pr_net.specs.Shape.{NetShape, cells_of}
 use Rattle.pr_net.proofs.Lists.{any_here, at_head, in_tail}
 use Rattle.pr_cut_units.specs.Counts.{body_count}
 use Rattle.pr_cut_units.specs.Reached.{reached, hold_count}
-use Rattle.pr_cut_units.specs.Equations.{Plan, plan_of, own_count, first_unit, hold_unit, input_units, cut_start, has_units}
+use Rattle.pr_cut_units.specs.Equations.{UnitPlan, plan_of, own_count, first_unit, hold_unit, input_units, cut_start, has_units}
 use Rattle.pr_cut_units.specs.Nets.{net_of}
 use Rattle.pr_cut_units.proofs.CountNets.{length-reached}
 use Rattle.pr_cut_units.proofs.GoodNets.{inputs_count}
@@ -32,7 +32,7 @@ use Rattle.pr_cut_units.proofs.ReachedLaws.{past_held}
 use Rattle.pr_cut_units.proofs.HoldSizes.{sizes_after}
 
 -- a recurrence that has units, and one of its hold units
-pub record HoldAt (z : ℕ → ℕ) (plan : Plan) (rec v : ℕ) : Type 0 where
+pub record HoldAt (z : ℕ → ℕ) (plan : UnitPlan) (rec v : ℕ) : Type 0 where
   pub equation : EquationShape
   pub there : slice_get plan.equations rec ≡ Some equation
   pub init : ℕ
@@ -44,7 +44,7 @@ pub record HoldAt (z : ℕ → ℕ) (plan : Plan) (rec v : ℕ) : Type 0 where
   pub held : place < hold_count plan.equations rec
 
 -- a state that the operands of equation i may have: of a recurrence on the past of which it depends
-pub record MayHave (z : ℕ → ℕ) (plan : Plan) (i v j : ℕ) : Type 0 where
+pub record MayHave (z : ℕ → ℕ) (plan : UnitPlan) (i v j : ℕ) : Type 0 where
   pub rec : ℕ
   pub depends : DependsOnPast plan.equations rec i
   pub before : i ≤ rec
@@ -52,12 +52,12 @@ pub record MayHave (z : ℕ → ℕ) (plan : Plan) (i v j : ℕ) : Type 0 where
   pub cell : j < z v
 
 -- and its own slices: of another equation than itself
-pub record MayShow (z : ℕ → ℕ) (plan : Plan) (i v j : ℕ) : Type 0 where
+pub record MayShow (z : ℕ → ℕ) (plan : UnitPlan) (i v j : ℕ) : Type 0 where
   pub state : MayHave z plan i v j
   pub other : i ≢ state.rec
 
 -- a unit of an equation, and a state that its operands may have
-pub record ReadsState (z : ℕ → ℕ) (plan : Plan) (u v j : ℕ) : Type 0 where
+pub record ReadsState (z : ℕ → ℕ) (plan : UnitPlan) (u v j : ℕ) : Type 0 where
   pub number : ℕ
   pub equation : EquationShape
   pub there : slice_get plan.equations number ≡ Some equation
@@ -67,7 +67,7 @@ pub record ReadsState (z : ℕ → ℕ) (plan : Plan) (u v j : ℕ) : Type 0 whe
   pub state : MayHave z plan number v j
 
 -- a later hold unit, and the one before it
-pub record ReadsBefore (z : ℕ → ℕ) (plan : Plan) (u v : ℕ) : Type 0 where
+pub record ReadsBefore (z : ℕ → ℕ) (plan : UnitPlan) (u v : ℕ) : Type 0 where
   pub rec : ℕ
   pub equation : EquationShape
   pub there : slice_get plan.equations rec ≡ Some equation
@@ -81,14 +81,14 @@ pub record ReadsBefore (z : ℕ → ℕ) (plan : Plan) (u v : ℕ) : Type 0 wher
   pub before : v ≡ hold_unit plan rec + place
 
 -- the states that a unit may read: those of its equation, its own, and that of the hold unit before it
-abbrev pub ReadBy : (ℕ → ℕ) → Plan → ℕ → ℕ → ℕ → Type 0
+abbrev pub ReadBy : (ℕ → ℕ) → UnitPlan → ℕ → ℕ → ℕ → Type 0
 ReadBy z plan u v j = ReadsState z plan u v j ⊎ (((u ≡ v) × (j < z v)) ⊎ (ReadsBefore z plan u v × (j < z v)))
 
 -- each hold unit has a cell for each byte of its recurrence
-pub record HoldsSized (z : ℕ → ℕ) (plan : Plan) : Type 0 where
+pub record HoldsSized (z : ℕ → ℕ) (plan : UnitPlan) : Type 0 where
   pub at : (rec init first n : ℕ) (d : EquationShape) → slice_get plan.equations rec ≡ Some d → d.op ≡ Op.Rec init first → slice_index_or plan.reached rec false ≡ true → n < hold_count plan.equations rec → z (hold_unit plan rec + n) ≡ slices_of (slice_index plan.widths rec)
 
-pub hold_is : (plan : Plan) (rec : ℕ) (d : EquationShape) → slice_get plan.equations rec ≡ Some d → hold_unit plan rec ≡ first_unit plan rec + body_count (slice_index plan.widths rec) (forms_in plan.widths d)
+pub hold_is : (plan : UnitPlan) (rec : ℕ) (d : EquationShape) → slice_get plan.equations rec ≡ Some d → hold_unit plan rec ≡ first_unit plan rec + body_count (slice_index plan.widths rec) (forms_in plan.widths d)
 hold_is plan rec d there = ap (λ (o : Option EquationShape). first_unit plan rec + option_map_or (λ (e : EquationShape). body_count (slice_index plan.widths rec) (forms_in plan.widths e)) o 0) there
 
 -- ---- what an equation takes
@@ -133,7 +133,7 @@ input_arity : (op : Op) → is_input op ≡ true → arity op ≡ 0
 input_arity Op.Input h = refl
 input_arity op h = absurd (false≢true h)
 
-take_empty : (S V : ℕ → ℕ → ℕ → Type 0) (plan : Plan) (i : ℕ) (args : List Operand) → length args ≡ 0 → MayTakeAll S V plan i args
+take_empty : (S V : ℕ → ℕ → ℕ → Type 0) (plan : UnitPlan) (i : ℕ) (args : List Operand) → length args ≡ 0 → MayTakeAll S V plan i args
 take_empty S V plan i [] h = tt
 take_empty S V plan i (a ∷ args) h = absurd (omega (arith, h))
 

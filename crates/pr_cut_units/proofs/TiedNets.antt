@@ -12,7 +12,7 @@ use Rattle.pr_flat.specs.Facts.{is_input, is_rec}
 use Rattle.pr_flat.specs.Widths.{forms_in}
 use Rattle.pr_cut_units.specs.Counts.{body_count}
 use Rattle.pr_cut_units.specs.Reached.{hold_count}
-use Rattle.pr_cut_units.specs.Equations.{Plan, plan_of, own_count, counts_from, first_unit, hold_unit, has_units}
+use Rattle.pr_cut_units.specs.Equations.{UnitPlan, plan_of, own_count, counts_from, first_unit, hold_unit, has_units}
 use Rattle.pr_cut_units.specs.Nets.{holds_from}
 use Rattle.pr_cut_units.specs.Groups.{Holds}
 use Rattle.pr_flat.specs.Facts.{IsFlat}
@@ -100,7 +100,7 @@ holds_end equations widths outputs i init first e there op r =
     omega (arith, n, m, o, b, h)
 
 -- a recurrence that is reached has a group
-pub holds_there : (plan : Plan) (k : ℕ) (es : List EquationShape) (flags : List Bool) (i : ℕ) (e : EquationShape) → slice_get es i ≡ Some e → is_rec e.op ≡ true → slice_index_or flags i false ≡ true → Contains (holds_from plan k es flags) (record { first = hold_unit plan (k + i); count = hold_count plan.equations (k + i) })
+pub holds_there : (plan : UnitPlan) (k : ℕ) (es : List EquationShape) (flags : List Bool) (i : ℕ) (e : EquationShape) → slice_get es i ≡ Some e → is_rec e.op ≡ true → slice_index_or flags i false ≡ true → Contains (holds_from plan k es flags) (record { first = hold_unit plan (k + i); count = hold_count plan.equations (k + i) })
 holds_there plan k [] flags i e there op h = cc
 holds_there plan k (d ∷ es) [] i e there op h = absurd (false≢true h)
 holds_there plan k (d ∷ es) (b ∷ flags) zero e there op h =

@@ -14,7 +14,7 @@ use Rattle.pr_flat.specs.Shape.{EquationShape}
 use Rattle.pr_flat.specs.Facts.{arity, is_input, is_rec, is_width, has_lawful_width, is_lawful_operand, IsFlat}
 use Rattle.pr_flat.specs.Widths.{operand_forms, forms_in, settled_width, is_open, AreWidths}
 use Rattle.pr_flat.proofs.WidthLemmas.{past_of, equation_at, declared_of}
-use Rattle.pr_cut_units.specs.Equations.{Plan, plan_of}
+use Rattle.pr_cut_units.specs.Equations.{UnitPlan, plan_of}
 use Rattle.pr_cut_units.proofs.CountNets.{is_stated, IsCounted, AreCounted}
 use Rattle.pr_cut_units.proofs.GoodNets.{WideOperands, AllWide}
 
@@ -231,7 +231,7 @@ counted_from equations outputs given widths i (e ∷ rest) flat wide r = (equati
 pub are_counted : (equations : List EquationShape) (outputs : List Operand) (widths : List ℕ) → IsFlat equations outputs → AreWidths equations widths → AreCounted (plan_of equations widths outputs) 0 equations
 are_counted equations outputs widths flat wide = counted_from equations outputs outputs widths 0 equations flat wide (rest_all equations)
 
-wide_from : (plan : Plan) (i : ℕ) (rest : List EquationShape) → AreCounted plan i rest → AllWide plan.widths rest
+wide_from : (plan : UnitPlan) (i : ℕ) (rest : List EquationShape) → AreCounted plan i rest → AllWide plan.widths rest
 wide_from plan i [] h = tt
 wide_from plan i (e ∷ rest) h = (h.0.wide, wide_from plan (suc i) rest h.1)
 

@@ -34,13 +34,13 @@ counts_from equations widths i (e ∷ rest) [] = []
 counts_from equations widths i (e ∷ rest) (counts ∷ flags) = (if counts then own_count equations widths i e e.op else 0) ∷ counts_from equations widths (suc i) rest flags
 
 -- what units are made by: the equations with their widths, which of them an output can be reached from, and how many units each has
-pub record Plan : Type 0 where
+pub record UnitPlan : Type 0 where
   pub equations : List EquationShape
   pub widths : List ℕ
   pub reached : List Bool
   pub counts : List ℕ
 
-abbrev pub plan_of : List EquationShape → List ℕ → List Operand → Plan
+abbrev pub plan_of : List EquationShape → List ℕ → List Operand → UnitPlan
 plan_of equations widths outputs = record {
   equations = equations;
   widths = widths;
@@ -49,14 +49,14 @@ plan_of equations widths outputs = record {
 }
 
 -- the units of all inputs and equations
-abbrev pub all_units : Plan → ℕ
+abbrev pub all_units : UnitPlan → ℕ
 all_units plan = count_by (λ (e : EquationShape). is_input e.op) plan.equations + sum plan.counts
 
 -- the number of the first unit of equation i, and of the first hold unit of a recurrence
-abbrev pub first_unit : Plan → ℕ → ℕ
+abbrev pub first_unit : UnitPlan → ℕ → ℕ
 first_unit plan i = count_by (λ (e : EquationShape). is_input e.op) plan.equations + sum (take i plan.counts)
 
-abbrev pub hold_unit : Plan → ℕ → ℕ
+abbrev pub hold_unit : UnitPlan → ℕ → ℕ
 hold_unit plan rec = first_unit plan rec + option_map_or (λ (e : EquationShape). body_count (slice_index plan.widths rec) (forms_in plan.widths e)) (slice_get plan.equations rec) 0
 
 -- the slices of a number
@@ -64,22 +64,22 @@ abbrev pub number_slices : ℕ → List Slice
 number_slices c = map (λ b. Slice.Const b) (bytes_of (slices_of (number_width c)) c)
 
 -- the slices of an operand, where the equations have these; a past has the states of a hold unit, which may be made later
-abbrev pub operand_slices : Plan → List (List Slice) → Operand → List Slice
+abbrev pub operand_slices : UnitPlan → List (List Slice) → Operand → List Slice
 operand_slices plan values (Operand.Const c) = number_slices c
 operand_slices plan values (Operand.Eq i) = slice_index_or values i []
 operand_slices plan values (Operand.Past rec k) = past_slices (slice_index plan.widths rec) (hold_unit plan rec + (k - 1))
 
 -- operands as they are read
-abbrev pub arguments : Plan → List (List Slice) → List Operand → List Bool → List Argument
+abbrev pub arguments : UnitPlan → List (List Slice) → List Operand → List Bool → List Argument
 arguments plan values (a ∷ args) (kind ∷ kinds) = record { slices = operand_slices plan values a; form = record { signed = kind; width = operand_width plan.widths a } } ∷ arguments plan values args kinds
 arguments plan values args kinds = []
 
 -- the slices of equation i, an input: its unit has the number of the inputs before it
-abbrev pub input_slices : Plan → ℕ → List Slice
+abbrev pub input_slices : UnitPlan → ℕ → List Slice
 input_slices plan i = each (slices_of (slice_index plan.widths i)) (λ j. Slice.Of (count_by (λ (e : EquationShape). is_input e.op) (take i plan.equations)) j)
 
 -- the units of equation i
-abbrev pub equation_units : Plan → ℕ → Op → List Argument → Making
+abbrev pub equation_units : UnitPlan → ℕ → Op → List Argument → Making
 equation_units plan i Op.Input args = kept (input_slices plan i)
 equation_units plan i (Op.Delay c) (x ∷ []) = delayed (slice_index plan.widths i) c x.slices
 equation_units plan i (Op.Rec init first) (body ∷ []) = held (slice_index plan.widths i) init (hold_count plan.equations i) body
@@ -91,21 +91,21 @@ pub record Cut : Type 0 where
   pub values : List (List Slice)
 
 -- an input, or an equation from which an output can be reached
-abbrev pub has_units : Plan → ℕ → EquationShape → Bool
+abbrev pub has_units : UnitPlan → ℕ → EquationShape → Bool
 has_units plan i e = is_input e.op || slice_index_or plan.reached i false
 
-abbrev pub next_units : Plan → Cut → EquationShape → Making
+abbrev pub next_units : UnitPlan → Cut → EquationShape → Making
 next_units plan cut e =
     let i = length cut.values in
     if has_units plan i e then equation_units plan i e.op (arguments plan cut.values e.args e.kinds) else kept []
 
 -- one more equation
-abbrev pub cut_next : Plan → Cut → EquationShape → Cut
+abbrev pub cut_next : UnitPlan → Cut → EquationShape → Cut
 cut_next plan cut e =
     let p = next_units plan cut e (length cut.units) in
     record { units = cut.units ++ p.units; values = cut.values ++ p.slices ∷ [] }
 
-abbrev pub cut_after : Plan → Cut → List EquationShape → Cut
+abbrev pub cut_after : UnitPlan → Cut → List EquationShape → Cut
 cut_after plan cut [] = cut
 cut_after plan cut (e ∷ rest) = cut_after plan (cut_next plan cut e) rest
 
@@ -117,5 +117,5 @@ input_units offset (w ∷ widths) = (input_unit w offset 0).units ++ input_units
 abbrev pub cut_start : List EquationShape → Cut
 cut_start equations = record { units = input_units 0 (input_widths equations); values = [] }
 
-abbrev pub cut_whole : Plan → Cut
+abbrev pub cut_whole : UnitPlan → Cut
 cut_whole plan = cut_after plan (cut_start plan.equations) plan.equations

@@ -3,10 +3,10 @@ use Rattle.std.specs.Prelude.{ℕ, List}
 use Rattle.pr_flat.specs.declared.flat.Flat.{Flat}
 use Rattle.pr_flat.specs.Flats.{equations_of}
 use Rattle.pr_net.specs.Shape.{NetShape}
-use Rattle.pr_cut_units.specs.Equations.{Plan, plan_of}
+use Rattle.pr_cut_units.specs.Equations.{UnitPlan, plan_of}
 use Rattle.pr_cut_units.specs.Nets.{net_of}
 
-abbrev pub flat_plan : Flat → List ℕ → Plan
+abbrev pub flat_plan : Flat → List ℕ → UnitPlan
 flat_plan flat widths = plan_of (equations_of flat) widths flat.outputs.items
 
 abbrev pub flat_net : Flat → List ℕ → NetShape

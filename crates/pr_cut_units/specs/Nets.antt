@@ -11,11 +11,11 @@ use Rattle.pr_flat.specs.Values.{input_widths}
 use Rattle.pr_net.specs.declared.cells.Slice.{Slice}
 use Rattle.pr_net.specs.Shape.{OutputShape, NetShape}
 use Rattle.pr_cut_units.specs.Reached.{hold_count}
-use Rattle.pr_cut_units.specs.Equations.{Plan, plan_of, hold_unit, operand_slices, Cut, cut_whole}
+use Rattle.pr_cut_units.specs.Equations.{UnitPlan, plan_of, hold_unit, operand_slices, Cut, cut_whole}
 use Rattle.pr_cut_units.specs.Groups.{Holds, groups_of}
 
 -- the hold units of the recurrences among these equations, from number i on, that have units
-abbrev pub holds_from : Plan → ℕ → List EquationShape → List Bool → List Holds
+abbrev pub holds_from : UnitPlan → ℕ → List EquationShape → List Bool → List Holds
 holds_from plan i [] flags = []
 holds_from plan i (e ∷ rest) [] = []
 holds_from plan i (e ∷ rest) (counts ∷ flags) =
@@ -23,11 +23,11 @@ holds_from plan i (e ∷ rest) (counts ∷ flags) =
     then record { first = hold_unit plan i; count = hold_count plan.equations i } ∷ holds_from plan (suc i) rest flags
     else holds_from plan (suc i) rest flags
 
-abbrev pub output_of : Plan → List (List Slice) → Operand → OutputShape
+abbrev pub output_of : UnitPlan → List (List Slice) → Operand → OutputShape
 output_of plan values output = record { width = operand_width plan.widths output; slices = operand_slices plan values output }
 
 -- a net of these units and values
-abbrev pub net_with : Plan → Cut → List Operand → NetShape
+abbrev pub net_with : UnitPlan → Cut → List Operand → NetShape
 net_with plan cut outputs = record {
   units = cut.units;
   groups = groups_of cut.units (holds_from plan 0 plan.equations plan.reached);

@@ -10,7 +10,7 @@ use Rattle.pr_scope_names.specs.declared.names.Static.TheVariants.{Constant, Fun
 use Rattle.pr_scope_names.specs.declared.names.Statics.{Statics}
 use Rattle.pr_scope_names.specs.Names.{Known, before, built_in, entries_in, horizon_in, known_in}
 use Rattle.pr_lang_meaning.specs.Programs.{function_at}
-use Rattle.pr_expand_spec.specs.Expressions.{AllMade, Inlined, called, function_of}
+use Rattle.pr_expand_spec.specs.Expressions.{AllExpanded, Inlined, called, function_of}
 use Rattle.pr_expand_spec.specs.Programs.{inlined, signed_function}
 use Rattle.pr_expand.specs.Scopes.{IsCallable, IsEarlier, IsScene, after, called_at, callee_in, defined, functions_before, visible_at, visible_in}
 
@@ -94,13 +94,13 @@ entered items s t name f k is item entries horizon known scene =
     }
 
 -- the one that is built in
-pub signed_is : (items : List Item) (s : Statics) (name : List ℕ) (f : Callee) (a : AllMade) → known_in s name ≡ Some (Function f) → f.item ≡ None → IsScene items s → signed_function a.given a.equations ≡ called (function_of (known_in s name) (functions_before items (horizon_in s) name)) a
+pub signed_is : (items : List Item) (s : Statics) (name : List ℕ) (f : Callee) (a : AllExpanded) → known_in s name ≡ Some (Function f) → f.item ≡ None → IsScene items s → signed_function a.given a.equations ≡ called (function_of (known_in s name) (functions_before items (horizon_in s) name)) a
 signed_is items s name f a is item scene =
     let does : functions_before items (horizon_in s) name ≡ Some (called_at items f.item) = ap (λ (h : Option ℕ). functions_before items h name) scene.at.here ∙ (scene.at.calls name f is).does in
     ap (λ (o : Option ℕ). called_at items o a.given a.equations) (sym item) ∙
     sym (λ i. called (function_of (is i) (does i)) a)
 
-pub called_is : (items : List Item) (s t : Statics) (name : List ℕ) (f : Callee) (k : ℕ) (o : Option Item) (a : AllMade) → known_in s name ≡ Some (Function f) → f.item ≡ Some k → horizon_in t ≡ Some k → known_in t ≡ before k (entries_in s) → IsScene items s → o ≡ slice_get items k → defined o (visible_in items t) a.given a.equations ≡ called (function_of (known_in s name) (functions_before items (horizon_in s) name)) a
+pub called_is : (items : List Item) (s t : Statics) (name : List ℕ) (f : Callee) (k : ℕ) (o : Option Item) (a : AllExpanded) → known_in s name ≡ Some (Function f) → f.item ≡ Some k → horizon_in t ≡ Some k → known_in t ≡ before k (entries_in s) → IsScene items s → o ≡ slice_get items k → defined o (visible_in items t) a.given a.equations ≡ called (function_of (known_in s name) (functions_before items (horizon_in s) name)) a
 called_is items s t name f k o a is item horizon known scene there =
     let callable = scene.at.calls name f is in
     let less : k < scene.item = subst (IsEarlier scene.item) item callable.earlier in

@@ -14,22 +14,22 @@ use Rattle.pr_lang.specs.declared.trees.Stmt.TheVariants.{Let, Rec, For}
 use Rattle.pr_lang.specs.declared.trees.Stmt.TheOpen.{Stmt-F}
 use Rattle.pr_lang.specs.declared.trees.Stmt.TheFolds.{fold-roll-Stmt}
 use Rattle.pr_expand_spec.specs.declared.givens.Given.{Given}
-use Rattle.pr_expand_spec.specs.Making.{Equations, Made, constant}
-use Rattle.pr_expand_spec.specs.Expressions.{AllMade, Plan, Streams, Visible, all_made, called, concatenated, function_of, plan_of, plan_step}
+use Rattle.pr_expand_spec.specs.Making.{Equations, Expanded, constant}
+use Rattle.pr_expand_spec.specs.Expressions.{AllExpanded, ExprPlan, Streams, Visible, all_made, called, concatenated, function_of, plan_of, plan_step}
 use Rattle.pr_expand.specs.Descents.{making}
 use Rattle.pr_expand_spec.specs.Statements.{Change, Progress, change_of, changes_of, let_change, rec_change, stmt_step, turns, with_index}
 
 -- what was given before
-abbrev pub with_given : List Given → AllMade → AllMade
+abbrev pub with_given : List Given → AllExpanded → AllExpanded
 with_given done a = record { equations = a.equations; given = done ++ a.given }
 
 call_law : (name : List ℕ) (args : Vec Expr Global) (v : Visible) (env : Streams) (es : Equations) → making (Call name args) v env es ≡ called (function_of (v.known name) (v.functions name)) (all_made (map plan_of args.items) v env es)
 unfolding expressions.roll-Expr denote.Hole.Carrier.roll
-call_law name args v env es = ap (λ (p : Plan). p.making v env es) (fold-roll-Expr Plan plan_step (Expr-F.Call name args))
+call_law name args v env es = ap (λ (p : ExprPlan). p.making v env es) (fold-roll-Expr ExprPlan plan_step (Expr-F.Call name args))
 
 cat_law : (parts : Vec Expr Global) (v : Visible) (env : Streams) (es : Equations) → making (Cat parts) v env es ≡ concatenated (all_made (map plan_of parts.items) v env es).given (all_made (map plan_of parts.items) v env es).equations
 unfolding expressions.roll-Expr denote.Hole.Carrier.roll
-cat_law parts v env es = ap (λ (p : Plan). p.making v env es) (fold-roll-Expr Plan plan_step (Expr-F.Cat parts))
+cat_law parts v env es = ap (λ (p : ExprPlan). p.making v env es) (fold-roll-Expr ExprPlan plan_step (Expr-F.Cat parts))
 
 let_law : (target : Ref) (width : Option ℕ) (e : Expr) (v : Visible) (s : Progress) → change_of (Let target width e) v s ≡ let_change target width e v s
 unfolding statements.roll-Stmt denote.Hole.Carrier.roll
@@ -54,12 +54,12 @@ for_is st index low high body lent v s from to is all begin end =
     ap (λ (x : Stmt). change_of x v s) is ∙ (for_law index low high body v s ∙ (λ i. turns (sym end i - sym begin i) (sym begin i) (λ at. changes_of (sym all i) (with_index index at v)) s))
 
 -- a call, whose arguments are made
-pub call_is : (v w : Visible) (env : Streams) (es : Equations) (e : Expr) (name : List ℕ) (args : Vec Expr Global) (lent : List Expr) (a : AllMade) → e ≡ Call name args → lent ≡ args.items → w ≡ v → a ≡ all_made (map plan_of lent) v env es → called (function_of (w.known name) (w.functions name)) a ≡ making e v env es
+pub call_is : (v w : Visible) (env : Streams) (es : Equations) (e : Expr) (name : List ℕ) (args : Vec Expr Global) (lent : List Expr) (a : AllExpanded) → e ≡ Call name args → lent ≡ args.items → w ≡ v → a ≡ all_made (map plan_of lent) v env es → called (function_of (w.known name) (w.functions name)) a ≡ making e v env es
 call_is v w env es e name args lent a is all same parts =
     let there : a ≡ all_made (map plan_of args.items) v env es = parts ∙ ap (λ (xs : List Expr). all_made (map plan_of xs) v env es) all in
     (λ i. called (function_of ((same i).known name) ((same i).functions name)) (there i)) ∙ sym (ap (λ (y : Expr). making y v env es) is ∙ call_law name args v env es)
 
-pub cat_is : (v : Visible) (env : Streams) (es : Equations) (e : Expr) (parts : Vec Expr Global) (lent : List Expr) (a : AllMade) → e ≡ Cat parts → lent ≡ parts.items → a ≡ all_made (map plan_of lent) v env es → concatenated a.given a.equations ≡ making e v env es
+pub cat_is : (v : Visible) (env : Streams) (es : Equations) (e : Expr) (parts : Vec Expr Global) (lent : List Expr) (a : AllExpanded) → e ≡ Cat parts → lent ≡ parts.items → a ≡ all_made (map plan_of lent) v env es → concatenated a.given a.equations ≡ making e v env es
 cat_is v env es e parts lent a is all made =
     let there : a ≡ all_made (map plan_of parts.items) v env es = made ∙ ap (λ (xs : List Expr). all_made (map plan_of xs) v env es) all in
     (λ i. concatenated (there i).given (there i).equations) ∙ sym (ap (λ (y : Expr). making y v env es) is ∙ cat_law parts v env es)
@@ -78,10 +78,10 @@ turns_step f end at s t w h step rest =
     ap (turns (end - (at + 1)) (at + 1) f) step ∙ (sym (ap (λ (n : ℕ). turns n at f s) more) ∙ rest)
 
 -- parts, one after the other
-pub parts_step : (v u : Visible) (env : Streams) (es : Equations) (done now : List Given) (exprs : List Expr) (i : ℕ) (e : Expr) (x : Made) (w : AllMade) → i < length exprs → e ≡ get_or exprs i e → u ≡ v → x ≡ making e u env es → now ≡ done ++ x.given ∷ [] → with_given done (all_made (map plan_of (drop i exprs)) v env es) ≡ w → with_given now (all_made (map plan_of (drop (i + 1) exprs)) v env x.equations) ≡ w
+pub parts_step : (v u : Visible) (env : Streams) (es : Equations) (done now : List Given) (exprs : List Expr) (i : ℕ) (e : Expr) (x : Expanded) (w : AllExpanded) → i < length exprs → e ≡ get_or exprs i e → u ≡ v → x ≡ making e u env es → now ≡ done ++ x.given ∷ [] → with_given done (all_made (map plan_of (drop i exprs)) v env es) ≡ w → with_given now (all_made (map plan_of (drop (i + 1) exprs)) v env x.equations) ≡ w
 parts_step v u env es done now exprs i e x w h is same step grown rest =
-    let after : Equations → AllMade = λ more. all_made (map plan_of (drop (i + 1) exprs)) v env more in
-    let joined : Made → AllMade = λ m. record { equations = (after m.equations).equations; given = done ++ (m.given ∷ (after m.equations).given) } in
+    let after : Equations → AllExpanded = λ more. all_made (map plan_of (drop (i + 1) exprs)) v env more in
+    let joined : Expanded → AllExpanded = λ m. record { equations = (after m.equations).equations; given = done ++ (m.given ∷ (after m.equations).given) } in
     let one : x ≡ making e v env es = step ∙ (λ k. making e (same k) env es) in
     (λ j. with_given (grown j) (after x.equations)) ∙
     ((λ j. record { equations = (after x.equations).equations; given = append_assoc done (x.given ∷ []) (after x.equations).given j }) ∙

@@ -12,8 +12,8 @@ use Rattle.pr_lang.specs.declared.trees.Expr.TheVariants.{Call, Cat}
 use Rattle.pr_flat.specs.declared.equations.Op.TheVariants as op
 use Rattle.pr_flat.specs.declared.equations.Operand.{Operand}
 use Rattle.pr_expand_spec.specs.declared.givens.Given.{Given}
-use Rattle.pr_expand_spec.specs.Making.{Equations, Made, declare_last, delayed, delayed_once, lawful, made, with_equation}
-use Rattle.pr_expand_spec.specs.Expressions.{AllMade, Inlined, Streams, Visible, all_made, assigned, beside, called, concatenated, declared_at_operator, declared_else, function_of, plan_of}
+use Rattle.pr_expand_spec.specs.Making.{Equations, Expanded, declare_last, delayed, delayed_once, lawful, made, with_equation}
+use Rattle.pr_expand_spec.specs.Expressions.{AllExpanded, Inlined, Streams, Visible, all_made, assigned, beside, called, concatenated, declared_at_operator, declared_else, function_of, plan_of}
 use Rattle.pr_expand_spec.specs.Statements.{Progress, change_of, changes_of, named, turns, with_index}
 use Rattle.pr_expand_spec.specs.Programs.{World, item_change, items_change, no_streams, passed, with_arguments}
 use Rattle.pr_scope_facts.proofs.Appending.{AllAppend, Appends, DoesAppend, append-index, appends-both, appends-length, appends-nothing, appends-with, arguments-append, assigned-appends, changes-append, delayed-appends, items-append, making-appends, visible-appends}
@@ -36,8 +36,8 @@ passed_on r s a b from grown past =
     subst (λ x. IfErr x (λ t. IsPast t b)) (sym p.1) (past_more p.0 a b grown (subst (λ t. IsPast t a) (sym p.2) past))
 
 -- a whole that appends to a part
-pub longer : (a : Equations) (m w : Made) → w ≡ m → Appends a m.equations → length a ≤ length w.equations
-longer a m w is grown = subst (λ (x : Made). length a ≤ length x.equations) (sym is) (appends-length a m.equations grown)
+pub longer : (a : Equations) (m w : Expanded) → w ≡ m → Appends a m.equations → length a ≤ length w.equations
+longer a m w is grown = subst (λ (x : Expanded). length a ≤ length x.equations) (sym is) (appends-length a m.equations grown)
 
 pub longer_progress : (a : Equations) (p w : Progress) → p ≡ w → Appends a p.equations → length a ≤ length w.equations
 longer_progress a p w is grown = subst (λ (x : Progress). length a ≤ length x.equations) is (appends-length a p.equations grown)
@@ -47,7 +47,7 @@ parts_append : (v : Visible) → AllAppend v → (exprs : List Expr) (env : Stre
 parts_append v fs [] env es = appends-nothing es
 parts_append v fs (e ∷ exprs) env es = appends-both es (making e v env es).equations _ (making-appends v fs e env es) (parts_append v fs exprs env (making e v env es).equations)
 
-called_appends : (f : Option Inlined) (a : AllMade) → IfSome f DoesAppend → Appends a.equations (called f a).equations
+called_appends : (f : Option Inlined) (a : AllExpanded) → IfSome f DoesAppend → Appends a.equations (called f a).equations
 called_appends None a does = appends-nothing a.equations
 called_appends (Some f) a does = does a.given a.equations
 
@@ -56,7 +56,7 @@ args_within v fs env es e name args lent is all =
     let a = all_made (map plan_of lent) v env es in
     longer a.equations (called (function_of (v.known name) (v.functions name)) a) (making e v env es) (sym (call_is v v env es e name args lent a is all refl refl)) (called_appends (function_of (v.known name) (v.functions name)) a (fs.at name))
 
-beside_appends : (above : Made) (gs : List Given) → Appends above.equations (beside above gs).equations
+beside_appends : (above : Expanded) (gs : List Given) → Appends above.equations (beside above gs).equations
 beside_appends above [] = appends-nothing above.equations
 beside_appends above (g ∷ gs) =
     let next = with_equation op.Cat (above.given ∷ g ∷ []) None above.equations in
@@ -72,13 +72,13 @@ parts_within v env es e parts lent is all =
     longer a.equations (concatenated a.given a.equations) (making e v env es) (sym (cat_is v env es e parts lent a is all refl)) (concatenated_appends a.given a.equations)
 
 -- one of several parts
-pub part_within : (v u : Visible) → AllAppend v → (env : Streams) (es : Equations) (done : List Given) (exprs : List Expr) (i : ℕ) (e : Expr) (w : AllMade) → i < length exprs → e ≡ get_or exprs i e → u ≡ v → with_given done (all_made (map plan_of (drop i exprs)) v env es) ≡ w → length (making e u env es).equations ≤ length w.equations
+pub part_within : (v u : Visible) → AllAppend v → (env : Streams) (es : Equations) (done : List Given) (exprs : List Expr) (i : ℕ) (e : Expr) (w : AllExpanded) → i < length exprs → e ≡ get_or exprs i e → u ≡ v → with_given done (all_made (map plan_of (drop i exprs)) v env es) ≡ w → length (making e u env es).equations ≤ length w.equations
 part_within v u fs env es done exprs i e w h is same rest =
     let x = making e u env es in
     let step = parts_step v u env es done (done ++ x.given ∷ []) exprs i e x w h is same refl refl rest in
-    subst (λ (a : AllMade). length x.equations ≤ length a.equations) step (appends-length _ _ (parts_append v fs (drop (i + 1) exprs) env x.equations))
+    subst (λ (a : AllExpanded). length x.equations ≤ length a.equations) step (appends-length _ _ (parts_append v fs (drop (i + 1) exprs) env x.equations))
 
-pub beside_within : (above : Made) (parts : List Given) (i : ℕ) (d : Given) (w : Made) → i < length parts → beside above (drop i parts) ≡ w → length (with_equation op.Cat (above.given ∷ get_or parts i d ∷ []) None above.equations).equations ≤ length w.equations
+pub beside_within : (above : Expanded) (parts : List Given) (i : ℕ) (d : Given) (w : Expanded) → i < length parts → beside above (drop i parts) ≡ w → length (with_equation op.Cat (above.given ∷ get_or parts i d ∷ []) None above.equations).equations ≤ length w.equations
 beside_within above parts i d w h rest =
     let next = with_equation op.Cat (above.given ∷ get_or parts i d ∷ []) None above.equations in
     longer next.equations _ w (sym (sym (at_drop_more (beside above) parts i d h) ∙ rest)) (beside_appends next (drop (i + 1) parts))
@@ -89,12 +89,12 @@ declared_length w [] = refl
 declared_length w (e ∷ []) = refl
 declared_length w (e ∷ f ∷ rest) = ap suc (declared_length w (f ∷ rest))
 
-pub operator_within : (b : Bool) (width : Option ℕ) (m : Made) → length m.equations ≤ length (declared_at_operator b width m).equations
+pub operator_within : (b : Bool) (width : Option ℕ) (m : Expanded) → length m.equations ≤ length (declared_at_operator b width m).equations
 operator_within true (Some w) m = let same = declared_length w m.equations in omega (arith, same)
 operator_within true None m = omega arith
 operator_within false width m = omega arith
 
-else_within : (b : Bool) (width : Option ℕ) (m : Made) → length m.equations ≤ length (declared_else b width m).equations
+else_within : (b : Bool) (width : Option ℕ) (m : Expanded) → length m.equations ≤ length (declared_else b width m).equations
 else_within false (Some w) m = appends-length _ _ (appends-with op.Fit (m.given ∷ []) (Some w) m.equations)
 else_within false None m = omega arith
 else_within true width m = omega arith
@@ -128,7 +128,7 @@ pub same_long : (p w : Progress) → p ≡ w → length p.equations ≤ length w
 same_long p w is = longer_progress p.equations p w is (appends-nothing p.equations)
 
 -- ---- delays, arguments and items
-pub delay_within : (n k c : ℕ) (q : Operand) (signed : Bool) (es : Equations) (w : Made) → k < n → delayed (n - k) (record { operand = q; signed = signed }) c es ≡ w → length (delayed_once q c es).equations ≤ length w.equations
+pub delay_within : (n k c : ℕ) (q : Operand) (signed : Bool) (es : Equations) (w : Expanded) → k < n → delayed (n - k) (record { operand = q; signed = signed }) c es ≡ w → length (delayed_once q c es).equations ≤ length w.equations
 delay_within n k c q signed es w h rest =
     let more : n - k ≡ suc (n - (k + 1)) = omega (arith, h) in
     let once = delayed_once q c es in

@@ -6,18 +6,18 @@ use Rattle.pr_expand_spec.specs.declared.givens.Standing.{Standing}
 use Rattle.pr_expand.specs.declared.stops.Stop.{Stop}
 use Rattle.pr_expand.specs.declared.stops.Stop.TheVariants.{Limit, Memory}
 use Rattle.pr_expand.specs.declared.ledgers.Ledger.{Ledger}
-use Rattle.pr_expand.specs.declared.ledgers.Made as made
-use Rattle.pr_expand.specs.declared.ledgers.AllMade as all
+use Rattle.pr_expand.specs.declared.ledgers.Expanded as made
+use Rattle.pr_expand.specs.declared.ledgers.AllExpanded as all
 use Rattle.pr_expand.specs.declared.ledgers.Progress as progress
 use Rattle.pr_expand.specs.declared.environment.Environment.{Environment}
-use Rattle.pr_expand_spec.specs.Making.{Equations, Made}
-use Rattle.pr_expand_spec.specs.Expressions.{Streams, AllMade}
+use Rattle.pr_expand_spec.specs.Making.{Equations, Expanded}
+use Rattle.pr_expand_spec.specs.Expressions.{Streams, AllExpanded}
 use Rattle.pr_expand_spec.specs.Statements.{Progress}
 
 abbrev pub shapes_in : Ledger → Equations
 shapes_in l = shapes_of l.equations.items
 
-abbrev pub made_of : made.Made → Made
+abbrev pub made_of : made.Expanded → Expanded
 made_of m = record { equations = shapes_in m.ledger; given = m.given }
 
 abbrev pub streams_by : ByInstance Standing → Streams
@@ -26,7 +26,7 @@ streams_by s = λ name place. placed (s name) place
 abbrev pub streams_in : Environment → Streams
 streams_in e = streams_by (instances_in e.instances)
 
-abbrev pub all_of : all.AllMade → AllMade
+abbrev pub all_of : all.AllExpanded → AllExpanded
 all_of a = record { equations = shapes_in a.ledger; given = a.given.items }
 
 abbrev pub progress_of : progress.Progress → Progress
@@ -38,5 +38,5 @@ IsPast Limit es = 16384 < length es
 IsPast (Memory e) es = ⊤
 
 -- the body that is made, unless the counted one has more equations
-abbrev pub longer : ℕ → Made → Made → Made
+abbrev pub longer : ℕ → Expanded → Expanded → Expanded
 longer n counted body = cond (nat_le n (length body.equations)) body counted

@@ -12,71 +12,71 @@ use Rattle.pr_flat.specs.declared.equations.Op.TheVariants.{Input}
 use Rattle.pr_flat.specs.declared.equations.Operand.TheVariants.{Eq}
 use Rattle.pr_flat.specs.Shape.{EquationShape}
 use Rattle.pr_expand_spec.specs.declared.givens.Standing.{Standing}
-use Rattle.pr_expand_spec.specs.Making.{Equations, Made, constant, lawful, made, with_equation}
-use Rattle.pr_expand_spec.specs.Expressions.{AllMade, all_made, assigned, called, declared_at_operator, earlier}
+use Rattle.pr_expand_spec.specs.Making.{Equations, Expanded, constant, lawful, made, with_equation}
+use Rattle.pr_expand_spec.specs.Expressions.{AllExpanded, all_made, assigned, called, declared_at_operator, earlier}
 use Rattle.pr_expand_spec.specs.Expressions.{function_of, place, plan_of}
 use Rattle.pr_expand_spec.specs.Statements.{Progress, change_of, changes_of, let_change, rec_change}
 use Rattle.pr_expand_spec.specs.Statements.{turns, with_index, with_standing}
 use Rattle.pr_expand_spec.specs.Programs.{input_width, no_streams, with_arguments}
 use Rattle.pr_expand.specs.declared.environment.Environment.{Environment}
-use Rattle.pr_expand.specs.declared.ledgers.AllMade as all
+use Rattle.pr_expand.specs.declared.ledgers.AllExpanded as all
 use Rattle.pr_expand.specs.declared.ledgers.Ledger.{Ledger}
 use Rattle.pr_expand.specs.declared.ledgers.Progress as progress
-use Rattle.pr_expand.specs.declared.ledgers.Made as one
+use Rattle.pr_expand.specs.declared.ledgers.Expanded as one
 use Rattle.pr_expand.specs.Code.{all_of, made_of, progress_of, shapes_in, streams_in}
 use Rattle.pr_expand.specs.Descents.{rest_of}
 use Rattle.pr_expand.specs.Scopes.{defined, visible_at, visible_in}
 
 -- one equation more, and its operand
-abbrev pub added : EquationShape → Bool → Equations → Made
+abbrev pub added : EquationShape → Bool → Equations → Expanded
 added e signed es = made (es ++ e ∷ []) (Eq (length es)) signed
 
 -- what an instance stands for
 abbrev pub standing_in : Statics → Environment → Ref → Option Standing
 standing_in statics env target = streams_in env target.name (place target (known_in statics))
 
-abbrev pub earlier_made : Fixed → Statics → Option Standing → Ledger → Made
+abbrev pub earlier_made : Fixed → Statics → Option Standing → Ledger → Expanded
 earlier_made back statics standing ledger = earlier (constant back (known_in statics)) standing (shapes_in ledger)
 
 -- ---- expressions
 
-abbrev pub expr_made : Expr → List Item → Statics → Environment → Ledger → Made
+abbrev pub expr_made : Expr → List Item → Statics → Environment → Ledger → Expanded
 expr_made e items statics env ledger = (plan_of e).making (visible_in items statics) (streams_in env) (shapes_in ledger)
 
 -- an expression whose first operand is made
-abbrev pub rest_made : Expr → List Item → Statics → Environment → one.Made → Made
+abbrev pub rest_made : Expr → List Item → Statics → Environment → one.Expanded → Expanded
 rest_made e items statics env first = rest_of e (visible_in items statics) (streams_in env) (made_of first)
 
-abbrev pub exprs_made : List Expr → List Item → Statics → Environment → Ledger → AllMade
+abbrev pub exprs_made : List Expr → List Item → Statics → Environment → Ledger → AllExpanded
 exprs_made exprs items statics env ledger =
     all_made (map plan_of exprs) (visible_in items statics) (streams_in env) (shapes_in ledger)
 
 -- a value under its declared width
-abbrev pub value_made : Option ℕ → Expr → List Item → Statics → Environment → Ledger → Made
+abbrev pub value_made : Option ℕ → Expr → List Item → Statics → Environment → Ledger → Expanded
 value_made width e items statics env ledger =
     assigned width e (visible_in items statics) (streams_in env) (shapes_in ledger)
 
 -- the body of a recurrence, on these equations
-abbrev pub recurring : Option ℕ → Expr → List Item → Statics → Environment → Equations → Made
+abbrev pub recurring : Option ℕ → Expr → List Item → Statics → Environment → Equations → Expanded
 recurring width e items statics env es =
     let plan = plan_of e in
     declared_at_operator plan.is_operator (lawful width) (plan.making (visible_in items statics) (streams_in env) es)
 
 -- ---- calls
 
-abbrev pub call_made : List ℕ → List Item → Statics → all.AllMade → Made
+abbrev pub call_made : List ℕ → List Item → Statics → all.AllExpanded → Expanded
 call_made name items statics args =
     called (function_of (known_in statics name) ((visible_in items statics).functions name)) (all_of args)
 
-abbrev pub item_called : Option Item → List Item → Statics → all.AllMade → Made
+abbrev pub item_called : Option Item → List Item → Statics → all.AllExpanded → Expanded
 item_called item items statics args = defined item (visible_in items statics) args.given.items (shapes_in args.ledger)
 
-abbrev pub arguments_made : List Param → all.AllMade → Progress
+abbrev pub arguments_made : List Param → all.AllExpanded → Progress
 arguments_made params args =
     with_arguments params args.given.items (record { streams = no_streams; equations = shapes_in args.ledger })
 
 -- the statements of a body, and its result under the declared width
-abbrev pub body_run : List Stmt → Option ℕ → Expr → List Item → Statics → progress.Progress → Made
+abbrev pub body_run : List Stmt → Option ℕ → Expr → List Item → Statics → progress.Progress → Expanded
 body_run body width last items statics begun =
     let ended = changes_of body (visible_in items statics) (progress_of begun) in
     assigned width last (visible_in items statics) ended.streams ended.equations
@@ -113,10 +113,10 @@ rec_made target width init e items statics begun =
 
 -- ---- items
 
-abbrev pub input_made : ℕ → progress.Progress → Made
+abbrev pub input_made : ℕ → progress.Progress → Expanded
 input_made width begun = with_equation Input [] (Some (input_width width)) (progress_of begun).equations
 
-abbrev pub output_made : Option ℕ → Expr → List Item → ℕ → progress.Progress → Made
+abbrev pub output_made : Option ℕ → Expr → List Item → ℕ → progress.Progress → Expanded
 output_made width e items number begun =
     let now = progress_of begun in
     assigned width e (visible_at items number) now.streams now.equations

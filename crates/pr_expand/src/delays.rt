@@ -5,7 +5,7 @@ ghost use Rattle.pr_expand.specs.Code.{IsPast, made_of, shapes_in};
 ghost use Rattle.pr_expand.specs.Keys.{delay_key};
 
 use crate::keys::key_numbers;
-use crate::ledgers::{Ledger, Made};
+use crate::ledgers::{Expanded, Ledger};
 use crate::making::delay_of;
 use crate::stops::Stop;
 use pr_expand_spec::Given;
@@ -23,13 +23,13 @@ fn find(ledger: &Ledger, operand: Operand, init: u64) -> (Option<u32>, [u64; 4])
 }
 
 /// One sample earlier.
-fn delay_once(alloc: Global, ledger: Ledger, operand: Operand, init: u64) -> Result<Made, Stop>
+fn delay_once(alloc: Global, ledger: Ledger, operand: Operand, init: u64) -> Result<Expanded, Stop>
     ensures value { IfOk result (λ m. made_of m ≡ delayed_once operand init (shapes_in ledger)) }
     ensures limit { IfErr result (λ s. IsPast s (delayed_once operand init (shapes_in ledger)).equations) }
 {
     let (found, key) = find(&ledger, operand, init);
     match found {
-        Some(number) => Ok(Made {
+        Some(number) => Ok(Expanded {
             ledger,
             given: Given {
                 operand: Operand::Eq(number),
@@ -47,7 +47,7 @@ pub fn delay(
     given: Given,
     init: u64,
     samples: u64,
-) -> Result<Made, Stop>
+) -> Result<Expanded, Stop>
     ensures value { IfOk result (λ m. made_of m ≡ delayed samples given init (shapes_in ledger)) }
     ensures limit { IfErr result (λ s. IsPast s (delayed samples given init (shapes_in ledger)).equations) }
 {
@@ -59,7 +59,7 @@ pub fn delay(
         ledger = once.ledger;
         operand = once.given.operand;
     }
-    Ok(Made {
+    Ok(Expanded {
         ledger,
         given: Given { operand, signed },
     })

@@ -15,7 +15,7 @@ ghost use Rattle.pr_expand.specs.Scopes.{IsScene, callee_in};
 
 use crate::descents::{Descent, descend};
 use crate::environment::Environment;
-use crate::ledgers::{AllMade, Ledger, Made, Progress, cut};
+use crate::ledgers::{AllExpanded, Expanded, Ledger, Progress, cut};
 use crate::making::{choose, fit, one, two, with_width};
 use crate::operands::{
     concatenate, declared, gives, op_of, place_at, refer, refer_earlier, shift, value_of,
@@ -60,7 +60,7 @@ struct Span<'a> {
 
 /// A loop's index at one of its values.
 #[derive(Clone, Copy)]
-struct Turn<'a> {
+struct IndexValue<'a> {
     index: &'a Name,
     at: u64,
 }
@@ -87,7 +87,7 @@ fn make(
     env: &Environment,
     ledger: Ledger,
     expr: &Expr,
-) -> Result<Made, Stop>
+) -> Result<Expanded, Stop>
     requires { IsScene items.now statics.old }
     ensures value { IfOk result (λ m. made_of m ≡ expr_made expr.now items.now statics.old env.now ledger) }
     ensures limit { IfErr result (λ s. IsPast s (expr_made expr.now items.now statics.old env.now ledger).equations) }
@@ -113,7 +113,7 @@ fn make_innermost(
     env: &Environment,
     ledger: Ledger,
     expr: &Expr,
-) -> Result<Made, Stop>
+) -> Result<Expanded, Stop>
     requires scene { IsScene items.now statics.old }
     requires innermost { first_in expr.now ≡ None }
     ensures value { IfOk result (λ m. made_of m ≡ expr_made expr.now items.now statics.old env.now ledger) }
@@ -143,9 +143,9 @@ fn make_rest(
     items: &[Item],
     statics: &mut Statics,
     env: &Environment,
-    made: Made,
+    made: Expanded,
     expr: &Expr,
-) -> Result<Made, Stop>
+) -> Result<Expanded, Stop>
     requires { IsScene items.now statics.old }
     ensures value { IfOk result (λ m. made_of m ≡ rest_made expr.now items.now statics.old env.now made) }
     ensures limit { IfErr result (λ s. IsPast s (rest_made expr.now items.now statics.old env.now made).equations) }
@@ -182,7 +182,7 @@ fn make_all(
     env: &Environment,
     ledger: Ledger,
     exprs: &[Expr],
-) -> Result<AllMade, Stop>
+) -> Result<AllExpanded, Stop>
     requires { IsScene items.now statics.old }
     ensures value { IfOk result (λ a. all_of a ≡ exprs_made exprs.now items.now statics.old env.now ledger) }
     ensures limit { IfErr result (λ s. IsPast s (exprs_made exprs.now items.now statics.old env.now ledger).equations) }
@@ -198,7 +198,7 @@ fn make_all(
             Ok(()) => {}
         }
     }
-    Ok(AllMade { ledger, given })
+    Ok(AllExpanded { ledger, given })
 }
 
 /// The item of this number.
@@ -219,8 +219,8 @@ fn call(
     items: &[Item],
     statics: &mut Statics,
     name: &Name,
-    all: AllMade,
-) -> Result<Made, Stop>
+    all: AllExpanded,
+) -> Result<Expanded, Stop>
     requires { IsScene items.now statics.old }
     ensures value { IfOk result (λ m. made_of m ≡ call_made name.now items.now statics.old all) }
     ensures limit { IfErr result (λ s. IsPast s (call_made name.now items.now statics.old all).equations) }
@@ -241,7 +241,7 @@ fn call(
 }
 
 /// The argument, read as signed.
-fn signed(all: AllMade) -> Made
+fn signed(all: AllExpanded) -> Expanded
     ensures { made_of result ≡ signed_function all.given.items (shapes_in all.ledger) }
 {
     match all.given.as_slice() {
@@ -260,8 +260,8 @@ fn call_item(
     items: &[Item],
     statics: &mut Statics,
     item: Option<&Item>,
-    all: AllMade,
-) -> Result<Made, Stop>
+    all: AllExpanded,
+) -> Result<Expanded, Stop>
     requires { IsScene items.now statics.old }
     ensures value { IfOk result (λ m. made_of m ≡ item_called (option_map (λ i. i.now) item.entry)
         items.now statics.old all) }
@@ -310,7 +310,7 @@ fn run(
     begun: Progress,
     body: &[Stmt],
     last: &Assigned,
-) -> Result<Made, Stop>
+) -> Result<Expanded, Stop>
     requires { IsScene items.now statics.old }
     ensures value { IfOk result (λ m. made_of m ≡ body_run body.now last.now.width last.now.expr.now
         items.now statics.old begun) }
@@ -323,7 +323,7 @@ fn run(
 }
 
 /// An argument under its parameter's declared width.
-fn passed(alloc: Global, ledger: Ledger, width: Option<u64>, given: Given) -> Result<Made, Stop>
+fn passed(alloc: Global, ledger: Ledger, width: Option<u64>, given: Given) -> Result<Expanded, Stop>
     ensures value { IfOk result (λ m. made_of m ≡ programs.passed width given (shapes_in ledger)) }
     ensures limit { IfErr result (λ s. IsPast s (programs.passed width given (shapes_in ledger)).equations) }
 {
@@ -334,7 +334,7 @@ fn passed(alloc: Global, ledger: Ledger, width: Option<u64>, given: Given) -> Re
 }
 
 /// The streams of a function's parameters.
-fn with_arguments(alloc: Global, params: &[Param], all: AllMade) -> Result<Progress, Stop>
+fn with_arguments(alloc: Global, params: &[Param], all: AllExpanded) -> Result<Progress, Stop>
     ensures value { IfOk result (λ p. progress_of p ≡ arguments_made params.now all) }
     ensures limit { IfErr result (λ s. IsPast s (arguments_made params.now all).equations) }
 {
@@ -380,7 +380,7 @@ pub fn make_assigned(
     env: &Environment,
     ledger: Ledger,
     value: &Assigned,
-) -> Result<Made, Stop>
+) -> Result<Expanded, Stop>
     requires { IsScene items.now statics.old }
     ensures value { IfOk result (λ m. made_of m ≡ value_made value.now.width value.now.expr.now
         items.now statics.old env.now ledger) }
@@ -394,7 +394,12 @@ pub fn make_assigned(
 }
 
 /// A declared width for what is made.
-fn assign(alloc: Global, made: Made, width: Option<u8>, operator: bool) -> Result<Made, Stop>
+fn assign(
+    alloc: Global,
+    made: Expanded,
+    width: Option<u8>,
+    operator: bool,
+) -> Result<Expanded, Stop>
     ensures value { IfOk result (λ m. made_of m ≡ declared_else operator width
         (declared_at_operator operator width (made_of made))) }
     ensures limit { IfErr result (λ s. IsPast s (declared_else operator width
@@ -413,7 +418,7 @@ fn assign(alloc: Global, made: Made, width: Option<u8>, operator: bool) -> Resul
 }
 
 /// A declared width for an operator's own equation.
-fn declare_operator(made: Made, width: Option<u8>, operator: bool) -> Made
+fn declare_operator(made: Expanded, width: Option<u8>, operator: bool) -> Expanded
     ensures { made_of result ≡ declared_at_operator operator width (made_of made) }
 {
     if !operator {
@@ -426,10 +431,10 @@ fn declare_operator(made: Made, width: Option<u8>, operator: bool) -> Made
 }
 
 /// The operator's own equation gets the declared width.
-fn declare(made: Made, width: u8) -> Made
+fn declare(made: Expanded, width: u8) -> Expanded
     ensures { made_of result ≡ made_with (made_of made) (declare_last width (shapes_in made.ledger)) }
 {
-    Made {
+    Expanded {
         ledger: with_width(made.ledger, width),
         given: made.given,
     }
@@ -528,7 +533,7 @@ fn make_turns(
 {
     let mut now = begun;
     for at in span.from..span.to {
-        let turn = Turn {
+        let turn = IndexValue {
             index: span.index,
             at,
         };
@@ -544,7 +549,7 @@ fn make_turn(
     items: &[Item],
     statics: &mut Statics,
     begun: Progress,
-    turn: &Turn,
+    turn: &IndexValue,
     body: &[Stmt],
 ) -> Result<Progress, Stop>
     requires { IsScene items.now statics.old }
@@ -606,7 +611,7 @@ pub fn named(
     env: Environment,
     name: &Name,
     at: Option<u64>,
-    made: Made,
+    made: Expanded,
 ) -> Result<Progress, Stop>
     ensures value { IfOk result (λ p. progress_of p ≡ statements.named name.now at (streams_in env) (made_of made)) }
     ensures limit { (es : Equations) → IfErr result (λ s. IsPast s es) }
@@ -627,7 +632,7 @@ fn make_body(
     env: &Environment,
     ledger: Ledger,
     body: &Assigned,
-) -> Result<Made, Stop>
+) -> Result<Expanded, Stop>
     requires { IsScene items.now statics.old }
     ensures value { IfOk result (λ m. made_of m ≡ recurring body.now.width body.now.expr.now
         items.now statics.old env.now (shapes_in ledger)) }
@@ -647,9 +652,9 @@ fn settle(
     items: &[Item],
     statics: &mut Statics,
     env: &Environment,
-    made: Made,
+    made: Expanded,
     counted: &Counted,
-) -> Result<Made, Stop>
+) -> Result<Expanded, Stop>
     requires { IsScene items.now statics.old }
     ensures value { IfOk result (λ m. made_of m ≡ longer counted.now.number
         (recurring counted.now.body.width counted.now.body.expr.now items.now statics.old env.now

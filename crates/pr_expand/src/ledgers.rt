@@ -25,14 +25,14 @@ pub struct Ledger {
 
 /// What comes of an expression: the equations with its own, and its operand.
 #[derive(Drop)]
-pub struct Made {
+pub struct Expanded {
     pub ledger: Ledger,
     pub given: Given,
 }
 
 /// What comes of several expressions.
 #[derive(Drop)]
-pub struct AllMade {
+pub struct AllExpanded {
     pub ledger: Ledger,
     pub given: Vec<Given>,
 }

@@ -8,7 +8,7 @@ ghost use Rattle.pr_expand.specs.Keys.{delay_key, key_in};
 ghost use Rattle.pr_expand.specs.Parts.{added};
 
 use crate::keys::{key_of, noted};
-use crate::ledgers::{Ledger, Made};
+use crate::ledgers::{Expanded, Ledger};
 use crate::stops::Stop;
 use pr_base::Cap;
 use pr_expand_spec::Given;
@@ -22,7 +22,7 @@ fn push_keyed(
     equation: Equation,
     key: Option<[u64; 4]>,
     signed: bool,
-) -> Result<Made, Stop>
+) -> Result<Expanded, Stop>
     requires { key ≡ key_in equation.op equation.args.items }
     ensures value { IfOk result (λ m. made_of m ≡ added (equation_shape equation) signed (shapes_in ledger)) }
     ensures limit { IfErr result (λ s. IsPast s (shapes_in ledger ++ equation_shape equation ∷ [])) }
@@ -38,7 +38,7 @@ fn push_keyed(
     let delays = noted(delays, key, number as u32)?;
     match equations.push(equation) {
         Err(failed) => Err(Stop::Memory(failed.into())),
-        Ok(()) => Ok(Made {
+        Ok(()) => Ok(Expanded {
             ledger: Ledger { equations, delays },
             given: Given {
                 operand: Operand::Eq(number as u32),
@@ -49,7 +49,7 @@ fn push_keyed(
 }
 
 /// One equation more.
-fn push(ledger: Ledger, equation: Equation, signed: bool) -> Result<Made, Stop>
+fn push(ledger: Ledger, equation: Equation, signed: bool) -> Result<Expanded, Stop>
     ensures value { IfOk result (λ m. made_of m ≡ added (equation_shape equation) signed (shapes_in ledger)) }
     ensures limit { IfErr result (λ s. IsPast s (shapes_in ledger ++ equation_shape equation ∷ [])) }
 {
@@ -144,7 +144,7 @@ fn signed_of_one(op: Op, a: bool) -> bool
 }
 
 /// An input.
-pub fn input(alloc: Global, ledger: Ledger, width: u8) -> Result<Made, Stop>
+pub fn input(alloc: Global, ledger: Ledger, width: u8) -> Result<Expanded, Stop>
     ensures value { IfOk result (λ m. made_of m ≡ with_equation Op.Input [] (Some width) (shapes_in ledger)) }
     ensures limit { IfErr result (λ s. IsPast s (with_equation Op.Input [] (Some width) (shapes_in ledger)).equations) }
 {
@@ -164,7 +164,7 @@ pub fn one(
     op: Op,
     a: Given,
     declared: Option<u8>,
-) -> Result<Made, Stop>
+) -> Result<Expanded, Stop>
     ensures value { IfOk result (λ m. made_of m ≡ with_equation op (a ∷ []) declared (shapes_in ledger)) }
     ensures limit { IfErr result (λ s. IsPast s (with_equation op (a ∷ []) declared (shapes_in ledger)).equations) }
 {
@@ -180,7 +180,7 @@ pub fn delay_of(
     operand: Operand,
     init: u64,
     key: [u64; 4],
-) -> Result<Made, Stop>
+) -> Result<Expanded, Stop>
     requires { key ≡ delay_key operand init }
     ensures value { IfOk result (λ m. made_of m ≡ delay_step None operand init (shapes_in ledger)) }
     ensures limit { IfErr result (λ s. IsPast s (delay_step None operand init (shapes_in ledger)).equations) }
@@ -209,7 +209,7 @@ fn signed_of_two(op: Op, a: bool, b: bool) -> bool
 }
 
 /// An operation on two operands.
-pub fn two(alloc: Global, ledger: Ledger, op: Op, a: Given, b: Given) -> Result<Made, Stop>
+pub fn two(alloc: Global, ledger: Ledger, op: Op, a: Given, b: Given) -> Result<Expanded, Stop>
     ensures value { IfOk result (λ m. made_of m ≡ with_equation op (a ∷ b ∷ []) None (shapes_in ledger)) }
     ensures limit { IfErr result (λ s. IsPast s (with_equation op (a ∷ b ∷ []) None (shapes_in ledger)).equations) }
 {
@@ -219,7 +219,7 @@ pub fn two(alloc: Global, ledger: Ledger, op: Op, a: Given, b: Given) -> Result<
 }
 
 /// The first of two operands where the condition is 1, and else the second.
-pub fn choose(alloc: Global, ledger: Ledger, c: Given, a: Given, b: Given) -> Result<Made, Stop>
+pub fn choose(alloc: Global, ledger: Ledger, c: Given, a: Given, b: Given) -> Result<Expanded, Stop>
     ensures value { IfOk result (λ m. made_of m ≡ with_equation Op.Choose (c ∷ a ∷ b ∷ []) None (shapes_in ledger)) }
     ensures limit { IfErr result (λ s. IsPast s
         (with_equation Op.Choose (c ∷ a ∷ b ∷ []) None (shapes_in ledger)).equations) }
@@ -229,7 +229,7 @@ pub fn choose(alloc: Global, ledger: Ledger, c: Given, a: Given, b: Given) -> Re
 }
 
 /// The same operand, under a declared width.
-pub fn fit(alloc: Global, ledger: Ledger, a: Given, width: u8) -> Result<Made, Stop>
+pub fn fit(alloc: Global, ledger: Ledger, a: Given, width: u8) -> Result<Expanded, Stop>
     ensures value { IfOk result (λ m. made_of m ≡ fitted width a (shapes_in ledger)) }
     ensures limit { IfErr result (λ s. IsPast s (fitted width a (shapes_in ledger)).equations) }
 {

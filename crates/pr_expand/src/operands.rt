@@ -11,7 +11,7 @@ ghost use Rattle.pr_expand.specs.Parts.{earlier_made, standing_in};
 
 use crate::delays::delay;
 use crate::environment::Environment;
-use crate::ledgers::{AllMade, Ledger, Made};
+use crate::ledgers::{AllExpanded, Expanded, Ledger};
 use crate::making::two;
 use crate::stops::Stop;
 use pr_expand_spec::{Given, Standing};
@@ -21,10 +21,10 @@ use pr_scope_names::{Offence, Static, Statics, read_static};
 use std::alloc::Global;
 
 /// An operand, with no equation more.
-pub fn gives(ledger: Ledger, operand: Operand, signed: bool) -> Made
+pub fn gives(ledger: Ledger, operand: Operand, signed: bool) -> Expanded
     ensures { made_of result ≡ made (shapes_in ledger) operand signed }
 {
-    Made {
+    Expanded {
         ledger,
         given: Given { operand, signed },
     }
@@ -45,7 +45,7 @@ pub fn place_at(statics: &Statics, target: &Ref) -> Option<u64>
 }
 
 /// What is not known before the samples.
-fn refer_stream(ledger: Ledger, standing: Option<Standing>) -> Made
+fn refer_stream(ledger: Ledger, standing: Option<Standing>) -> Expanded
     ensures { (at : Option ℕ) → made_of result ≡ referred None at standing (shapes_in ledger) }
 {
     match standing {
@@ -58,7 +58,7 @@ fn refer_stream(ledger: Ledger, standing: Option<Standing>) -> Made
 }
 
 /// A name, alone or with an index.
-pub fn refer(statics: &Statics, env: &Environment, ledger: Ledger, target: &Ref) -> Made
+pub fn refer(statics: &Statics, env: &Environment, ledger: Ledger, target: &Ref) -> Expanded
     ensures { made_of result ≡ referred (known_in statics.now target.now.name) (place target.now (known_in statics.now))
         (standing_in statics.now env.now target.now) (shapes_in ledger) }
 {
@@ -89,7 +89,7 @@ fn delay_standing(
     ledger: Ledger,
     standing: Option<Standing>,
     samples: u64,
-) -> Result<Made, Stop>
+) -> Result<Expanded, Stop>
     ensures value { IfOk result (λ m. made_of m ≡ earlier samples standing (shapes_in ledger)) }
     ensures limit { IfErr result (λ s. IsPast s (earlier samples standing (shapes_in ledger)).equations) }
 {
@@ -110,7 +110,7 @@ pub fn refer_earlier(
     ledger: Ledger,
     target: &Ref,
     back: &Fixed,
-) -> Result<Made, Stop>
+) -> Result<Expanded, Stop>
     ensures value { IfOk result (λ m. made_of m ≡ earlier_made back.now statics.now
         (standing_in statics.now env.now target.now) ledger) }
     ensures limit { IfErr result (λ s. IsPast s (earlier_made back.now statics.now
@@ -179,7 +179,7 @@ pub fn shift(op: BinOp, amount: Option<Result<u64, Offence>>) -> Option<Op>
 }
 
 /// Parts beside what stands above them.
-fn beside_all(alloc: Global, above: Made, parts: &[Given]) -> Result<Made, Stop>
+fn beside_all(alloc: Global, above: Expanded, parts: &[Given]) -> Result<Expanded, Stop>
     ensures value { IfOk result (λ m. made_of m ≡ beside (made_of above) parts.now) }
     ensures limit { IfErr result (λ s. IsPast s (beside (made_of above) parts.now).equations) }
 {
@@ -192,11 +192,11 @@ fn beside_all(alloc: Global, above: Made, parts: &[Given]) -> Result<Made, Stop>
 }
 
 /// The first part highest.
-pub fn concatenate(alloc: Global, all: AllMade) -> Result<Made, Stop>
+pub fn concatenate(alloc: Global, all: AllExpanded) -> Result<Expanded, Stop>
     ensures value { IfOk result (λ m. made_of m ≡ concatenated all.given.items (shapes_in all.ledger)) }
     ensures limit { IfErr result (λ s. IsPast s (concatenated all.given.items (shapes_in all.ledger)).equations) }
 {
-    let AllMade { ledger, given } = all;
+    let AllExpanded { ledger, given } = all;
     match given.as_slice() {
         [] => Ok(gives(ledger, Operand::Const(0), false)),
         [first, rest @ ..] => {

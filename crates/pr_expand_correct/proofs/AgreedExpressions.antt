@@ -26,8 +26,8 @@ use Rattle.pr_lang_meaning.specs.Streams.{Bound, all_parts, constant_stream, del
 use Rattle.pr_lang_meaning.specs.Expressions.{Function, Sense, operator, constant_shift, sense_of, sense_step, meaning_step}
 use Rattle.pr_lang_meaning.specs.Expressions as meant
 use Rattle.pr_expand_spec.specs.declared.givens.Given.{Given}
-use Rattle.pr_expand_spec.specs.Making.{Equations, Made, made, constant, with_equation}
-use Rattle.pr_expand_spec.specs.Expressions.{AllMade, Inlined, Plan, all_made, apply, declared_at_operator, place, plan_of, plan_step}
+use Rattle.pr_expand_spec.specs.Making.{Equations, Expanded, made, constant, with_equation}
+use Rattle.pr_expand_spec.specs.Expressions.{AllExpanded, Inlined, ExprPlan, all_made, apply, declared_at_operator, place, plan_of, plan_step}
 use Rattle.pr_expand_spec.specs.Expressions as made_by
 use Rattle.pr_scope_facts.proofs.Appending.{declared-with}
 use Rattle.pr_scope_facts.proofs.Statics.{SameKnown, same-static, same-unknown, same-number, same-amount, constant-meant, constant-made, place-meant, place-made}
@@ -49,7 +49,7 @@ Proved = (e : Expr) × ExpressionAgrees e
 abbrev exprs : List Proved → List Expr
 exprs ps = map (λ (p : Proved). p.0) ps
 
-pub agrees-calmer : {X : Type 0} (own : Option ℕ) (calm less : Type 0) (fits : X → List ℕ → Type 0) (old : Equations) (m : Made) (f : X → Option Stream) → (less → calm) → Agrees own calm fits old m f → Agrees own less fits old m f
+pub agrees-calmer : {X : Type 0} (own : Option ℕ) (calm less : Type 0) (fits : X → List ℕ → Type 0) (old : Equations) (m : Expanded) (f : X → Option Stream) → (less → calm) → Agrees own calm fits old m f → Agrees own less fits old m f
 agrees-calmer own calm less fits old m f implied agrees = record {
   grown = record { appends = agrees.grown.appends; formed = agrees.grown.formed; calm_kept = λ is. agrees.grown.calm_kept (implied is) };
   within = agrees.within;
@@ -78,11 +78,11 @@ agrees-parts t past (p ∷ ps) es c d walks ready implied =
     let others = agrees-parts t past ps m.equations walks.0 d walks.2 (ready-more t past es m.equations (IsCalmIn t past) one.grown ready) (or-rest here rest past implied) in
     agrees-part_more t.own (IsCalmIn t past) (FitsIn t) es m (all_made (map plan_of (exprs ps)) (seen_by_equations t) t.standings m.equations) (λ x. part (f x)) (λ x. all_parts (meant.senses (map sense_of (exprs ps)) (seen_by_meaning t) x.samples (sources x.samples x.env))) (ready-keeps t past es ready) one others
 
-pub declared-apply : (o : Op) (all : AllMade) (width : Option ℕ) → declared_at_operator true width (apply o all) ≡ with_equation o all.given width all.equations
+pub declared-apply : (o : Op) (all : AllExpanded) (width : Option ℕ) → declared_at_operator true width (apply o all) ≡ with_equation o all.given width all.equations
 declared-apply o all None = refl
 declared-apply o all (Some w) = declared-with w o all.given all.equations
 
-agrees-applied : (t : Setting) (past : Bool) (es : Equations) (width : Option ℕ) (all : AllMade) (os : Scenery → List (Option Stream)) (o : Op) → is_operator o ≡ true → IsLawful width → IsReady t past es → AllAgree t.own (IsCalmIn t past) (FitsIn t) es all (λ x. all_parts (os x)) → Agrees t.own (IsCalmIn t past) (FitsIn t) es (declared_at_operator true width (apply o all)) (λ (x : Scenery). under true width (operate x.samples o (os x)))
+agrees-applied : (t : Setting) (past : Bool) (es : Equations) (width : Option ℕ) (all : AllExpanded) (os : Scenery → List (Option Stream)) (o : Op) → is_operator o ≡ true → IsLawful width → IsReady t past es → AllAgree t.own (IsCalmIn t past) (FitsIn t) es all (λ x. all_parts (os x)) → Agrees t.own (IsCalmIn t past) (FitsIn t) es (declared_at_operator true width (apply o all)) (λ (x : Scenery). under true width (operate x.samples o (os x)))
 agrees-applied t past es width all os o is lawful ready agrees =
     let f : Scenery → Option Stream = λ x. under true width (operate x.samples o (os x)) in
     agrees-same t.own (IsCalmIn t past) (FitsIn t) es (with_equation o all.given width all.equations) (declared_at_operator true width (apply o all)) f f (declared-apply o all width) (λ x. refl) (agrees-operator t.own (IsCalmIn t past) (FitsIn t) es all (λ x. all_parts (os x)) (λ (x : Scenery). x.samples) o width (ready-keeps t past es ready) agrees is lawful)
@@ -141,7 +141,7 @@ agrees-delay t es r k ready walk =
     agrees-same t.own (IsCalmIn t true) (FitsIn t) es (made_by.earlier walk.amount (t.standings r.name walk.index) es) (made_by.earlier (constant k t.known) (t.standings r.name (place r t.known)) es) f g made_as meant_as (agrees-earlier t es (IsCalmIn t true) ready r.name walk.index walk.amount (t.standings r.name walk.index) refl walk.greatest walk.past_of)
 
 -- ---- calls
-pub given-length : (ps : List Plan) (v : made_by.Visible) (env : made_by.Streams) (es : Equations) → length (all_made ps v env es).given ≡ length ps
+pub given-length : (ps : List ExprPlan) (v : made_by.Visible) (env : made_by.Streams) (es : Equations) → length (all_made ps v env es).given ≡ length ps
 given-length [] v env es = refl
 given-length (p ∷ ps) v env es = ap suc (given-length ps v env (p.making v env es).equations)
 
@@ -197,7 +197,7 @@ agrees-cat t past width (p ∷ q ∷ ps) es c d walks ready implied lawful =
 
 -- ---- one layer, whose parts agree
 abbrev LayerAgrees : Expr-F Expr → Type 0
-LayerAgrees x = (t : Setting) (es : Equations) (c d : Count) (width : Option ℕ) → walk_step (map-Expr Expr Reading reading x) t.walk t.streaming t.scene c ≡ Ok d → IsReady t (past_step (map-Expr Expr (Known → Bool) past_of x) t.walk) es → IsLawful width → PlanAgrees (plan_step (map-Expr Expr Plan plan_of x)) (sense_step (map-Expr Expr Sense sense_of x)) (past_step (map-Expr Expr (Known → Bool) past_of x) t.walk) t es width
+LayerAgrees x = (t : Setting) (es : Equations) (c d : Count) (width : Option ℕ) → walk_step (map-Expr Expr Reading reading x) t.walk t.streaming t.scene c ≡ Ok d → IsReady t (past_step (map-Expr Expr (Known → Bool) past_of x) t.walk) es → IsLawful width → PlanAgrees (plan_step (map-Expr Expr ExprPlan plan_of x)) (sense_step (map-Expr Expr Sense sense_of x)) (past_step (map-Expr Expr (Known → Bool) past_of x) t.walk) t es width
 
 pub one-of-one : (a : Bool) → (a || false) ≡ true → a ≡ true
 one-of-one true is = refl
@@ -222,7 +222,7 @@ agrees-slice e high low t es c d width walked ready lawful =
     let same = ready.visible.same in
     let all = all_made (plan_of e.value.0 ∷ []) (seen_by_equations t) t.standings es in
     let os : Scenery → List (Option Stream) = λ x. meant.meaning e.value.0 (seen_by_meaning t) x.samples (sources x.samples x.env) ∷ [] in
-    let made_as : Op → Made = λ o. declared_at_operator true width (apply o all) in
+    let made_as : Op → Expanded = λ o. declared_at_operator true width (apply o all) in
     let high_made = constant-made t.walk t.known same high walk.from walk.high_is in
     let low_made = constant-made t.walk t.known same low walk.to walk.low_is in
     let high_meant = constant-meant t.walk t.known same high walk.from walk.high_is in
@@ -242,7 +242,7 @@ agrees-binary o a b t es c d width walked ready lawful = by_shift walk.rest wher
   same : SameKnown t.walk t.known
   same = ready.visible.same
 
-  made_as : Option Op → Made
+  made_as : Option Op → Expanded
   made_as k = declared_at_operator true width (made_by.combined o k (plan_of a.value.0) (plan_of b.value.0) (seen_by_equations t) t.standings es)
 
   left : Scenery → Option Stream
@@ -296,6 +296,6 @@ expression-agrees = ind-Expr ExpressionAgrees (λ x y is t es c d width walk rea
     let layer : LayerAgrees x = subst LayerAgrees is (agrees-layer y) in
     let walked : walk_step (map-Expr Expr Reading reading x) t.walk t.streaming t.scene c ≡ Ok d = ap (λ (r : Reading). r.walk t.walk t.streaming t.scene c) (sym (fold-roll-Expr Reading reading_step x)) ∙ walk in
     let pasts = fold-roll-Expr (Known → Bool) past_step x in
-    let P : Plan → Sense → (Known → Bool) → Type 0 = λ p s past. IsReady t (past t.walk) es → PlanAgrees p s (past t.walk) t es width in
-    let here : P (plan_step (map-Expr Expr Plan plan_of x)) (sense_step (map-Expr Expr Sense sense_of x)) (past_step (map-Expr Expr (Known → Bool) past_of x)) = λ set. layer t es c d width walked set lawful in
-    subst (λ p. P p (sense_of (roll-Expr x)) (past_of (roll-Expr x))) (sym (fold-roll-Expr Plan plan_step x)) (subst (λ s. P (plan_step (map-Expr Expr Plan plan_of x)) s (past_of (roll-Expr x))) (sym (fold-roll-Expr Sense sense_step x)) (subst (P (plan_step (map-Expr Expr Plan plan_of x)) (sense_step (map-Expr Expr Sense sense_of x))) (sym pasts) here)) ready)
+    let P : ExprPlan → Sense → (Known → Bool) → Type 0 = λ p s past. IsReady t (past t.walk) es → PlanAgrees p s (past t.walk) t es width in
+    let here : P (plan_step (map-Expr Expr ExprPlan plan_of x)) (sense_step (map-Expr Expr Sense sense_of x)) (past_step (map-Expr Expr (Known → Bool) past_of x)) = λ set. layer t es c d width walked set lawful in
+    subst (λ p. P p (sense_of (roll-Expr x)) (past_of (roll-Expr x))) (sym (fold-roll-Expr ExprPlan plan_step x)) (subst (λ s. P (plan_step (map-Expr Expr ExprPlan plan_of x)) s (past_of (roll-Expr x))) (sym (fold-roll-Expr Sense sense_step x)) (subst (P (plan_step (map-Expr Expr ExprPlan plan_of x)) (sense_step (map-Expr Expr Sense sense_of x))) (sym pasts) here)) ready)

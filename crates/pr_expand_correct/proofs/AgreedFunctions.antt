@@ -19,7 +19,7 @@ use Rattle.pr_lang_meaning.specs.Statements as meant_by
 use Rattle.pr_lang_meaning.specs.Programs as meant
 use Rattle.pr_expand_spec.specs.declared.givens.Given.{Given}
 use Rattle.pr_expand_spec.specs.declared.givens.Standing.TheVariants as stands
-use Rattle.pr_expand_spec.specs.Making.{Equations, Made, made}
+use Rattle.pr_expand_spec.specs.Making.{Equations, Expanded, made}
 use Rattle.pr_expand_spec.specs.Expressions.{Inlined}
 use Rattle.pr_expand_spec.specs.Expressions as made_by
 use Rattle.pr_expand_spec.specs.Statements.{Progress, named}
@@ -37,7 +37,7 @@ use Rattle.pr_expand_correct.proofs.AgreedExpressions.{agrees-calmer}
 use Rattle.pr_expand_correct.proofs.AgreedStatements.{AreSet, AreStreams, ChangeAgrees, Frame, agrees-assigned, agrees-fitted, calm-known, changes-agree, fits-bound, for_equations, for_meaning, set-keeps, set-ready, setting, standing-bound}
 
 -- ---- a value after a change
-pub value-after : {X : Type 0} (own : Option ℕ) (past : Bool) (calm : Type 0) (fits : X → List ℕ → Type 0) (samples : X → ℕ) (t : Streaming) (old : Equations) (q : Progress) (m : Made) (g : X → Option Streams) (h : Scenery → Option Stream) → Keeps (length old) own fits → (calm → past ≡ false) → ChangeAgrees own past fits samples t old q g → Agrees own calm (Fits t None q.streams) q.equations m h → Agrees own calm fits old m (λ x. option_and_then (λ env. h (record { samples = samples x; env = env })) (g x))
+pub value-after : {X : Type 0} (own : Option ℕ) (past : Bool) (calm : Type 0) (fits : X → List ℕ → Type 0) (samples : X → ℕ) (t : Streaming) (old : Equations) (q : Progress) (m : Expanded) (g : X → Option Streams) (h : Scenery → Option Stream) → Keeps (length old) own fits → (calm → past ≡ false) → ChangeAgrees own past fits samples t old q g → Agrees own calm (Fits t None q.streams) q.equations m h → Agrees own calm fits old m (λ x. option_and_then (λ env. h (record { samples = samples x; env = env })) (g x))
 value-after {X} own past calm fits samples t old q m g h keeps quiet first second = record {
   grown = grown-both own calm old q.equations m.equations (record { appends = first.grown.appends; formed = first.grown.formed; calm_kept = λ is. first.grown.calm_kept (quiet is) }) second.grown;
   within = second.within;
@@ -70,7 +70,7 @@ value-after {X} own past calm fits samples t old q m g h keeps quiet first secon
       }
 
 -- the same of what depends on another thing
-pub agrees-from : {X Y : Type 0} (own : Option ℕ) (calm : Type 0) (fits : X → List ℕ → Type 0) (fits_in : Y → List ℕ → Type 0) (old : Equations) (m : Made) (f : X → Option Stream) (h : Y → X) → ((y : Y) (widths : List ℕ) → fits_in y widths → fits (h y) widths) → Agrees own calm fits old m f → Agrees own calm fits_in old m (λ y. f (h y))
+pub agrees-from : {X Y : Type 0} (own : Option ℕ) (calm : Type 0) (fits : X → List ℕ → Type 0) (fits_in : Y → List ℕ → Type 0) (old : Equations) (m : Expanded) (f : X → Option Stream) (h : Y → X) → ((y : Y) (widths : List ℕ) → fits_in y widths → fits (h y) widths) → Agrees own calm fits old m f → Agrees own calm fits_in old m (λ y. f (h y))
 agrees-from own calm fits fits_in old m f h through agrees = record {
   grown = agrees.grown;
   within = agrees.within;
@@ -126,14 +126,14 @@ passed-agrees {X} own calm fits width g es f keeps is agrees = subst (λ w. Agre
   by_width (Some w) is = agrees-fitted own calm fits es w (made es g.operand g.signed) f keeps is agrees
 
 -- an argument is bound
-bound-fits : (name : List ℕ) (width : Option ℕ) (walk : Known) (s t : Streaming) (p : Progress) (m : Made) (samples : ℕ) (env : Streams) (widths : List ℕ) (a : Stream) → Introduces name None walk s t → IsFound widths m.given (Some (meant.passed width a)) → Fits s None p.streams (record { samples = samples; env = env }) widths → Fits t None (named name None p.streams m).streams (record { samples = samples; env = with_stream name None (meant.passed width a) env }) widths
+bound-fits : (name : List ℕ) (width : Option ℕ) (walk : Known) (s t : Streaming) (p : Progress) (m : Expanded) (samples : ℕ) (env : Streams) (widths : List ℕ) (a : Stream) → Introduces name None walk s t → IsFound widths m.given (Some (meant.passed width a)) → Fits s None p.streams (record { samples = samples; env = env }) widths → Fits t None (named name None p.streams m).streams (record { samples = samples; env = with_stream name None (meant.passed width a) env }) widths
 bound-fits name width walk s t p m samples env widths a introduces found fits =
     let same : meant.passed width a ≡ found.stream = same_Some (meant.passed width a) found.stream found.is in
     let matches = subst (Matches widths m.given) (sym same) found.matches in
     fits-bound name None walk s t p.streams samples env widths (record { init = 0; stream = meant.passed width a }) (stands.Stream m.given 0) introduces (record { init_same = refl; matches = matches }) fits
 
 -- one argument more, and then the others
-argument-more : (own : Option ℕ) (past : Bool) (walk : Known) (q : Param) (params : List Param) (s between t : Streaming) (p : Progress) (g : Given) (gs : List Given) (m : Made) (after : Progress) → Introduces q.name None walk s between → Keeps (length p.equations) own (FitsPassing (g ∷ gs) s p.streams) → Agrees own (past ≡ false) (FitsPassing (g ∷ gs) s p.streams) p.equations m (λ (x : Passing). option_map (meant.passed q.width) (first_of x.streams)) → ChangeAgrees own past (FitsPassing gs between (named q.name None p.streams m).streams) (λ (x : Passing). x.samples) t m.equations after (λ (x : Passing). meant.with_arguments params x.streams x.env) → ChangeAgrees own past (FitsPassing (g ∷ gs) s p.streams) (λ (x : Passing). x.samples) t p.equations after (λ (x : Passing). meant.with_arguments (q ∷ params) x.streams x.env)
+argument-more : (own : Option ℕ) (past : Bool) (walk : Known) (q : Param) (params : List Param) (s between t : Streaming) (p : Progress) (g : Given) (gs : List Given) (m : Expanded) (after : Progress) → Introduces q.name None walk s between → Keeps (length p.equations) own (FitsPassing (g ∷ gs) s p.streams) → Agrees own (past ≡ false) (FitsPassing (g ∷ gs) s p.streams) p.equations m (λ (x : Passing). option_map (meant.passed q.width) (first_of x.streams)) → ChangeAgrees own past (FitsPassing gs between (named q.name None p.streams m).streams) (λ (x : Passing). x.samples) t m.equations after (λ (x : Passing). meant.with_arguments params x.streams x.env) → ChangeAgrees own past (FitsPassing (g ∷ gs) s p.streams) (λ (x : Passing). x.samples) t p.equations after (λ (x : Passing). meant.with_arguments (q ∷ params) x.streams x.env)
 argument-more own past walk q params s between t p g gs m after introduces keeps value rest = record {
   grown = grown-both own (past ≡ false) p.equations m.equations after.equations value.grown rest.grown;
   standing = rest.standing;

@@ -30,7 +30,7 @@ use Rattle.pr_lang_meaning.specs.Statements as meant_by
 use Rattle.pr_lang_meaning.specs.Programs as meant
 use Rattle.pr_lang_meaning.specs.Programs.{has_widths, streams_of}
 use Rattle.pr_expand_spec.specs.declared.givens.Standing.TheVariants as stands
-use Rattle.pr_expand_spec.specs.Making.{Made, constant, with_equation}
+use Rattle.pr_expand_spec.specs.Making.{Expanded, constant, with_equation}
 use Rattle.pr_expand_spec.specs.Expressions.{Inlined}
 use Rattle.pr_expand_spec.specs.Expressions as made_by
 use Rattle.pr_expand_spec.specs.Statements.{Progress, named}
@@ -168,7 +168,7 @@ map-then f k (Some a) = refl
 
 -- ---- inputs and outputs
 -- a stream gets a name
-value-step : (name : List ℕ) (walk : Known) (s t : Streaming) (p : Progress) (os more : List Operand) (m : Made) (h : Sample → Option Stream) (inputs : ℕ → ℕ) (outputs : List Stream → Stream → List Stream) → Introduces name None walk s t → Agrees None ⊥ (FitsSample s p.streams os) p.equations m h → ((widths : List ℕ) (ss : List Stream) (a : Stream) → Matches widths m.given a → AllZip (IsAsWide widths) os ss → AllZip (IsAsWide widths) more (outputs ss a)) → StepAgrees s t p (named name None p.streams m) os more h (λ (y : Sample) a. record { xs = y.xs; streams = with_stream name None a y.streams; inputs = inputs y.inputs; outputs = outputs y.outputs a })
+value-step : (name : List ℕ) (walk : Known) (s t : Streaming) (p : Progress) (os more : List Operand) (m : Expanded) (h : Sample → Option Stream) (inputs : ℕ → ℕ) (outputs : List Stream → Stream → List Stream) → Introduces name None walk s t → Agrees None ⊥ (FitsSample s p.streams os) p.equations m h → ((widths : List ℕ) (ss : List Stream) (a : Stream) → Matches widths m.given a → AllZip (IsAsWide widths) os ss → AllZip (IsAsWide widths) more (outputs ss a)) → StepAgrees s t p (named name None p.streams m) os more h (λ (y : Sample) a. record { xs = y.xs; streams = with_stream name None a y.streams; inputs = inputs y.inputs; outputs = outputs y.outputs a })
 value-step name walk s t p os more m h inputs outputs introduces agrees wide = record {
   appends = agrees.grown.appends;
   found = λ y widths fit have.
@@ -198,11 +198,11 @@ zip-push R [] (b ∷ ys) x y all new = absurd all
 zip-push R (a ∷ xs) [] x y all new = absurd all
 zip-push R (a ∷ xs) (b ∷ ys) x y all new = (all.0, zip-push R xs ys x y all.1 new)
 
-wide-more : (widths : List ℕ) (os : List Operand) (ss : List Stream) (m : Made) (a : Stream) → Matches widths m.given a → AllZip (IsAsWide widths) os ss → AllZip (IsAsWide widths) (os ++ m.given.operand ∷ []) (ss ++ a ∷ [])
+wide-more : (widths : List ℕ) (os : List Operand) (ss : List Stream) (m : Expanded) (a : Stream) → Matches widths m.given a → AllZip (IsAsWide widths) os ss → AllZip (IsAsWide widths) (os ++ m.given.operand ∷ []) (ss ++ a ∷ [])
 wide-more widths os ss m a matches wide = zip-push (IsAsWide widths) os ss m.given.operand a wide (ap (λ (f : Form). f.width) matches.form)
 
 -- what is ready after a stream got a name
-pub ready-named : (w between : scope.World) (known : Known) (meanings : List ℕ → Option Function) (inlined : List ℕ → Option Inlined) (p : Progress) (os more : List Operand) (name : List ℕ) (m : Made) → AreReady w known meanings inlined p os → between.known ≡ w.known → Appends p.equations m.equations → AreFormed None m.equations → IsWithin (length m.equations) None m.given.operand → AreOutputs (length m.equations) more → AreReady between known meanings inlined (named name None p.streams m) more
+pub ready-named : (w between : scope.World) (known : Known) (meanings : List ℕ → Option Function) (inlined : List ℕ → Option Inlined) (p : Progress) (os more : List Operand) (name : List ℕ) (m : Expanded) → AreReady w known meanings inlined p os → between.known ≡ w.known → Appends p.equations m.equations → AreFormed None m.equations → IsWithin (length m.equations) None m.given.operand → AreOutputs (length m.equations) more → AreReady between known meanings inlined (named name None p.streams m) more
 ready-named w between known meanings inlined p os more name m ready same appends formed within outputs = record {
   visible = subst (λ k. AreVisible k known meanings inlined) (sym same) ready.visible;
   standing = standing-bound name None (length p.equations) (length m.equations) None p.streams m.given 0 (appends-length p.equations m.equations appends) within ready.standing;

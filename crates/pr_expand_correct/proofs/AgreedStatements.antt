@@ -34,7 +34,7 @@ use Rattle.pr_lang_meaning.specs.Statements as meant_by
 use Rattle.pr_expand_spec.specs.declared.givens.Given.{Given}
 use Rattle.pr_expand_spec.specs.declared.givens.Standing.{Standing}
 use Rattle.pr_expand_spec.specs.declared.givens.Standing.TheVariants as stands
-use Rattle.pr_expand_spec.specs.Making.{Equations, Made, made, constant, lawful, with_equation}
+use Rattle.pr_expand_spec.specs.Making.{Equations, Expanded, made, constant, lawful, with_equation}
 use Rattle.pr_expand_spec.specs.Making as making
 use Rattle.pr_expand_spec.specs.Expressions.{Inlined, declared_at_operator, declared_else, place, plan_of}
 use Rattle.pr_expand_spec.specs.Expressions as made_by
@@ -58,7 +58,7 @@ use Rattle.pr_expand_correct.proofs.Recurrences.{Work, choice-stands, IsWork, al
 
 -- ---- streams of the same form
 -- what is given matches any stream of the form
-pub agrees-alike : {X : Type 0} (own : Option ℕ) (calm : Type 0) (fits : X → List ℕ → Type 0) (old : List EquationShape) (m : Made) (f g : X → Option Stream) → ((x : X) → option_map form_of (f x) ≡ option_map form_of (g x)) → Agrees own calm fits old m f → Agrees own calm fits old m g
+pub agrees-alike : {X : Type 0} (own : Option ℕ) (calm : Type 0) (fits : X → List ℕ → Type 0) (old : List EquationShape) (m : Expanded) (f g : X → Option Stream) → ((x : X) → option_map form_of (f x) ≡ option_map form_of (g x)) → Agrees own calm fits old m f → Agrees own calm fits old m g
 agrees-alike {X} own calm fits old m f g alike agrees = record {
   grown = agrees.grown;
   within = agrees.within;
@@ -78,7 +78,7 @@ agrees-alike {X} own calm fits old m f g alike agrees = record {
   other None (Some t) s same is = cc
   other (Some r) b s same is = (r, refl)
 
-one-list : {X : Type 0} (own : Option ℕ) (calm : Type 0) (fits : X → List ℕ → Type 0) (old : List EquationShape) (m : Made) (f : X → Option Stream) → Agrees own calm fits old m f → AllAgree own calm fits old (record { equations = m.equations; given = m.given ∷ [] }) (λ x. option_map (λ s. s ∷ []) (f x))
+one-list : {X : Type 0} (own : Option ℕ) (calm : Type 0) (fits : X → List ℕ → Type 0) (old : List EquationShape) (m : Expanded) (f : X → Option Stream) → Agrees own calm fits old m f → AllAgree own calm fits old (record { equations = m.equations; given = m.given ∷ [] }) (λ x. option_map (λ s. s ∷ []) (f x))
 one-list {X} own calm fits old m f agrees = record {
   grown = agrees.grown;
   within = (agrees.within, tt);
@@ -90,7 +90,7 @@ one-list {X} own calm fits old m f agrees = record {
   some_of (Some s) ss is = (s, refl)
 
 -- the same under a declared width
-pub agrees-fitted : {X : Type 0} (own : Option ℕ) (calm : Type 0) (fits : X → List ℕ → Type 0) (old : List EquationShape) (w : ℕ) (m : Made) (f : X → Option Stream) → Keeps (length old) own fits → is_width w ≡ true → Agrees own calm fits old m f → Agrees own calm fits old (making.fitted w m.given m.equations) (λ x. option_map (fitted w) (f x))
+pub agrees-fitted : {X : Type 0} (own : Option ℕ) (calm : Type 0) (fits : X → List ℕ → Type 0) (old : List EquationShape) (w : ℕ) (m : Expanded) (f : X → Option Stream) → Keeps (length old) own fits → is_width w ≡ true → Agrees own calm fits old m f → Agrees own calm fits old (making.fitted w m.given m.equations) (λ x. option_map (fitted w) (f x))
 agrees-fitted own calm fits old w m f keeps is agrees = agrees-alike own calm fits old (making.fitted w m.given m.equations) (λ x. assigned (Some w) (option_and_then (operate_on 0 op.Fit) (option_map (λ s. s ∷ []) (f x)))) (λ x. option_map (fitted w) (f x)) (λ x. alike (f x)) (agrees-operator own calm fits old (record { equations = m.equations; given = m.given ∷ [] }) (λ x. option_map (λ s. s ∷ []) (f x)) (λ x. 0) op.Fit (Some w) keeps (one-list own calm fits old m f agrees) refl is) where
   alike : (o : Option Stream) → option_map form_of (assigned (Some w) (option_and_then (operate_on 0 op.Fit) (option_map (λ s. s ∷ []) o))) ≡ option_map form_of (option_map (fitted w) o)
   alike None = ap (λ c. option_map form_of (cond c None None)) is
@@ -99,7 +99,7 @@ agrees-fitted own calm fits old w m f keeps is agrees = agrees-alike own calm fi
     operated r = record { form = record { signed = r.form.signed; width = r.form.width }; numbers = [] }
 
 -- ---- what is assigned
-agrees-declared : {X : Type 0} (own : Option ℕ) (calm : Type 0) (fits : X → List ℕ → Type 0) (old : List EquationShape) (b : Bool) (width : Option ℕ) (m : Made) (f : X → Option Stream) → Keeps (length old) own fits → IsLawful width → Agrees own calm fits old (declared_at_operator b width m) (λ x. under b width (f x)) → Agrees own calm fits old (declared_else b width (declared_at_operator b width m)) (λ x. assigned width (f x))
+agrees-declared : {X : Type 0} (own : Option ℕ) (calm : Type 0) (fits : X → List ℕ → Type 0) (old : List EquationShape) (b : Bool) (width : Option ℕ) (m : Expanded) (f : X → Option Stream) → Keeps (length old) own fits → IsLawful width → Agrees own calm fits old (declared_at_operator b width m) (λ x. under b width (f x)) → Agrees own calm fits old (declared_else b width (declared_at_operator b width m)) (λ x. assigned width (f x))
 agrees-declared own calm fits old true width m f keeps lawful agrees = agrees
 agrees-declared own calm fits old false None m f keeps lawful agrees = agrees-part own calm fits old false m f agrees
 agrees-declared own calm fits old false (Some w) m f keeps lawful agrees = agrees-same own calm fits old (making.fitted w m.given m.equations) (making.fitted w m.given m.equations) (λ x. option_map (fitted w) (f x)) (λ x. assigned (Some w) (f x)) refl (λ x. ap (λ c. cond c (option_map (fitted w) (f x)) None) lawful) (agrees-fitted own calm fits old w m f keeps lawful agrees)
@@ -209,7 +209,7 @@ map-some f None b is = cc
 map-some f (Some a) b is = (a, refl)
 
 -- a stream is assigned to a name
-named-agrees : (own : Option ℕ) (past : Bool) (name : List ℕ) (index : Option ℕ) (walk : Known) (s t : Streaming) (p : Progress) (m : Made) (g : Scenery → Option Stream) → Introduces name index walk s t → AreStanding (length p.equations) own own None p.streams → Agrees own (past ≡ false) (Fits s None p.streams) p.equations m g → ChangeAgrees own past (Fits s None p.streams) (λ (x : Scenery). x.samples) t p.equations (named name index p.streams m) (λ (x : Scenery). option_map (λ y. with_stream name index y x.env) (g x))
+named-agrees : (own : Option ℕ) (past : Bool) (name : List ℕ) (index : Option ℕ) (walk : Known) (s t : Streaming) (p : Progress) (m : Expanded) (g : Scenery → Option Stream) → Introduces name index walk s t → AreStanding (length p.equations) own own None p.streams → Agrees own (past ≡ false) (Fits s None p.streams) p.equations m g → ChangeAgrees own past (Fits s None p.streams) (λ (x : Scenery). x.samples) t p.equations (named name index p.streams m) (λ (x : Scenery). option_map (λ y. with_stream name index y x.env) (g x))
 named-agrees own past name index walk s t p m g introduces standing agrees = record {
   grown = agrees.grown;
   standing = standing-bound name index (length p.equations) (length m.equations) own p.streams m.given 0 (appends-length p.equations m.equations agrees.grown.appends) agrees.within standing;
@@ -483,7 +483,7 @@ rec-alone f target width init e s t p none walk set =
     let Q : Progress → (Scenery → Option Streams) → Type 0 = λ q h. ChangeAgrees None true (Fits s.streams None p.streams) (λ (x : Scenery). x.samples) t.streams p.equations q h in
     let made_at : Option ℕ → ℕ → Progress = λ at c. changed.with_recurrence target.name at width c p (changed.settled (body_made target.name at width e 0 (for_equations f) p) (body_made target.name at width e (rec at) (for_equations f) p)) in
     let made_width : Option ℕ → Progress = λ w. recurring (work f target.name walk.index w e walk.initial (rec walk.index) s.streams p) w in
-    let made_as : changed.rec_change target width init e (for_equations f) p ≡ recurring k width = (λ i. made_at (place-made f.walk f.known same target walk.index walk.placed i) (constant-made f.walk f.known same init walk.initial walk.initial_is i)) ∙ (ap (λ (m : Made). changed.with_recurrence target.name walk.index width walk.initial p m) (work-settled f target width init e s t p walk set) ∙ ap made_width (width-lawful width walk.lawful_width)) in
+    let made_as : changed.rec_change target width init e (for_equations f) p ≡ recurring k width = (λ i. made_at (place-made f.walk f.known same target walk.index walk.placed i) (constant-made f.walk f.known same init walk.initial walk.initial_is i)) ∙ (ap (λ (m : Expanded). changed.with_recurrence target.name walk.index width walk.initial p m) (work-settled f target width init e s t p walk set) ∙ ap made_width (width-lawful width walk.lawful_width)) in
     let meant_as : (x : Scenery) → meant_by.rec_change target width init e (for_meaning f) x.samples x.env ≡ meant_recurrence k width body x = λ x i. option_and_then (λ at. option_and_then (λ c. meant_by.with_recurrence target at width e c (for_meaning f) x.samples x.env) (constant-meant f.walk f.known same init walk.initial walk.initial_is i)) (place-meant f.walk f.known same target walk.index walk.placed i) in
     subst (λ q. Q q (λ (x : Scenery). meant_by.rec_change target width init e (for_meaning f) x.samples x.env)) (sym made_as) (subst (Q (recurring k width)) (sym (fun_ext meant_as)) here)
 

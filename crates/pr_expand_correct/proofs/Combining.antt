@@ -14,8 +14,8 @@ use Rattle.pr_flat.proofs.WidthLemmas.{equation_at, one_equation}
 use Rattle.pr_lang_meaning.specs.Streams.{assigned, operate_on}
 use Rattle.pr_lang_meaning.specs.Expressions.{Function}
 use Rattle.pr_expand_spec.specs.declared.givens.Given.{Given}
-use Rattle.pr_expand_spec.specs.Making.{Made, made, given_signed, given_operand, kinds_read, is_signed, with_equation}
-use Rattle.pr_expand_spec.specs.Expressions.{AllMade}
+use Rattle.pr_expand_spec.specs.Making.{Expanded, made, given_signed, given_operand, kinds_read, is_signed, with_equation}
+use Rattle.pr_expand_spec.specs.Expressions.{AllExpanded}
 use Rattle.pr_scope_facts.proofs.Appending.{Appends, appends-nothing, appends-both, appends-length, appends-at}
 use Rattle.pr_expand_correct.proofs.Related.{Have, AreRead, IsPlain, AreFormed, AreWithin, AreSameOutside, AreKept, IsAhead, Matches, IsFound, AreExtended, IsGrown, Agrees, AreFound, AllAgree, Arguments}
 use Rattle.pr_expand_correct.proofs.Keeping.{at-end, each-push, have-front, have-before, have-push, have-kept, kept-outside, outside-both, outside-nowhere, with_width, width-here, outside-here, within-read, within-more, length-push, formed-push}
@@ -127,7 +127,7 @@ nothing-assigned (Some w) s is = nothing (is_width w) is where
   nothing true is = cc
   nothing false is = cc
 
-pub agrees-operator : {X : Type 0} (own : Option ℕ) (calm : Type 0) (fits : X → List ℕ → Type 0) (old : List EquationShape) (all : AllMade) (meant : X → Option (List Stream)) (samples : X → ℕ) (op : Op) (d : Option ℕ) → Keeps (length old) own fits → AllAgree own calm fits old all meant → is_operator op ≡ true → IsLawful d → Agrees own calm fits old (with_equation op all.given d all.equations) (λ x. assigned d (option_and_then (operate_on (samples x) op) (meant x)))
+pub agrees-operator : {X : Type 0} (own : Option ℕ) (calm : Type 0) (fits : X → List ℕ → Type 0) (old : List EquationShape) (all : AllExpanded) (meant : X → Option (List Stream)) (samples : X → ℕ) (op : Op) (d : Option ℕ) → Keeps (length old) own fits → AllAgree own calm fits old all meant → is_operator op ≡ true → IsLawful d → Agrees own calm fits old (with_equation op all.given d all.equations) (λ x. assigned d (option_and_then (operate_on (samples x) op) (meant x)))
 agrees-operator {X} own calm fits old all meant samples op d keeps agree is lawful =
     let kinds = kinds_read op (map given_signed all.given) in
     let e : EquationShape = record { op = op; args = map given_operand all.given; declared = d; kinds = kinds } in
@@ -161,7 +161,7 @@ both-some None os ss is = cc
 both-some (Some s) None ss is = cc
 both-some (Some s) (Some rest) ss is = (s, rest, refl, refl)
 
-pub agrees-part_more : {X : Type 0} (own : Option ℕ) (calm : Type 0) (fits : X → List ℕ → Type 0) (old : List EquationShape) (first : Made) (rest : AllMade) (o : X → Option Stream) (os : X → Option (List Stream)) → Keeps (length old) own fits → Agrees own calm fits old first o → AllAgree own calm fits first.equations rest os → AllAgree own calm fits old (record { equations = rest.equations; given = first.given ∷ rest.given }) (λ x. first_of_both (o x) (os x))
+pub agrees-part_more : {X : Type 0} (own : Option ℕ) (calm : Type 0) (fits : X → List ℕ → Type 0) (old : List EquationShape) (first : Expanded) (rest : AllExpanded) (o : X → Option Stream) (os : X → Option (List Stream)) → Keeps (length old) own fits → Agrees own calm fits old first o → AllAgree own calm fits first.equations rest os → AllAgree own calm fits old (record { equations = rest.equations; given = first.given ∷ rest.given }) (λ x. first_of_both (o x) (os x))
 agrees-part_more {X} own calm fits old first rest o os keeps one all = record {
   grown = grown-both own calm old first.equations rest.equations one.grown all.grown;
   within = (within-more (length first.equations) (length rest.equations) own first.given.operand high one.within, all.within);
@@ -198,7 +198,7 @@ agrees-part_more {X} own calm fits old first rest o os keeps one all = record {
       }
 
 -- ---- calls
-pub agrees-call : {X : Type 0} (own : Option ℕ) (calm quiet : Type 0) (fits : X → List ℕ → Type 0) (old : List EquationShape) (all : AllMade) (m : Made) (samples : X → ℕ) (meant : X → Option (List Stream)) (f : Function) → Keeps (length old) own fits → (calm → quiet) → AllAgree own calm fits old all meant → Agrees own quiet (λ (y : Arguments) widths. AllZip (Matches widths) all.given y.streams) all.equations m (λ (y : Arguments). f y.samples y.streams) → Agrees own calm fits old m (λ x. option_and_then (f (samples x)) (meant x))
+pub agrees-call : {X : Type 0} (own : Option ℕ) (calm quiet : Type 0) (fits : X → List ℕ → Type 0) (old : List EquationShape) (all : AllExpanded) (m : Expanded) (samples : X → ℕ) (meant : X → Option (List Stream)) (f : Function) → Keeps (length old) own fits → (calm → quiet) → AllAgree own calm fits old all meant → Agrees own quiet (λ (y : Arguments) widths. AllZip (Matches widths) all.given y.streams) all.equations m (λ (y : Arguments). f y.samples y.streams) → Agrees own calm fits old m (λ x. option_and_then (f (samples x)) (meant x))
 agrees-call {X} own calm quiet fits old all m samples meant f keeps quieter args call = record {
   grown = grown-both own calm old all.equations m.equations args.grown (record { appends = call.grown.appends; formed = call.grown.formed; calm_kept = λ is. call.grown.calm_kept (quieter is) });
   within = call.within;

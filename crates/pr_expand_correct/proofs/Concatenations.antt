@@ -10,8 +10,8 @@ use Rattle.pr_flat.specs.Shape.{EquationShape}
 use Rattle.pr_lang_meaning.specs.Streams.{all_parts, assigned, operate, operate_on, part}
 use Rattle.pr_lang_meaning.specs.Expressions.{beside, concatenated, unsigned}
 use Rattle.pr_expand_spec.specs.declared.givens.Given.{Given}
-use Rattle.pr_expand_spec.specs.Making.{Made, made, with_equation}
-use Rattle.pr_expand_spec.specs.Expressions.{AllMade, declared_at_operator}
+use Rattle.pr_expand_spec.specs.Making.{Expanded, made, with_equation}
+use Rattle.pr_expand_spec.specs.Expressions.{AllExpanded, declared_at_operator}
 use Rattle.pr_expand_spec.specs.Expressions as made_by
 use Rattle.pr_scope_facts.proofs.Appending.{appends-length, declared-with}
 use Rattle.pr_expand_correct.proofs.Related.{Have, IsAhead, Matches, IsFound, AreExtended, Agrees, AreFound, AllAgree}
@@ -100,7 +100,7 @@ agrees-two {X} own calm fits old es a g gs meant agrees = record {
   by_parts x widths ss (Some all) fit have ahead same is = agrees.extended x widths all fit have ahead same
 
 -- what was given before still matches
-agrees-after : {X : Type 0} (own : Option ℕ) (calm : Type 0) (fits : X → List ℕ → Type 0) (old es : List EquationShape) (a g : Given) (gs : List Given) (meant : X → Option (List Stream)) (m : Made) (f : X → Option Stream) → AllAgree own calm fits old (record { equations = es; given = a ∷ g ∷ gs }) meant → Agrees own calm fits old m f → (es_more : (w : List ℕ) → Have m.equations w → Have es w) → length es ≤ length m.equations → AllAgree own calm fits m.equations (record { equations = m.equations; given = gs }) (λ x. option_and_then after_two (meant x))
+agrees-after : {X : Type 0} (own : Option ℕ) (calm : Type 0) (fits : X → List ℕ → Type 0) (old es : List EquationShape) (a g : Given) (gs : List Given) (meant : X → Option (List Stream)) (m : Expanded) (f : X → Option Stream) → AllAgree own calm fits old (record { equations = es; given = a ∷ g ∷ gs }) meant → Agrees own calm fits old m f → (es_more : (w : List ℕ) → Have m.equations w → Have es w) → length es ≤ length m.equations → AllAgree own calm fits m.equations (record { equations = m.equations; given = gs }) (λ x. option_and_then after_two (meant x))
 agrees-after own calm fits old es a g gs meant m f agrees one before low = record {
   grown = grown-nothing own calm m.equations one.grown.formed;
   within = all-within-more (length es) (length m.equations) own gs low agrees.within.1.1;

@@ -30,7 +30,7 @@ use Rattle.pr_lang_meaning.specs.Statements.{Body, body_of, so_far, recurring, r
 use Rattle.pr_lang_meaning.proofs.EvenStatements.{zeros-behind, get_or-recurring, length-recurring}
 use Rattle.pr_expand_spec.specs.declared.givens.Standing.{Standing}
 use Rattle.pr_expand_spec.specs.declared.givens.Standing.TheVariants as standing
-use Rattle.pr_expand_spec.specs.Making.{Made, constant}
+use Rattle.pr_expand_spec.specs.Making.{Expanded, constant}
 use Rattle.pr_expand_spec.specs.Expressions.{Inlined, declared_at_operator, place, plan_of}
 use Rattle.pr_expand_spec.specs.Expressions as made_by
 use Rattle.pr_expand_spec.specs.Statements.{Progress, body_made, named, number_after, with_standing}
@@ -80,7 +80,7 @@ let-numbers : (r : Run) (n : ℕ) → IsSampled r n → (target : Ref) (width : 
 let-numbers r n sampled target width e f s t p walk set env fits numbers calls front after is =
     let m = length r.samples in
     let same = set.visible.same in
-    let made_is : Made = made_by.assigned width e (for_equations f) p.streams p.equations in
+    let made_is : Expanded = made_by.assigned width e (for_equations f) p.streams p.equations in
     let value : Option Stream = assigned width (meaning e (for_meaning f) m (sources m env)) in
     let gives = sym (ap (option_and_then (λ at. option_map (λ y. with_stream target.name at y env) value)) (place-meant f.walk f.known same target walk.index walk.placed)) ∙ is in
     let parts = some-mapped (λ y. with_stream target.name walk.index y env) value after gives in
@@ -191,7 +191,7 @@ rec-numbers r n sampled target width init e f s t p walk set env fits numbers ca
 
   made_as : changed.rec_change target width init e (for_equations f) p ≡ recurring_made k width
   made_as = (λ i. changed.with_recurrence target.name (place-made f.walk f.known set.visible.same target walk.index walk.placed i) width (constant-made f.walk f.known set.visible.same init walk.initial walk.initial_is i) p (changed.settled (body_made target.name (place-made f.walk f.known set.visible.same target walk.index walk.placed i) width e 0 (for_equations f) p) (body_made target.name (place-made f.walk f.known set.visible.same target walk.index walk.placed i) width e (number_after target.name (place-made f.walk f.known set.visible.same target walk.index walk.placed i) width e (for_equations f) p) (for_equations f) p)))
-      ∙ ap (λ (m : Made). changed.with_recurrence target.name walk.index width walk.initial p m) (work-settled f target width init e s t p walk set_alone)
+      ∙ ap (λ (m : Expanded). changed.with_recurrence target.name walk.index width walk.initial p m) (work-settled f target width init e s t p walk set_alone)
       ∙ ap (λ v. recurring_made (work f target.name walk.index v e walk.initial (number_after target.name walk.index width e (for_equations f) p) s.streams p) v) (width-lawful width walk.lawful_width)
 
   body : Scenery → Body

@@ -32,9 +32,9 @@ use Rattle.pr_lang_meaning.specs.Expressions.{unsigned, Sense, sense_of, senses,
 use Rattle.pr_expand_spec.specs.declared.givens.Given.{Given}
 use Rattle.pr_expand_spec.specs.declared.givens.Standing.{Standing}
 use Rattle.pr_expand_spec.specs.declared.givens.Standing.TheVariants as standing
-use Rattle.pr_expand_spec.specs.Making.{Equations, Made, made, with_equation, delayed, constant}
+use Rattle.pr_expand_spec.specs.Making.{Equations, Expanded, made, with_equation, delayed, constant}
 use Rattle.pr_expand_spec.specs.Expressions as made_by
-use Rattle.pr_expand_spec.specs.Expressions.{Plan, plan_of, AllMade, all_made, apply, declared_at_operator}
+use Rattle.pr_expand_spec.specs.Expressions.{ExprPlan, plan_of, AllExpanded, all_made, apply, declared_at_operator}
 use Rattle.pr_scope_facts.proofs.Statics.{plain, constant-meant, constant-made, place-meant, place-made, same-static, same-unknown, same-number}
 use Rattle.pr_scope_facts.proofs.InvertedExpressions.{ReferWalk, StaticUse, StreamUse, DelayWalk, ShiftWalk, PairWalk, BinaryWalk, AllWalk, CallWalk, refer-inverted, delay-inverted, slice-inverted, binary-inverted, choose-inverted, parts-inverted, call-inverted}
 use Rattle.pr_scope_facts.proofs.Inductions.{ExprFact, OfExpr, ProvedExpr, ExprLayer, each-expression}
@@ -69,7 +69,7 @@ abbrev pub scenery_of : Run → Streams → Scenery
 scenery_of r env = record { samples = length r.samples; env = env }
 
 -- what is made of an expression has the numbers that are meant
-abbrev pub Counts : Run → ℕ → Made → Option Stream → Type 0
+abbrev pub Counts : Run → ℕ → Expanded → Option Stream → Type 0
 Counts r n m o = Appends m.equations r.equations → (s : Stream) → o ≡ Some s → IsNumbered r n m.given s
 
 abbrev pub NumbersFact : Run → ℕ → ExprFact
@@ -153,7 +153,7 @@ delay-counts r n sampled ref k t es env ready fits numbers walk front s is =
       ]
 
 -- ---- parts
-undeclared : (b : Bool) (m : Made) → declared_at_operator b None m ≡ m
+undeclared : (b : Bool) (m : Expanded) → declared_at_operator b None m ≡ m
 undeclared true m = refl
 undeclared false m = refl
 
@@ -164,14 +164,14 @@ under-part false None s is = cc
 under-part false (Some u) s is = ap Some (sym (assigned-is None u s is))
 
 -- the parts of an operator, a call or a concatenation, one after the other
-pub record PartsCount (r : Run) (n : ℕ) (own : Option ℕ) (old : Equations) (all : AllMade) (meant : Option (List Stream)) : Type 0 where
+pub record PartsCount (r : Run) (n : ℕ) (own : Option ℕ) (old : Equations) (all : AllExpanded) (meant : Option (List Stream)) : Type 0 where
   pub appends : Appends old all.equations
   pub formed : AreFormed own all.equations
   pub within : AreWithin (length all.equations) own all.given
   pub each : Appends all.equations r.equations → (ss : List Stream) → meant ≡ Some ss → AllZip (IsMeant r n) all.given ss
 
 -- a part, of a text with such a past
-abbrev first_made : Setting → Expr → Equations → Made
+abbrev first_made : Setting → Expr → Equations → Expanded
 first_made t e es = (plan_of e).making (seen_by_equations t) t.standings es
 
 abbrev first_meant : Setting → Expr → Scenery → Option Stream
@@ -193,13 +193,13 @@ part-meant r n sampled p t c d es walk ready env fits numbers front s is =
     let found = one.found (scenery_of r env) r.widths fits (have-before (first_made t p.0 es).equations r.equations r.widths front sampled.have) in
     let same : found.stream ≡ s = same_Some found.stream s (sym found.is ∙ is) in
     let bare = undeclared (plan_of p.0).is_operator (first_made t p.0 es) in
-    let front_there : Appends (declared_at_operator (plan_of p.0).is_operator None (first_made t p.0 es)).equations r.equations = subst (λ (m : Made). Appends m.equations r.equations) (sym bare) front in
+    let front_there : Appends (declared_at_operator (plan_of p.0).is_operator None (first_made t p.0 es)).equations r.equations = subst (λ (m : Expanded). Appends m.equations r.equations) (sym bare) front in
     record {
       match = subst (Matches r.widths (first_made t p.0 es).given) same found.matches;
-      numbered = subst (λ (m : Made). IsNumbered r n m.given s) bare (p.1 t c d es None walk ready tt env fits numbers front_there s (under-part (plan_of p.0).is_operator (first_meant t p.0 (scenery_of r env)) s is));
+      numbered = subst (λ (m : Expanded). IsNumbered r n m.given s) bare (p.1 t c d es None walk ready tt env fits numbers front_there s (under-part (plan_of p.0).is_operator (first_meant t p.0 (scenery_of r env)) s is));
     }
 
-part-more : (r : Run) (n : ℕ) → IsSampled r n → (p : ProvedExpr (NumbersFact r n)) (t : Setting) (c d : Count) (es : Equations) → walk_of p.0 t.walk t.streaming t.scene c ≡ Ok d → IsReady t (past_of p.0 t.walk) es → (env : Streams) → FitsIn t (scenery_of r env) r.widths → Numbers r n t env → (rest : AllMade) (os : List (Option Stream)) → PartsCount r n t.own (first_made t p.0 es).equations rest (all_parts os) → PartsCount r n t.own es (record { equations = rest.equations; given = (first_made t p.0 es).given ∷ rest.given }) (all_parts (first_meant t p.0 (scenery_of r env) ∷ os))
+part-more : (r : Run) (n : ℕ) → IsSampled r n → (p : ProvedExpr (NumbersFact r n)) (t : Setting) (c d : Count) (es : Equations) → walk_of p.0 t.walk t.streaming t.scene c ≡ Ok d → IsReady t (past_of p.0 t.walk) es → (env : Streams) → FitsIn t (scenery_of r env) r.widths → Numbers r n t env → (rest : AllExpanded) (os : List (Option Stream)) → PartsCount r n t.own (first_made t p.0 es).equations rest (all_parts os) → PartsCount r n t.own es (record { equations = rest.equations; given = (first_made t p.0 es).given ∷ rest.given }) (all_parts (first_meant t p.0 (scenery_of r env) ∷ os))
 part-more r n sampled p t c d es walk ready env fits numbers rest os others =
     let first = first_made t p.0 es in
     let one = part-agrees p.0 t c d es walk ready in
@@ -236,15 +236,15 @@ parts-count r n sampled (p ∷ ps) t c d es past walks implied ready env fits nu
     part-more r n sampled p t c walks.0 es walks.1 ready_part env fits numbers (all_made (map plan_of (texts_of (NumbersFact r n) ps)) (seen_by_equations t) t.standings first.equations) (senses (map sense_of (texts_of (NumbersFact r n) ps)) (seen_by_meaning t) (length r.samples) (sources (length r.samples) env)) (parts-count r n sampled ps t walks.0 d first.equations past walks.2 (or-rest (past_of p.0 t.walk) others past implied) after env fits numbers)
 
 -- ---- operators
-operator-counts : (r : Run) (n : ℕ) → IsSampled r n → (o : Op) (own : Option ℕ) (old : Equations) (all : AllMade) (d : Option ℕ) (os : Option (List Stream)) → is_operator o ≡ true → PartsCount r n own old all os → Appends (declared_at_operator true d (apply o all)).equations r.equations → (s : Stream) → assigned d (option_and_then (operate_on (length r.samples) o) os) ≡ Some s → IsNumbered r n (declared_at_operator true d (apply o all)).given s
+operator-counts : (r : Run) (n : ℕ) → IsSampled r n → (o : Op) (own : Option ℕ) (old : Equations) (all : AllExpanded) (d : Option ℕ) (os : Option (List Stream)) → is_operator o ≡ true → PartsCount r n own old all os → Appends (declared_at_operator true d (apply o all)).equations r.equations → (s : Stream) → assigned d (option_and_then (operate_on (length r.samples) o) os) ≡ Some s → IsNumbered r n (declared_at_operator true d (apply o all)).given s
 operator-counts r n sampled o own old all d None plain parts front s is = absurd (nothing-assigned d s is)
 operator-counts r n sampled o own old all d (Some ss) plain parts front s is =
     let same = declared-equation d o all.given all.equations in
-    let here : Appends (with_equation o all.given d all.equations).equations r.equations = subst (λ (m : Made). Appends m.equations r.equations) same front in
+    let here : Appends (with_equation o all.given d all.equations).equations r.equations = subst (λ (m : Expanded). Appends m.equations r.equations) same front in
     let meant = parts.each (appends-both all.equations (with_equation o all.given d all.equations).equations r.equations (appends-with o all.given d all.equations) here) ss refl in
-    subst (λ (m : Made). IsNumbered r n m.given s) (sym same) (operator-meant r n sampled o all.given d all.equations plain here ss meant s is)
+    subst (λ (m : Expanded). IsNumbered r n m.given s) (sym same) (operator-meant r n sampled o all.given d all.equations plain here ss meant s is)
 
-abbrev binary_made : Option Op → BinOp → Expr → Expr → Setting → Equations → Made
+abbrev binary_made : Option Op → BinOp → Expr → Expr → Setting → Equations → Expanded
 binary_made shift o a b t es = made_by.combined o shift (plan_of a) (plan_of b) (seen_by_equations t) t.standings es
 
 binary-counts : (r : Run) (n : ℕ) → IsSampled r n → (o : BinOp) (a b : Box (ProvedExpr (NumbersFact r n))) (t : Setting) (c d : Count) (es : Equations) (width : Option ℕ) → BinaryWalk o a.value.0 b.value.0 t.walk t.streaming t.scene c d → IsReady t (past_of a.value.0 t.walk || past_of b.value.0 t.walk) es → (env : Streams) → FitsIn t (scenery_of r env) r.widths → Numbers r n t env → Appends (declared_at_operator true width (binary_made (constant_shift o ((plan_of b.value.0).amount t.known)) o a.value.0 b.value.0 t es)).equations r.equations → (s : Stream) → assigned width (meant.combined (length r.samples) o (constant_shift o ((sense_of b.value.0).amount t.known)) (first_meant t a.value.0 (scenery_of r env)) (first_meant t b.value.0 (scenery_of r env))) ≡ Some s → IsNumbered r n (declared_at_operator true width (binary_made (constant_shift o ((plan_of b.value.0).amount t.known)) o a.value.0 b.value.0 t es)).given s
@@ -279,7 +279,7 @@ call-counts r n sampled name args t c es w ready env fits numbers front s is = s
   call : IsCallable w.callee (t.meanings name) (t.inlined name)
   call = ready.visible.calls name w.callee w.is
 
-  all : AllMade
+  all : AllExpanded
   all = all_made (map plan_of (texts_of (NumbersFact r n) args)) (seen_by_equations t) t.standings es
 
   P : Option made_by.Inlined → Type 0
@@ -348,7 +348,7 @@ nothing-under : (b : Bool) (d : Option ℕ) (s : Stream) → under b d None ≡ 
 nothing-under true d s is = nothing-assigned d s is
 nothing-under false d s is = cc
 
-cat-counts : (r : Run) (n : ℕ) → IsSampled r n → (own : Option ℕ) (old : Equations) (count : ℕ) (all : AllMade) (d : Option ℕ) (os : Option (List Stream)) → count ≡ length all.given → PartsCount r n own old all os → Appends (declared_at_operator (nat_le 2 count) d (made_by.concatenated all.given all.equations)).equations r.equations → (s : Stream) → under (nat_le 2 count) d (option_and_then (meant.concatenated (length r.samples)) os) ≡ Some s → IsNumbered r n (declared_at_operator (nat_le 2 count) d (made_by.concatenated all.given all.equations)).given s
+cat-counts : (r : Run) (n : ℕ) → IsSampled r n → (own : Option ℕ) (old : Equations) (count : ℕ) (all : AllExpanded) (d : Option ℕ) (os : Option (List Stream)) → count ≡ length all.given → PartsCount r n own old all os → Appends (declared_at_operator (nat_le 2 count) d (made_by.concatenated all.given all.equations)).equations r.equations → (s : Stream) → under (nat_le 2 count) d (option_and_then (meant.concatenated (length r.samples)) os) ≡ Some s → IsNumbered r n (declared_at_operator (nat_le 2 count) d (made_by.concatenated all.given all.equations)).given s
 cat-counts r n sampled own old count all d None count_is parts front s is = absurd (nothing-under (nat_le 2 count) d s is)
 cat-counts r n sampled own old count all d (Some ss) count_is parts front s is =
     let same : nat_le 2 count ≡ nat_le 2 (length all.given) = ap (nat_le 2) count_is in

@@ -25,7 +25,7 @@ use Rattle.pr_lang_meaning.specs.Programs.{passed}
 use Rattle.pr_lang_meaning.proofs.Agreeing.{fitted-number, delayed-number}
 use Rattle.pr_expand_spec.specs.declared.givens.Given.{Given}
 use Rattle.pr_expand_spec.specs.Making as making
-use Rattle.pr_expand_spec.specs.Making.{Equations, Made, given_operand, given_signed, kinds_read, with_equation, is_delay_of, same_operand, delay_from, delay_step, delayed_once, delayed}
+use Rattle.pr_expand_spec.specs.Making.{Equations, Expanded, given_operand, given_signed, kinds_read, with_equation, is_delay_of, same_operand, delay_from, delay_step, delayed_once, delayed}
 use Rattle.pr_scope_facts.proofs.Appending.{Appends, appends-at, appends-both, delayed-appends}
 use Rattle.pr_expand_correct.proofs.Related.{Have, given_form, Matches}
 use Rattle.pr_expand_correct.proofs.Keeping.{at-end}

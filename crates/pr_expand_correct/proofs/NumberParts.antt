@@ -14,7 +14,7 @@ use Rattle.pr_lang_meaning.specs.Expressions as meaning
 use Rattle.pr_lang_meaning.specs.Expressions.{unsigned}
 use Rattle.pr_lang_meaning.specs.Programs.{passed}
 use Rattle.pr_expand_spec.specs.declared.givens.Given.{Given}
-use Rattle.pr_expand_spec.specs.Making.{Equations, Made, given_operand, given_signed, kinds_read, is_signed, with_equation}
+use Rattle.pr_expand_spec.specs.Making.{Equations, Expanded, given_operand, given_signed, kinds_read, is_signed, with_equation}
 use Rattle.pr_expand_spec.specs.Expressions.{beside, declared_at_operator}
 use Rattle.pr_scope_facts.proofs.Appending.{Appends, appends-both, appends-with}
 use Rattle.pr_expand_correct.proofs.Related.{Have, Matches, IsFound}
@@ -93,8 +93,8 @@ pub declared-equation : (d : Option ℕ) (o : Op) (gs : List Given) (es : Equati
 declared-equation d o gs es = declared-apply o (record { equations = es; given = gs }) d
 
 -- all that is beside the equations above stands after them
-pub beside-front : (d : Option ℕ) (above : Made) (g : Given) (gs : List Given) → Appends above.equations (declared_at_operator true d (beside above (g ∷ gs))).equations
-beside-front d above g [] = subst (λ (m : Made). Appends above.equations m.equations) (sym (declared-equation d op.Cat (above.given ∷ g ∷ []) above.equations)) (appends-with op.Cat (above.given ∷ g ∷ []) d above.equations)
+pub beside-front : (d : Option ℕ) (above : Expanded) (g : Given) (gs : List Given) → Appends above.equations (declared_at_operator true d (beside above (g ∷ gs))).equations
+beside-front d above g [] = subst (λ (m : Expanded). Appends above.equations m.equations) (sym (declared-equation d op.Cat (above.given ∷ g ∷ []) above.equations)) (appends-with op.Cat (above.given ∷ g ∷ []) d above.equations)
 beside-front d above g (h ∷ gs) =
     let next = with_equation op.Cat (above.given ∷ g ∷ []) None above.equations in
     appends-both above.equations next.equations (declared_at_operator true d (beside next (h ∷ gs))).equations (appends-with op.Cat (above.given ∷ g ∷ []) None above.equations) (beside-front d next h gs)
@@ -102,16 +102,16 @@ beside-front d above g (h ∷ gs) =
 same-part : (m : ℕ) (o : Op) (a b : Option Stream) (os : List (Option Stream)) → part a ≡ part b → operate m o (a ∷ os) ≡ operate m o (b ∷ os)
 same-part m o a b os same = ap (λ p. option_and_then (operate_on m o) (option_and_then (λ s. option_map (λ ss. s ∷ ss) (all_parts os)) p)) same
 
-pub beside-meant : (r : Run) (n : ℕ) → IsSampled r n → (gs : List Given) (ss : List Stream) → AllZip (IsMeant r n) gs ss → (d : Option ℕ) (above : Made) (t : Stream) → IsMeant r n above.given t → Appends (declared_at_operator (is_some_given gs) d (beside above gs)).equations r.equations → (s : Stream) → assigned (where_operator (is_some_given gs) d) (meaning.beside (length r.samples) (Some t) ss) ≡ Some s → IsNumbered r n (declared_at_operator (is_some_given gs) d (beside above gs)).given s
+pub beside-meant : (r : Run) (n : ℕ) → IsSampled r n → (gs : List Given) (ss : List Stream) → AllZip (IsMeant r n) gs ss → (d : Option ℕ) (above : Expanded) (t : Stream) → IsMeant r n above.given t → Appends (declared_at_operator (is_some_given gs) d (beside above gs)).equations r.equations → (s : Stream) → assigned (where_operator (is_some_given gs) d) (meaning.beside (length r.samples) (Some t) ss) ≡ Some s → IsNumbered r n (declared_at_operator (is_some_given gs) d (beside above gs)).given s
 beside-meant r n ready [] [] meant d above t first front s is = subst (IsNumbered r n above.given) (sym (assigned-is None t s is)) first.numbered
 beside-meant r n ready [] (u ∷ ss) meant d above t first front s is = absurd meant
 beside-meant r n ready (g ∷ gs) [] meant d above t first front s is = absurd meant
 beside-meant r n ready (g ∷ []) (u ∷ []) meant d above t first front s is =
     let m = length r.samples in
     let same = declared-equation d op.Cat (above.given ∷ g ∷ []) above.equations in
-    let here : Appends (with_equation op.Cat (above.given ∷ g ∷ []) d above.equations).equations r.equations = subst (λ (x : Made). Appends x.equations r.equations) same front in
+    let here : Appends (with_equation op.Cat (above.given ∷ g ∷ []) d above.equations).equations r.equations = subst (λ (x : Expanded). Appends x.equations r.equations) same front in
     let gives : assigned d (operate_on m op.Cat (t ∷ u ∷ [])) ≡ Some s = sym (ap (assigned d) (operate-pair m t u first.match.greatest meant.0.match.greatest)) ∙ is in
-    subst (λ (x : Made). IsNumbered r n x.given s) (sym same) (operator-meant r n ready op.Cat (above.given ∷ g ∷ []) d above.equations refl here (t ∷ u ∷ []) (first, (meant.0, tt)) s gives)
+    subst (λ (x : Expanded). IsNumbered r n x.given s) (sym same) (operator-meant r n ready op.Cat (above.given ∷ g ∷ []) d above.equations refl here (t ∷ u ∷ []) (first, (meant.0, tt)) s gives)
 beside-meant r n ready (g ∷ []) (u ∷ v ∷ ss) meant d above t first front s is = absurd meant.1
 beside-meant r n ready (g ∷ h ∷ gs) (u ∷ []) meant d above t first front s is = absurd meant.1
 beside-meant r n ready (g ∷ h ∷ gs) (u ∷ v ∷ ss) meant d above t first front s is =

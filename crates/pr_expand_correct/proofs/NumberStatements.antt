@@ -24,7 +24,7 @@ use Rattle.pr_expand_spec.specs.declared.givens.Given.{Given}
 use Rattle.pr_expand_spec.specs.declared.givens.Standing.{Standing}
 use Rattle.pr_expand_spec.specs.declared.givens.Standing.TheVariants as standing
 use Rattle.pr_expand_spec.specs.Statements.{with_standing}
-use Rattle.pr_expand_spec.specs.Making.{Equations, Made, lawful}
+use Rattle.pr_expand_spec.specs.Making.{Equations, Expanded, lawful}
 use Rattle.pr_expand_spec.specs.Making as making
 use Rattle.pr_expand_spec.specs.Expressions as made_by
 use Rattle.pr_expand_spec.specs.Expressions.{plan_of, declared_at_operator, declared_else}
@@ -51,10 +51,10 @@ assigned-counts r n sampled e t es c d width walk ready lawful_width same env fi
   m : ℕ
   m = length r.samples
 
-  making_of : Made
+  making_of : Expanded
   making_of = (plan_of e).making (seen_by_equations t) t.standings es
 
-  made_under : Bool → Option ℕ → Made
+  made_under : Bool → Option ℕ → Expanded
   made_under b d = declared_else b d (declared_at_operator b d making_of)
 
   P : Option ℕ → Type 0

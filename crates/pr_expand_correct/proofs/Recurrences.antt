@@ -20,7 +20,7 @@ use Rattle.pr_lang_meaning.specs.Streams.{Bound, fitted, with_bound}
 use Rattle.pr_lang_meaning.specs.Statements.{so_far}
 use Rattle.pr_expand_spec.specs.declared.givens.Standing.{Standing}
 use Rattle.pr_expand_spec.specs.declared.givens.Standing.TheVariants as standing
-use Rattle.pr_expand_spec.specs.Making.{Equations, Made}
+use Rattle.pr_expand_spec.specs.Making.{Equations, Expanded}
 use Rattle.pr_expand_spec.specs.Expressions as made_by
 use Rattle.pr_expand_spec.specs.Statements.{with_standing}
 use Rattle.pr_scope_facts.proofs.Appending.{Appends, appends-both, appends-length, appends-at}
@@ -39,7 +39,7 @@ pub record Work : Type 0 where
   pub init : ℕ
   pub rec : ℕ
   pub operates : Bool
-  pub body : Made
+  pub body : Expanded
   pub meant : Scenery → Option Stream
 
 abbrev pub own_instance : Work → Option Instance

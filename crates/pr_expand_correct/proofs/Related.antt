@@ -19,7 +19,7 @@ use Rattle.pr_lang_meaning.specs.Expressions.{Function}
 use Rattle.pr_expand_spec.specs.declared.givens.Given.{Given}
 use Rattle.pr_expand_spec.specs.declared.givens.Standing.{Standing}
 use Rattle.pr_expand_spec.specs.declared.givens.Standing.TheVariants as standing
-use Rattle.pr_expand_spec.specs.Making.{Equations, Made}
+use Rattle.pr_expand_spec.specs.Making.{Equations, Expanded}
 use Rattle.pr_expand_spec.specs.Expressions as made
 use Rattle.pr_scope_facts.proofs.Statics.{SameKnown}
 use Rattle.pr_scope_facts.proofs.Appending.{Appends}
@@ -104,7 +104,7 @@ pub record IsGrown (own : Option ℕ) (calm : Type 0) (old new : List EquationSh
 
 -- What making gives beside what is meant, which depends on some x, as the streams that names stand for. Where x has its forms (`fits`) and all
 -- equations have widths there is a stream, and what is given matches it; and where there is a stream, the equations have widths.
-pub record Agrees {X : Type 0} (own : Option ℕ) (calm : Type 0) (fits : X → List ℕ → Type 0) (old : List EquationShape) (made : Made) (meant : X → Option Stream) : Type 0 where
+pub record Agrees {X : Type 0} (own : Option ℕ) (calm : Type 0) (fits : X → List ℕ → Type 0) (old : List EquationShape) (made : Expanded) (meant : X → Option Stream) : Type 0 where
   pub grown : IsGrown own calm old made.equations
   pub within : IsWithin (length made.equations) own made.given.operand
   pub found : (x : X) (widths : List ℕ) → fits x widths → Have made.equations widths → IsFound widths made.given (meant x)
@@ -116,7 +116,7 @@ pub record AreFound (widths : List ℕ) (gs : List Given) (o : Option (List Stre
   pub match : AllZip (Matches widths) gs streams
 
 -- the same for parts, one after the other
-pub record AllAgree {X : Type 0} (own : Option ℕ) (calm : Type 0) (fits : X → List ℕ → Type 0) (old : List EquationShape) (made : made.AllMade) (meant : X → Option (List Stream)) : Type 0 where
+pub record AllAgree {X : Type 0} (own : Option ℕ) (calm : Type 0) (fits : X → List ℕ → Type 0) (old : List EquationShape) (made : made.AllExpanded) (meant : X → Option (List Stream)) : Type 0 where
   pub grown : IsGrown own calm old made.equations
   pub within : AreWithin (length made.equations) own made.given
   pub found : (x : X) (widths : List ℕ) → fits x widths → Have made.equations widths → AreFound widths made.given (meant x)

@@ -22,9 +22,9 @@ use Rattle.pr_lang_meaning.specs.Expressions as meant
 use Rattle.pr_expand_spec.specs.declared.givens.Given.{Given}
 use Rattle.pr_expand_spec.specs.declared.givens.Standing.{Standing}
 use Rattle.pr_expand_spec.specs.declared.givens.Standing.TheVariants as standing
-use Rattle.pr_expand_spec.specs.Making.{Equations, Made, made, with_equation, same_operand, is_delay_of, delay_from, delay_step, delayed_once}
+use Rattle.pr_expand_spec.specs.Making.{Equations, Expanded, made, with_equation, same_operand, is_delay_of, delay_from, delay_step, delayed_once}
 use Rattle.pr_expand_spec.specs.Making as making
-use Rattle.pr_expand_spec.specs.Expressions.{Plan, Inlined}
+use Rattle.pr_expand_spec.specs.Expressions.{ExprPlan, Inlined}
 use Rattle.pr_expand_spec.specs.Expressions as made_by
 use Rattle.pr_scope_facts.proofs.Appending.{appends-length}
 use Rattle.pr_scope_facts.proofs.Numbering.{IsStill}
@@ -72,7 +72,7 @@ under true width o = assigned width o
 under false width o = o
 
 -- an expression's equations, where its own gets this width, beside its meaning
-abbrev pub PlanAgrees : Plan → meant.Sense → Bool → Setting → Equations → Option ℕ → Type 0
+abbrev pub PlanAgrees : ExprPlan → meant.Sense → Bool → Setting → Equations → Option ℕ → Type 0
 PlanAgrees p s past t es width = Agrees t.own (IsCalmIn t past) (FitsIn t) es (made_by.declared_at_operator p.is_operator width (p.making (seen_by_equations t) t.standings es)) (λ (x : Scenery). under p.is_operator width (s.meaning (seen_by_meaning t) x.samples (sources x.samples x.env)))
 
 -- ---- what is ready
@@ -148,8 +148,8 @@ pub ready-keeps : (t : Setting) (past : Bool) (es : Equations) → IsReady t pas
 ready-keeps t past es ready = fits-kept (length es) t.seen t.own t.streaming t.scene.own t.standings ready.clear.seen_own ready.standing
 
 -- ---- the same made and the same meant
-pub agrees-same : {X : Type 0} (own : Option ℕ) (calm : Type 0) (fits : X → List ℕ → Type 0) (old : List EquationShape) (m n : Made) (f g : X → Option Stream) → n ≡ m → ((x : X) → g x ≡ f x) → Agrees own calm fits old m f → Agrees own calm fits old n g
-agrees-same {X} own calm fits old m n f g made_same meant_same agrees = subst (λ (h : X → Option Stream). Agrees own calm fits old n h) (sym (fun_ext meant_same)) (subst (λ (k : Made). Agrees own calm fits old k f) (sym made_same) agrees)
+pub agrees-same : {X : Type 0} (own : Option ℕ) (calm : Type 0) (fits : X → List ℕ → Type 0) (old : List EquationShape) (m n : Expanded) (f g : X → Option Stream) → n ≡ m → ((x : X) → g x ≡ f x) → Agrees own calm fits old m f → Agrees own calm fits old n g
+agrees-same {X} own calm fits old m n f g made_same meant_same agrees = subst (λ (h : X → Option Stream). Agrees own calm fits old n h) (sym (fun_ext meant_same)) (subst (λ (k : Expanded). Agrees own calm fits old k f) (sym made_same) agrees)
 
 -- a part is at most 128 bits wide
 pub small-part : (o : Option Stream) (s : Stream) → o ≡ Some s → s.form.width ≤ 128 → part o ≡ Some s
@@ -162,7 +162,7 @@ part-some (Some r) s is = of_test (nat_le r.form.width 128) is where
   of_test true same = same
   of_test false none = cc
 
-pub agrees-part : {X : Type 0} (own : Option ℕ) (calm : Type 0) (fits : X → List ℕ → Type 0) (old : List EquationShape) (b : Bool) (m : Made) (f : X → Option Stream) → Agrees own calm fits old (made_by.declared_at_operator b None m) (λ x. under b None (f x)) → Agrees own calm fits old m (λ x. part (f x))
+pub agrees-part : {X : Type 0} (own : Option ℕ) (calm : Type 0) (fits : X → List ℕ → Type 0) (old : List EquationShape) (b : Bool) (m : Expanded) (f : X → Option Stream) → Agrees own calm fits old (made_by.declared_at_operator b None m) (λ x. under b None (f x)) → Agrees own calm fits old m (λ x. part (f x))
 agrees-part own calm fits old true m f agrees = agrees
 agrees-part own calm fits old false m f agrees = record {
   grown = agrees.grown;

@@ -20,11 +20,11 @@ abbrev pub Equations : Type 0
 Equations = List EquationShape
 
 -- what comes of an expression: the equations with its own, and its operand
-pub record Made : Type 0 where
+pub record Expanded : Type 0 where
   pub equations : Equations
   pub given : Given
 
-abbrev pub made : Equations → Operand → Bool → Made
+abbrev pub made : Equations → Operand → Bool → Expanded
 made equations operand signed = record { equations = equations; given = record { operand = operand; signed = signed } }
 
 abbrev pub given_signed : Given → Bool
@@ -51,7 +51,7 @@ abbrev pub is_signed : Op → List Bool → Bool
 is_signed op kinds = gives_signed op (map form_of_kind kinds)
 
 -- one more equation
-abbrev pub with_equation : Op → List Given → Option ℕ → Equations → Made
+abbrev pub with_equation : Op → List Given → Option ℕ → Equations → Expanded
 with_equation op args declared equations =
     let kinds = kinds_read op (map given_signed args) in
     made (equations ++ record { op = op; args = map given_operand args; declared = declared; kinds = kinds } ∷ []) (Eq (length equations)) (is_signed op kinds)
@@ -62,7 +62,7 @@ lawful None = None
 lawful (Some w) = cond (is_width w) (Some w) None
 
 -- the same operand, under a declared width
-abbrev pub fitted : ℕ → Given → Equations → Made
+abbrev pub fitted : ℕ → Given → Equations → Expanded
 fitted w g equations = with_equation Fit (g ∷ []) (Some w) equations
 
 -- the last equation gets a declared width
@@ -88,16 +88,16 @@ abbrev pub delay_from : ℕ → Equations → Operand → ℕ → Option ℕ
 delay_from i [] q c = None
 delay_from i (e ∷ rest) q c = cond (is_delay_of q c e.op e.args) (Some i) (delay_from (i + 1) rest q c)
 
-abbrev pub delay_step : Option ℕ → Operand → ℕ → Equations → Made
+abbrev pub delay_step : Option ℕ → Operand → ℕ → Equations → Expanded
 delay_step (Some i) q c equations = made equations (Eq i) false
 delay_step None q c equations = with_equation (Delay c) (record { operand = q; signed = false } ∷ []) None equations
 
 -- one sample earlier: the delay that is there already, or a new one
-abbrev pub delayed_once : Operand → ℕ → Equations → Made
+abbrev pub delayed_once : Operand → ℕ → Equations → Expanded
 delayed_once q c equations = delay_step (delay_from 0 equations q c) q c equations
 
 -- k samples earlier; the kind stays
-abbrev pub delayed : ℕ → Given → ℕ → Equations → Made
+abbrev pub delayed : ℕ → Given → ℕ → Equations → Expanded
 delayed zero g c equations = made equations g.operand g.signed
 delayed (suc k) g c equations =
     let once = delayed_once g.operand c equations in

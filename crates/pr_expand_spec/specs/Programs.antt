@@ -16,7 +16,7 @@ use Rattle.pr_flat.specs.declared.equations.Operand.TheVariants.{Const}
 use Rattle.pr_flat.specs.declared.equations.Op.TheVariants.{Input}
 use Rattle.pr_flat.specs.Facts.{is_width}
 use Rattle.pr_expand_spec.specs.declared.givens.Given.{Given}
-use Rattle.pr_expand_spec.specs.Making.{Equations, Made, made, with_equation, lawful, fitted, constant}
+use Rattle.pr_expand_spec.specs.Making.{Equations, Expanded, made, with_equation, lawful, fitted, constant}
 use Rattle.pr_expand_spec.specs.Expressions.{Streams, Inlined, Visible, assigned}
 use Rattle.pr_expand_spec.specs.Statements.{Progress, named, with_standing, change_of, changes_of}
 
@@ -24,11 +24,11 @@ abbrev pub no_streams : Streams
 no_streams = λ name at. None
 
 -- an argument under a declared width, if there is one
-abbrev pub fitted_to : Option ℕ → Given → Equations → Made
+abbrev pub fitted_to : Option ℕ → Given → Equations → Expanded
 fitted_to None g equations = made equations g.operand g.signed
 fitted_to (Some w) g equations = fitted w g equations
 
-abbrev pub passed : Option ℕ → Given → Equations → Made
+abbrev pub passed : Option ℕ → Given → Equations → Expanded
 passed width g equations = fitted_to (lawful width) g equations
 
 -- all arguments are there before the first parameter is bound
@@ -68,7 +68,7 @@ input_width w = cond (is_width w) w 1
 abbrev pub with_input : List ℕ → ℕ → World → World
 with_input name width w = record w { progress = named name None w.progress.streams (with_equation Input [] (Some (input_width width)) w.progress.equations) }
 
-abbrev pub with_output : List ℕ → Made → World → World
+abbrev pub with_output : List ℕ → Expanded → World → World
 with_output name m w = record { visible = w.visible; progress = named name None w.progress.streams m; outputs = w.outputs ++ m.given.operand ∷ [] }
 
 -- the item of this number

@@ -13,7 +13,7 @@ use Rattle.pr_flat.specs.declared.equations.Op.TheVariants.{Rec}
 use Rattle.pr_expand_spec.specs.declared.givens.Given.{Given}
 use Rattle.pr_expand_spec.specs.declared.givens.Standing.{Standing}
 use Rattle.pr_expand_spec.specs.declared.givens.Standing.TheVariants.{Stream, Own}
-use Rattle.pr_expand_spec.specs.Making.{Equations, Made, with_equation, lawful, constant}
+use Rattle.pr_expand_spec.specs.Making.{Equations, Expanded, with_equation, lawful, constant}
 use Rattle.pr_expand_spec.specs.Expressions.{Streams, Visible, plan_of, declared_at_operator, assigned, place}
 
 -- the streams that are assigned, and the equations so far
@@ -28,14 +28,14 @@ abbrev pub with_standing : List ℕ → Option ℕ → Standing → Streams → 
 with_standing name at s env = λ q r. cond (bytes_eq name q && same_place at r) (Some s) (env q r)
 
 -- a name that is assigned is 0 before its first sample
-abbrev pub named : List ℕ → Option ℕ → Streams → Made → Progress
+abbrev pub named : List ℕ → Option ℕ → Streams → Expanded → Progress
 named name at env m = record { streams = with_standing name at (Stream m.given 0) env; equations = m.equations }
 
 abbrev pub let_change : Ref → Option ℕ → Expr → Change
 let_change target width e v s = named target.name (place target v.known) s.streams (assigned width e v s.streams s.equations)
 
 -- the body, where the recurrence is to have this number; it gets the declared width, but no equation for it alone
-abbrev pub body_made : List ℕ → Option ℕ → Option ℕ → Expr → ℕ → Visible → Progress → Made
+abbrev pub body_made : List ℕ → Option ℕ → Option ℕ → Expr → ℕ → Visible → Progress → Expanded
 body_made name at width e number v s =
     let plan = plan_of e in
     declared_at_operator plan.is_operator (lawful width) (plan.making v (with_standing name at (Own number) s.streams) s.equations)
@@ -44,14 +44,14 @@ body_made name at width e number v s =
 abbrev pub number_after : List ℕ → Option ℕ → Option ℕ → Expr → Visible → Progress → ℕ
 number_after name at width e v s = length (body_made name at width e 0 v s).equations
 
-abbrev pub with_recurrence : List ℕ → Option ℕ → Option ℕ → ℕ → Progress → Made → Progress
+abbrev pub with_recurrence : List ℕ → Option ℕ → Option ℕ → ℕ → Progress → Expanded → Progress
 with_recurrence name at width init s body =
     let m = with_equation (Rec init (length s.equations)) (body.given ∷ []) (lawful width) body.equations in
     record { streams = with_standing name at (Stream (record { operand = m.given.operand; signed = false }) init) s.streams; equations = m.equations }
 
 -- The body that is made under the recurrence's number. Only where it had fewer equations than the one that was counted would that
 -- one stand: in a program that keeps the rules of scope both have as many.
-abbrev pub settled : Made → Made → Made
+abbrev pub settled : Expanded → Expanded → Expanded
 settled counted body = cond (nat_le (length counted.equations) (length body.equations)) body counted
 
 abbrev pub rec_change : Ref → Option ℕ → Fixed → Expr → Change

@@ -13,8 +13,8 @@ use Rattle.pr_lang.specs.declared.trees.Program.{Program}
 use Rattle.pr_lang.specs.Shape.{fixed_shape, expr_shape, stmt_shape, item_shape, program_shape}
 use Rattle.pr_scope_names.specs.declared.names.Static.TheVariants.{Table}
 use Rattle.pr_lang_meaning.specs.Programs.{function_at}
-use Rattle.pr_expand_spec.specs.Making.{Equations, Made, constant}
-use Rattle.pr_expand_spec.specs.Expressions.{Streams, Inlined, Visible, Plan, all_made, function_of, called, concatenated, making_step, is_operator_step, plan_step, plan_of, place}
+use Rattle.pr_expand_spec.specs.Making.{Equations, Expanded, constant}
+use Rattle.pr_expand_spec.specs.Expressions.{Streams, Inlined, Visible, ExprPlan, all_made, function_of, called, concatenated, making_step, is_operator_step, plan_step, plan_of, place}
 use Rattle.pr_expand_spec.specs.Statements.{Progress, Change, body_made, with_recurrence, settled, in_turn, with_index, turns, stmt_step, change_of}
 use Rattle.pr_expand_spec.specs.Programs.{World, Flattened, inlined, start, with_static, with_function, item_change, items_change, equations_of}
 use Rattle.pr_lang_same_tree.proofs.Lists.{each-alike, one-listed}
@@ -28,7 +28,7 @@ use Rattle.pr_lang_same_tree.proofs.Amounts.{even-amount}
 use Rattle.pr_lang_same_tree.proofs.Items.{LikeItem, input, output, const, table, function, step, like-items}
 
 -- ---- expressions
-even-making : (x y : Expr-F Plan) → LikeExpr Plan x y → (v : Visible) (env : Streams) (es : Equations) → making_step x v env es ≡ making_step y v env es
+even-making : (x y : Expr-F ExprPlan) → LikeExpr ExprPlan x y → (v : Visible) (env : Streams) (es : Equations) → making_step x v env es ≡ making_step y v env es
 even-making x y (number n) v env es = refl
 even-making x y (refer r s (alone name)) v env es = refl
 even-making x y (refer r s (indexed name i j is)) v env es = rw (same-value i j is v.known)
@@ -38,11 +38,11 @@ even-making x y (slice a b g h k l is high low) v env es = rw (is, same-value g 
 even-making x y (not a b is) v env es = rw is
 even-making x y (binary o a b c d left right) v env es = rw (left, right)
 even-making x y (choose a b c d e f first second third) v env es = rw (first, second, third)
-even-making x y (call name ps qs are) v env es = ap (λ (parts : List Plan). called (function_of (v.known name) (v.functions name)) (all_made parts v env es)) are
-even-making x y (cat ps qs are) v env es = ap (λ (parts : List Plan). let all = all_made parts v env es in concatenated all.given all.equations) are
+even-making x y (call name ps qs are) v env es = ap (λ (parts : List ExprPlan). called (function_of (v.known name) (v.functions name)) (all_made parts v env es)) are
+even-making x y (cat ps qs are) v env es = ap (λ (parts : List ExprPlan). let all = all_made parts v env es in concatenated all.given all.equations) are
 even-making x y (paren a b is) v env es = rw is
 
-even-operator : (x y : Expr-F Plan) → LikeExpr Plan x y → is_operator_step x ≡ is_operator_step y
+even-operator : (x y : Expr-F ExprPlan) → LikeExpr ExprPlan x y → is_operator_step x ≡ is_operator_step y
 even-operator x y (number n) = refl
 even-operator x y (refer r s like) = refl
 even-operator x y (delay r s j k like by) = refl
@@ -51,24 +51,24 @@ even-operator x y (not a b is) = refl
 even-operator x y (binary o a b c d left right) = refl
 even-operator x y (choose a b c d e f first second third) = refl
 even-operator x y (call name ps qs are) = refl
-even-operator x y (cat ps qs are) = ap (λ (parts : List Plan). nat_le 2 (length parts)) are
+even-operator x y (cat ps qs are) = ap (λ (parts : List ExprPlan). nat_le 2 (length parts)) are
 even-operator x y (paren a b is) = rw is
 
-even-plan : (x y : Expr-F Plan) → LikeExpr Plan x y → plan_step x ≡ plan_step y
+even-plan : (x y : Expr-F ExprPlan) → LikeExpr ExprPlan x y → plan_step x ≡ plan_step y
 even-plan x y like =
     let makings : making_step x ≡ making_step y = fun_ext (λ v. fun_ext (λ env. fun_ext (even-making x y like v env))) in
-    let amounts = fun_ext (even-amount Plan (λ p. p.amount) x y like) in
+    let amounts = fun_ext (even-amount ExprPlan (λ p. p.amount) x y like) in
     rw (makings, amounts, even-operator x y like)
 
 same-plan : (e d : Expr) → expr_shape e ≡ expr_shape d → plan_of e ≡ plan_of d
-same-plan = exprs.same-fold Plan plan_step even-plan
+same-plan = exprs.same-fold ExprPlan plan_step even-plan
 
 -- ---- statements
 even-rec : (r : Ref) (w : Option ℕ) (k : Fixed) (e d : Expr) → expr_shape e ≡ expr_shape d → (v : Visible) (p : Progress) → stmt_step (Stmt-F.Rec r w k e) v p ≡ stmt_step (Stmt-F.Rec r w k d) v p
 even-rec r w k e d body v p =
     let at = place r v.known in
     let bodies : (λ n. body_made r.name at w e n v p) ≡ (λ n. body_made r.name at w d n v p) = fun_ext (λ n. rw (same-plan e d body)) in
-    ap (λ (b : ℕ → Made). with_recurrence r.name at w (constant k v.known) p (settled (b 0) (b (length (b 0).equations)))) bodies
+    ap (λ (b : ℕ → Expanded). with_recurrence r.name at w (constant k v.known) p (settled (b 0) (b (length (b 0).equations)))) bodies
 
 even-stmt : (x y : Stmt-F Change) → LikeStmt Change x y → (v : Visible) (p : Progress) → stmt_step x v p ≡ stmt_step y v p
 even-stmt x y (let_stmt r s w e d (alone name) value) v p = rw (same-plan e d value)

@@ -10,7 +10,7 @@ ghost use Rattle.pr_cut_units.specs.Flats.{flat_plan};
 ghost use Rattle.pr_cut_plan.specs.Plans.{IsPlanOf};
 ghost use Rattle.pr_lens_fits.specs.Makers.{HasBegun, IsMaker};
 
-use pr_cut_plan::Plan;
+use pr_cut_plan::CutPlan;
 use pr_flat::{Equation, Flat, Operand};
 use pr_width::{Widths, operand_width};
 
@@ -52,7 +52,7 @@ fn widening(widths: &Widths, equation: &Equation, to: u8) -> u32
 }
 
 /// The first unit of an equation.
-pub fn first_unit(flat: &Flat, widths: &Widths, plan: &Plan, number: usize) -> u32
+pub fn first_unit(flat: &Flat, widths: &Widths, plan: &CutPlan, number: usize) -> u32
     requires plan { IsPlanOf plan.now (equations_of flat.now) widths.now flat.now.outputs.items }
     requires there { number < vec_len flat.now.equations }
     ensures { result ≡ first_unit (flat_plan flat.now widths.now) number }
@@ -63,7 +63,7 @@ pub fn first_unit(flat: &Flat, widths: &Widths, plan: &Plan, number: usize) -> u
 }
 
 /// Whether an equation has units, the first of which is not behind this one.
-fn has_begun(flat: &Flat, widths: &Widths, plan: &Plan, number: usize, unit: u32) -> bool
+fn has_begun(flat: &Flat, widths: &Widths, plan: &CutPlan, number: usize, unit: u32) -> bool
     requires plan { IsPlanOf plan.now (equations_of flat.now) widths.now flat.now.outputs.items }
     requires there { number < vec_len flat.now.equations }
     ensures { IsTrue result ↔ HasBegun (flat_plan flat.now widths.now) unit number }
@@ -72,7 +72,7 @@ fn has_begun(flat: &Flat, widths: &Widths, plan: &Plan, number: usize, unit: u32
 }
 
 /// The equation that makes the unit of this number: the last one with units whose first unit is not behind it.
-pub fn unit_equation(flat: &Flat, widths: &Widths, plan: &Plan, unit: u32) -> usize
+pub fn unit_equation(flat: &Flat, widths: &Widths, plan: &CutPlan, unit: u32) -> usize
     requires { IsPlanOf plan.now (equations_of flat.now) widths.now flat.now.outputs.items }
     ensures { IsMaker (flat_plan flat.now widths.now) unit result }
 {

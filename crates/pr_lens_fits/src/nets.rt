@@ -11,7 +11,7 @@ ghost use Rattle.pr_cut_plan.specs.declared.faults.CutFault.{CutFault};
 ghost use Rattle.pr_cut_plan.specs.Plans.{IsPlanOf};
 
 use pr_cut::cut;
-use pr_cut_plan::{CutFault, Plan, plan_of};
+use pr_cut_plan::{CutFault, CutPlan, plan_of};
 use pr_flat::Flat;
 use pr_net::Net;
 use pr_width::Widths;
@@ -23,7 +23,7 @@ pub fn plan_and_net(
     flat: &Flat,
     widths: &Widths,
     columns: usize,
-) -> Result<(Plan, Net), CutFault>
+) -> Result<(CutPlan, Net), CutFault>
     requires widths { AreWidths (equations_of flat.now) widths.now }
     requires columns { (1 ≤ columns) × (columns ≤ 64) }
     ensures plan { IfOk result (λ r. IsPlanOf r.0 (equations_of flat.now) widths.now flat.now.outputs.items) }

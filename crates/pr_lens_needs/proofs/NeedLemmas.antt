@@ -11,7 +11,7 @@ use Rattle.pr_flat.specs.Flats as flats
 use Rattle.pr_flat.specs.Shape.{EquationShape}
 use Rattle.pr_narrow.specs.Narrowed.{AreNarrowed}
 use Rattle.pr_net.specs.Shape.{NetShape}
-use Rattle.pr_cut_units.specs.Equations.{Plan, plan_of}
+use Rattle.pr_cut_units.specs.Equations.{UnitPlan, plan_of}
 use Rattle.pr_cut_units.specs.Flats.{flat_net, flat_plan}
 use Rattle.pr_cut_units.specs.Nets.{limit_passed, net_of}
 use Rattle.pr_expand_spec.specs.Programs.{equations_of}
@@ -27,7 +27,7 @@ use Rattle.pr_lens_needs.specs.Takes.{take_of, takes_before, with_take}
 
 -- ---- operators
 -- one more
-pub takes_more : (plan : Plan) (net : NetShape) (units : List ℕ) (number : ℕ) (takes : List Take) (one : Take) → takes ≡ takes_before plan net units number → one ≡ take_of plan net units number
+pub takes_more : (plan : UnitPlan) (net : NetShape) (units : List ℕ) (number : ℕ) (takes : List Take) (one : Take) → takes ≡ takes_before plan net units number → one ≡ take_of plan net units number
     → with_take takes one ≡ takes_before plan net units (number + 1)
 takes_more plan net units number takes one before is =
     let each : ℕ → Take = take_of plan net units in
@@ -46,7 +46,7 @@ none_left None not is = is
 none_left (Some x) not is = absurd (not x refl)
 
 -- ---- a text whose net is made of these equations
-pub of_text : (Holds : Plan → NetShape → Type 0) (narrowed : Bool) (text : List ℕ) (ready : Flat) (news : List ℕ) → IsReadyOf narrowed text ready news → Holds (flat_plan ready news) (flat_net ready news) → OfText narrowed text Holds
+pub of_text : (Holds : UnitPlan → NetShape → Type 0) (narrowed : Bool) (text : List ℕ) (ready : Flat) (news : List ℕ) → IsReadyOf narrowed text ready news → Holds (flat_plan ready news) (flat_net ready news) → OfText narrowed text Holds
 of_text Holds narrowed text ready news r is = record {
   program = r.program;
   given = r.given;

@@ -6,7 +6,7 @@ use Rattle.pr_base.specs.declared.caps.Cap.{Cap}
 use Rattle.pr_lang.specs.declared.trees.Program.{Program}
 use Rattle.pr_flat.specs.Shape.{EquationShape}
 use Rattle.pr_net.specs.Shape.{NetShape}
-use Rattle.pr_cut_units.specs.Equations.{Plan, plan_of}
+use Rattle.pr_cut_units.specs.Equations.{UnitPlan, plan_of}
 use Rattle.pr_expand_spec.specs.Programs.{equations_of}
 use Rattle.pr_compile_front.specs.Refusals.{HasWidths}
 use Rattle.pr_compile.specs.Configured.{OfReadyBy, net_by}
@@ -14,7 +14,7 @@ use Rattle.pr_lens_fits.specs.Unfits.{HasRefusal, PassesLimit, cell_count, group
 use Rattle.pr_lens_needs.specs.Recurrences.{is_held, last_unit}
 
 -- the columns of the group of a recurrence, where an output can be reached from it
-abbrev pub held_columns : Plan → NetShape → ℕ → Option ℕ
+abbrev pub held_columns : UnitPlan → NetShape → ℕ → Option ℕ
 held_columns plan net rec = if is_held plan rec then Some (cell_count net (group_ending net (last_unit plan rec))) else None
 
 -- ---- the width that an equation declares

@@ -4,7 +4,7 @@ use Rattle.pr_base.specs.declared.caps.Cap.{Cap}
 use Rattle.pr_lang.specs.declared.tokens.Token.{Token}
 use Rattle.pr_lang.specs.declared.trees.Program.{Program}
 use Rattle.pr_net.specs.Shape.{NetShape}
-use Rattle.pr_cut_units.specs.Equations.{Plan, first_unit, plan_of}
+use Rattle.pr_cut_units.specs.Equations.{UnitPlan, first_unit, plan_of}
 use Rattle.pr_expand_spec.specs.Programs.{equations_of}
 use Rattle.pr_compile_front.specs.Refusals.{HasWidths}
 use Rattle.pr_compile.specs.Configured.{OfReadyBy, net_by}
@@ -19,19 +19,19 @@ use Rattle.pr_lens_needs.specs.Takes.{columns_between, most_takes}
 
 -- ---- a net
 -- the recurrence whose last unit this is, its width, and which columns its operators take and the units that hold it
-pub record AreParts (plan : Plan) (net : NetShape) (unit : ℕ) (parts : Parts) : Type 0 where
+pub record AreParts (plan : UnitPlan) (net : NetShape) (unit : ℕ) (parts : Parts) : Type 0 where
   pub rec : IsLastOf plan unit parts.rec
   pub width : parts.width ≡ slice_index plan.widths parts.rec
   pub takes : parts.takes.items ≡ most_takes plan net (group_ending net unit) parts.rec
   pub keeps : parts.keeps ≡ columns_between net (group_ending net unit) (first_unit plan parts.rec) (unit + 1)
 
 -- it is that of no recurrence
-abbrev pub IsLastOfNone : Plan → ℕ → Type 0
+abbrev pub IsLastOfNone : UnitPlan → ℕ → Type 0
 IsLastOfNone plan unit = (rec : ℕ) → rec < length plan.equations → IsLastOf plan unit rec → ⊥
 
 -- ---- a text
 -- what holds of the plan and the net of its program, narrowed or as they are
-pub record OfText (narrowed : Bool) (text : List ℕ) (Holds : Plan → NetShape → Type 0) : Type 0 where
+pub record OfText (narrowed : Bool) (text : List ℕ) (Holds : UnitPlan → NetShape → Type 0) : Type 0 where
   pub program : Program
   pub given : List ℕ
   pub has : HasWidths text program given

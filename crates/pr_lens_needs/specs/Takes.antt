@@ -4,7 +4,7 @@ use Rattle.std.specs.List.{insert, range_with_len}
 use Rattle.pr_flat.specs.declared.equations.Op.TheVariants.{Input}
 use Rattle.pr_flat.specs.Facts.{op_at}
 use Rattle.pr_net.specs.Shape.{NetShape, cells_of}
-use Rattle.pr_cut_units.specs.Equations.{Plan, first_unit}
+use Rattle.pr_cut_units.specs.Equations.{UnitPlan, first_unit}
 use Rattle.pr_lens_needs.specs.declared.takes.Take.{Take}
 
 -- the cells of a unit that has a number from one up to another, that one not included
@@ -16,7 +16,7 @@ abbrev pub columns_between : NetShape → List ℕ → ℕ → ℕ → ℕ
 columns_between net units from to = min (sum_by (cells_between net from to) units) (2 ^ 64 - 1)
 
 -- equation i, with the columns of its units in the group
-abbrev pub take_of : Plan → NetShape → List ℕ → ℕ → Take
+abbrev pub take_of : UnitPlan → NetShape → List ℕ → ℕ → Take
 take_of plan net units i = record {
   op = unwrap_or (op_at plan.equations i) Input;
   width = slice_index plan.widths i;
@@ -36,9 +36,9 @@ with_take takes one = if one.columns == 0 then takes else insert takes (place_fo
 
 -- so many equations, from the first on, that take columns of a group: the greatest number first, and of equal ones
 -- the first in the text
-abbrev pub takes_before : Plan → NetShape → List ℕ → ℕ → List Take
+abbrev pub takes_before : UnitPlan → NetShape → List ℕ → ℕ → List Take
 takes_before plan net units count = fold with_take [] (map (take_of plan net units) (range_with_len 0 count))
 
 -- the first ten of those before a recurrence
-abbrev pub most_takes : Plan → NetShape → List ℕ → ℕ → List Take
+abbrev pub most_takes : UnitPlan → NetShape → List ℕ → ℕ → List Take
 most_takes plan net units rec = take 10 (takes_before plan net units rec)

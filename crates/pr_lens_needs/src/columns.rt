@@ -14,7 +14,7 @@ ghost use Rattle.pr_lens_needs.specs.Columns.{HasDeclared, HasNotDeclared, Needs
 use crate::recurrences::{is_held, last_unit};
 use pr_base::Cap;
 use pr_compile_front::Front;
-use pr_cut_plan::{CutFault, Plan};
+use pr_cut_plan::{CutFault, CutPlan};
 use pr_flat::Flat;
 use pr_lens_fits::{cells_in, group_ending, plan_and_net, read_front, ready_of};
 use pr_net::Net;
@@ -22,7 +22,13 @@ use pr_width::Widths;
 use std::alloc::{AllocError, Global};
 
 /// How many columns the group of a recurrence has, where an output can be reached from it.
-fn held_columns(flat: &Flat, widths: &Widths, plan: &Plan, net: &Net, rec: usize) -> Option<usize>
+fn held_columns(
+    flat: &Flat,
+    widths: &Widths,
+    plan: &CutPlan,
+    net: &Net,
+    rec: usize,
+) -> Option<usize>
     requires { IsPlanOf plan.now (equations_of flat.now) widths.now flat.now.outputs.items }
     ensures { result ≡ held_columns (flat_plan flat.now widths.now) (shape_of net.now) rec }
 {

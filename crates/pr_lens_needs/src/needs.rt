@@ -16,7 +16,7 @@ use crate::groups::columns_between;
 use crate::recurrences::recurrence_of;
 use crate::smaller::{Asked, Narrower, smaller_widths};
 use crate::takes::{Group, Take, most_takes};
-use pr_cut_plan::{CutFault, Plan};
+use pr_cut_plan::{CutFault, CutPlan};
 use pr_flat::Flat;
 use pr_lens_fits::{first_unit, group_ending, plan_and_net, ready_in, width_at};
 use pr_lens_source::Source;
@@ -51,7 +51,7 @@ fn parts_with<'a>(
     alloc: Global,
     flat: &'a Flat,
     widths: &'a Widths,
-    plan: &'a Plan,
+    plan: &'a CutPlan,
     net: &'a Net,
     unit: u32,
 ) -> Result<Option<Parts>, AllocError>

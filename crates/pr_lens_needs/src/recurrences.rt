@@ -6,7 +6,7 @@ ghost use Rattle.pr_cut_units.specs.Flats.{flat_plan};
 ghost use Rattle.pr_cut_plan.specs.Plans.{IsPlanOf};
 ghost use Rattle.pr_lens_needs.specs.Recurrences.{IsLastOf, is_held, is_recurrence, last_unit};
 
-use pr_cut_plan::Plan;
+use pr_cut_plan::CutPlan;
 use pr_flat::{Flat, Op};
 use pr_width::Widths;
 
@@ -21,7 +21,7 @@ fn is_recurrence(flat: &Flat, rec: usize) -> bool
 }
 
 /// Whether the equation of this number is a recurrence that an output can be reached from.
-pub fn is_held(flat: &Flat, widths: &Widths, plan: &Plan, rec: usize) -> bool
+pub fn is_held(flat: &Flat, widths: &Widths, plan: &CutPlan, rec: usize) -> bool
     requires { IsPlanOf plan.now (equations_of flat.now) widths.now flat.now.outputs.items }
     ensures { result ≡ is_held (flat_plan flat.now widths.now) rec }
 {
@@ -29,7 +29,7 @@ pub fn is_held(flat: &Flat, widths: &Widths, plan: &Plan, rec: usize) -> bool
 }
 
 /// The last unit of a recurrence.
-pub fn last_unit(flat: &Flat, widths: &Widths, plan: &Plan, rec: usize) -> u64
+pub fn last_unit(flat: &Flat, widths: &Widths, plan: &CutPlan, rec: usize) -> u64
     requires plan { IsPlanOf plan.now (equations_of flat.now) widths.now flat.now.outputs.items }
     requires held { is_held (flat_plan flat.now widths.now) rec ≡ true }
     ensures { result ≡ last_unit (flat_plan flat.now widths.now) rec }
@@ -39,7 +39,7 @@ pub fn last_unit(flat: &Flat, widths: &Widths, plan: &Plan, rec: usize) -> u64
 }
 
 /// Whether this is the last unit of this recurrence.
-fn is_last_of(flat: &Flat, widths: &Widths, plan: &Plan, unit: u32, rec: usize) -> bool
+fn is_last_of(flat: &Flat, widths: &Widths, plan: &CutPlan, unit: u32, rec: usize) -> bool
     requires { IsPlanOf plan.now (equations_of flat.now) widths.now flat.now.outputs.items }
     ensures { IsTrue result ↔ IsLastOf (flat_plan flat.now widths.now) unit rec }
 {
@@ -47,7 +47,7 @@ fn is_last_of(flat: &Flat, widths: &Widths, plan: &Plan, unit: u32, rec: usize) 
 }
 
 /// The recurrence whose last unit this is, where it is that of one.
-pub fn recurrence_of(flat: &Flat, widths: &Widths, plan: &Plan, unit: u32) -> Option<usize>
+pub fn recurrence_of(flat: &Flat, widths: &Widths, plan: &CutPlan, unit: u32) -> Option<usize>
     requires { IsPlanOf plan.now (equations_of flat.now) widths.now flat.now.outputs.items }
     ensures some { IfSome result (IsLastOf (flat_plan flat.now widths.now) unit) }
     ensures within { IfSome result (λ rec. rec < vec_len flat.now.equations) }

@@ -8,7 +8,7 @@ ghost use Rattle.pr_cut_plan.specs.Plans.{IsPlanOf};
 ghost use Rattle.pr_lens_needs.specs.Takes.{most_takes, place_for, take_of, takes_fewer, with_take};
 
 use crate::groups::columns_between;
-use pr_cut_plan::Plan;
+use pr_cut_plan::CutPlan;
 use pr_flat::{Flat, Op};
 use pr_lens_fits::{first_unit, width_at};
 use pr_net::Net;
@@ -32,7 +32,7 @@ pub struct Take {
 pub struct Group<'a> {
     pub flat: &'a Flat,
     pub widths: &'a Widths,
-    pub plan: &'a Plan,
+    pub plan: &'a CutPlan,
     pub net: &'a Net,
     pub units: &'a [u32],
 }

@@ -21,9 +21,9 @@ use Rattle.pr_flat.specs.Forms.{Stream, number_width}
 use Rattle.pr_lang_meaning.specs.Streams.{Streams, constant_stream, operate, operated, part, sources}
 use Rattle.pr_lang_meaning.specs.Expressions as meant
 use Rattle.pr_lang_meaning.specs.Expressions.{Sense, combined, constant_shift, meaning, sense_of, sense_step}
-use Rattle.pr_expand_spec.specs.Making.{Equations, Made, with_equation}
+use Rattle.pr_expand_spec.specs.Making.{Equations, Expanded, with_equation}
 use Rattle.pr_expand_spec.specs.Expressions as made
-use Rattle.pr_expand_spec.specs.Expressions.{Plan, declared_at_operator, declared_else, plan_of, plan_step}
+use Rattle.pr_expand_spec.specs.Expressions.{ExprPlan, declared_at_operator, declared_else, plan_of, plan_step}
 use Rattle.pr_probe.specs.Probes.{KeepsRules, reference, scene}
 use Rattle.pr_probe.proofs.References.{plan-is, ref_to}
 use Rattle.pr_probe.proofs.Scope.{reference-walked}
@@ -50,16 +50,16 @@ number-means n = fold-roll-Expr Sense sense_step (Expr-F.Number n)
 
 number-planned : (n : ℕ) → plan_of (Number n) ≡ plan_step (Expr-F.Number n)
 unfolding expressions.roll-Expr denote.Hole.Carrier.roll
-number-planned n = fold-roll-Expr Plan plan_step (Expr-F.Number n)
+number-planned n = fold-roll-Expr ExprPlan plan_step (Expr-F.Number n)
 
 -- an operator without declared width has no equation beside its own
 binary-assigned : (o : BinOp) (l r : Box Expr) (v : made.Visible) (env : made.Streams) (es : Equations) → made.assigned None (Binary o l r) v env es ≡ made.combined o (constant_shift o ((plan_of r.value).amount v.known)) (plan_of l.value) (plan_of r.value) v env es
 unfolding expressions.roll-Expr denote.Hole.Carrier.roll
-binary-assigned o l r v env es = ap (λ (p : Plan). declared_else p.is_operator None (declared_at_operator p.is_operator None (p.making v env es))) (fold-roll-Expr Plan plan_step (Expr-F.Binary o l r))
+binary-assigned o l r v env es = ap (λ (p : ExprPlan). declared_else p.is_operator None (declared_at_operator p.is_operator None (p.making v env es))) (fold-roll-Expr ExprPlan plan_step (Expr-F.Binary o l r))
 
 binary-made : (o : BinOp) (l r : Box Expr) (v : made.Visible) (env : made.Streams) (es : Equations) → (plan_of (Binary o l r)).making v env es ≡ made.combined o (constant_shift o ((plan_of r.value).amount v.known)) (plan_of l.value) (plan_of r.value) v env es
 unfolding expressions.roll-Expr denote.Hole.Carrier.roll
-binary-made o l r v env es = ap (λ (p : Plan). p.making v env es) (fold-roll-Expr Plan plan_step (Expr-F.Binary o l r))
+binary-made o l r v env es = ap (λ (p : ExprPlan). p.making v env es) (fold-roll-Expr ExprPlan plan_step (Expr-F.Binary o l r))
 
 -- ---- widths
 zero-wide : number_width 0 ≡ 1
@@ -137,16 +137,16 @@ module _ (name : List ℕ) (index : Option ℕ) (top nothing shown amount : Box 
       let known = v.known in
       let first : ((plan_of top.value).making v env es).equations ≡ (with_equation (op.Right 127) (((plan_of shown.value).making v env es).given ∷ []) None ((plan_of shown.value).making v env es).equations).equations =
       ap (λ (e : Expr). ((plan_of e).making v env es).equations) top_is
-      ∙ (ap (λ (x : Made). x.equations) (binary-made binary.Right shown amount v env es)
-      ∙ ap (λ (a : Plan). (made.combined binary.Right (constant_shift binary.Right (a.amount known)) (plan_of shown.value) a v env es).equations) (ap plan_of amount_is ∙ number-planned 127)) in
+      ∙ (ap (λ (x : Expanded). x.equations) (binary-made binary.Right shown amount v env es)
+      ∙ ap (λ (a : ExprPlan). (made.combined binary.Right (constant_shift binary.Right (a.amount known)) (plan_of shown.value) a v env es).equations) (ap plan_of amount_is ∙ number-planned 127)) in
       let none : ((plan_of shown.value).making v env es).equations ≡ es =
       ap (λ (e : Expr). ((plan_of e).making v env es).equations) shown_is
-      ∙ (ap (λ (p : Plan). (p.making v env es).equations) (plan-is (ref_to name index))
+      ∙ (ap (λ (p : ExprPlan). (p.making v env es).equations) (plan-is (ref_to name index))
       ∙ referred-same (known name) (made.place (ref_to name index) known) (env name (made.place (ref_to name index) known)) es) in
       let one : length ((plan_of top.value).making v env es).equations ≡ length es + 1 = ap length first ∙ (length-append ((plan_of shown.value).making v env es).equations _ ∙ ap (λ (l : Equations). length l + 1) none) in
       let all : (made.assigned None (Binary binary.And top nothing) v env es).equations ≡ (made.apply op.And (made.all_made (plan_of top.value ∷ plan_step (Expr-F.Number 0) ∷ []) v env es)).equations =
-      ap (λ (x : Made). x.equations) (binary-assigned binary.And top nothing v env es)
-      ∙ ap (λ (a : Plan). (made.combined binary.And (constant_shift binary.And (a.amount known)) (plan_of top.value) a v env es).equations) (ap plan_of nothing_is ∙ number-planned 0) in
+      ap (λ (x : Expanded). x.equations) (binary-assigned binary.And top nothing v env es)
+      ∙ ap (λ (a : ExprPlan). (made.combined binary.And (constant_shift binary.And (a.amount known)) (plan_of top.value) a v env es).equations) (ap plan_of nothing_is ∙ number-planned 0) in
       ap length all ∙ (length-append ((plan_of top.value).making v env es).equations _ ∙ (ap (λ n. n + 1) one ∙ (let e : length es + 1 + 1 ≡ length es + 2 = omega arith in e)))
 
   pub tells : TellsKind name index (Binary binary.And top nothing)

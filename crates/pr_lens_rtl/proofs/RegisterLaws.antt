@@ -5,7 +5,7 @@ use Rattle.std.proofs.Math.Nat.{mod-eq_of_lt, mul-le-mul_left}
 use Rattle.std.proofs.lemmas.Bool.{cases_lt, and_parts, ltb-true}
 use Rattle.std.proofs.lemmas.Bool.Decides.{nat_tests}
 use Rattle.std.proofs.lemmas.List.{ext_get_or, length-map, get_or-map}
-use Rattle.pr_base.specs.Pe.{Made, next_state}
+use Rattle.pr_base.specs.Pe.{PeResult, next_state}
 use Rattle.pr_base.specs.declared.choices.Next.{Next}
 use Rattle.pr_conf.specs.declared.pes.Pe.{Pe}
 use Rattle.pr_conf.specs.Rules.{are_lawful_pes}
@@ -182,7 +182,7 @@ module _ (now after : Values) (N P bus s : ℕ) (pes : List Pe) (d : Pe) (fit : 
   abbrev state : List ℕ
   state = at_places (λ k. now (Net.Of Part.State s k)) 0 N
 
-  abbrev all : List Made
+  abbrev all : List PeResult
   all = made_from N row state [] pes
 
   columns : Columns now N P bus s row state pes d fit (reads_of now N P bus s) stage.lawful stage.bytes wires (length pes)

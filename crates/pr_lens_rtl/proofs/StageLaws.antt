@@ -2,7 +2,7 @@
 use Rattle.std.proofs.Common.{◌≡◌, ◌<◌, ◌≤◌, ℕ, zero, suc, ◌+◌, ◌-◌, ◌*◌, Bool, true, List, [], ◌∷◌, ◌++◌, length, get_or, take, refl, sym, ap, subst, ◌∙◌, arith, inl, inr}
 use Rattle.std.specs.List.{list_all}
 use Rattle.std.proofs.lemmas.Bool.{and_parts, ltb-true, cases_lt}
-use Rattle.pr_base.specs.Pe.{Made}
+use Rattle.pr_base.specs.Pe.{PeResult}
 use Rattle.pr_conf.specs.declared.pes.Source.{Source}
 use Rattle.pr_conf.specs.declared.pes.Pe.{Pe}
 use Rattle.pr_conf.specs.Rules.{is_lawful_source, is_lawful_pe, are_lawful_pes}
@@ -72,10 +72,10 @@ pub record Reads (now : Values) (N P bus s : ℕ) (row state : List ℕ) : Type 
 
 module _ (now : Values) (N P bus s : ℕ) (row state : List ℕ) (pes : List Pe) (d : Pe) (fit : Fit now) (reads : Reads now N P bus s row state)
     (lawful : are_lawful_pes (site_at N P bus s 0) pes ≡ true) (bytes : list_all has_pe_bytes pes ≡ true) (wires : Takes now now (pes_wires N s 0 pes)) where
-  abbrev all : List Made
+  abbrev all : List PeResult
   all = made_from N row state [] pes
 
-  none : Made
+  none : PeResult
   none = record { output = 0; carry = 0 }
 
   -- the sight of a column and that of the whole stage are alike for what the column may read

@@ -5,7 +5,7 @@ use Rattle.pr_flat.specs.declared.equations.Operand.{Operand}
 use Rattle.pr_flat.specs.declared.equations.Operand.TheVariants.{Const, Eq, Past}
 use Rattle.pr_flat.specs.Facts.{is_input}
 use Rattle.pr_flat.specs.Shape.{EquationShape}
-use Rattle.pr_cut_units.specs.Equations.{Plan}
+use Rattle.pr_cut_units.specs.Equations.{UnitPlan}
 use Rattle.pr_lens_shares.specs.Counts.{unit_counts}
 
 -- an operand is the stream of this equation
@@ -30,5 +30,5 @@ owned place (count ∷ counts) = replicate count (Some place) ++ owned (place + 
 
 -- For each unit of a plan the place of its stream: the units of the inputs stand first, and then those of each stream, one stream after
 -- the other
-abbrev pub owners_of : Plan → List Operand → List (Option ℕ)
+abbrev pub owners_of : UnitPlan → List Operand → List (Option ℕ)
 owners_of plan operands = input_owners operands 0 plan.equations ++ owned 0 (unit_counts plan 0 operands)

@@ -5,7 +5,7 @@ use Rattle.pr_lang.specs.declared.trees.Program.{Program}
 use Rattle.pr_flat.specs.declared.equations.Operand.{Operand}
 use Rattle.pr_expand_spec.specs.Programs.{equations_of}
 use Rattle.pr_net.specs.Shape.{NetShape}
-use Rattle.pr_cut_units.specs.Equations.{Plan, plan_of}
+use Rattle.pr_cut_units.specs.Equations.{UnitPlan, plan_of}
 use Rattle.pr_cut_units.specs.Nets.{limit_passed}
 use Rattle.pr_compile.specs.Configured.{OfReadyBy, net_by}
 use Rattle.pr_lens_probe.specs.declared.probing.Probed.{Probed}
@@ -22,7 +22,7 @@ abbrev pub shown_operands : Probed → List Operand
 shown_operands p = drop (vec_len p.flat.outputs - vec_len p.instances) p.flat.outputs.items
 
 -- the instances with their units, by the units of a plan
-pub record IsTallyIn (probed : Probed) (tally : Tally) (plan : Plan) : Type 0 where
+pub record IsTallyIn (probed : Probed) (tally : Tally) (plan : UnitPlan) : Type 0 where
   pub instances : tally.instances ≡ probed.instances
   pub counts : tally.counts.items ≡ unit_counts plan 0 (shown_operands probed)
   pub owners : tally.owners.items ≡ owners_of plan (shown_operands probed)

@@ -12,7 +12,7 @@ ghost use Rattle.pr_cut_plan.specs.Plans.{IsPlanOf};
 ghost use Rattle.pr_lens_shares.specs.Counts.{equations_to, unit_counts};
 
 use pr_cut::cut;
-use pr_cut_plan::{CutFault, Plan, plan_of};
+use pr_cut_plan::{CutFault, CutPlan, plan_of};
 use pr_flat::{Flat, Operand};
 use pr_lens_fits::first_unit;
 use pr_width::Widths;
@@ -37,7 +37,13 @@ fn at_least(from: usize, operand: Operand) -> usize
 }
 
 /// How many units there are before those of an equation, and of all equations where it is behind them.
-fn units_before(flat: &Flat, widths: &Widths, plan: &Plan, units: usize, equation: usize) -> usize
+fn units_before(
+    flat: &Flat,
+    widths: &Widths,
+    plan: &CutPlan,
+    units: usize,
+    equation: usize,
+) -> usize
     requires plan { IsPlanOf plan.now (equations_of flat.now) widths.now flat.now.outputs.items }
     requires units { units ≡ all_units (flat_plan flat.now widths.now) }
     ensures { result ≡ first_unit (flat_plan flat.now widths.now) equation }
@@ -53,7 +59,7 @@ fn counts_with(
     alloc: Global,
     flat: &Flat,
     widths: &Widths,
-    plan: &Plan,
+    plan: &CutPlan,
     units: usize,
     operands: &[Operand],
 ) -> Result<Vec<usize>, AllocError>

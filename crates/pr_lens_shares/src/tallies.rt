@@ -6,7 +6,7 @@ ghost use Rattle.pr_flat.specs.Flats.{equations_of as flat_equations};
 ghost use Rattle.pr_flat.specs.Widths.{AreWidths};
 ghost use Rattle.pr_lang_meaning.specs.Programs.{has_widths};
 ghost use Rattle.pr_expand_spec.specs.Programs.{equations_of};
-ghost use Rattle.pr_cut_units.specs.Equations.{Plan};
+ghost use Rattle.pr_cut_units.specs.Equations.{UnitPlan};
 ghost use Rattle.pr_cut_units.specs.Flats.{flat_net, flat_plan};
 ghost use Rattle.pr_compile_front.specs.Passed.{HasEquations};
 ghost use Rattle.pr_lens_probe.specs.Shown.{Shows};
@@ -95,7 +95,7 @@ fn tally_with(
     probed: Probed,
     counts: Vec<usize>,
 ) -> Result<Tally, AllocError>
-    ensures { (plan : Plan) → plan.equations ≡ flat_equations flat.now →
+    ensures { (plan : UnitPlan) → plan.equations ≡ flat_equations flat.now →
         counts.items ≡ unit_counts plan 0 (shown_operands probed) → IfOk result (λ t. IsTallyIn probed t plan) }
 {
     let owners = unit_owners(alloc, flat, shown_operands(&probed), &counts)?;

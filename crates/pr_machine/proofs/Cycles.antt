@@ -13,7 +13,7 @@ use Rattle.pr_machine_refines.specs.Stands.{IsStanding}
 use Rattle.pr_machine_refines.specs.Cycle.{will_enter, will_leave, bus_of, rest_of, pushed, HasRoom, IsPass}
 use Rattle.pr_machine_refines.proofs.HistoryLaws.{held_is, standing_held, standing_next, event_told, out_told, entered_told, left_told}
 use Rattle.pr_machine.specs.declared.loaded.Loaded.{Loaded}
-use Rattle.pr_machine.specs.declared.places.Place.{Place}
+use Rattle.pr_machine.specs.declared.places.StripePlace.{StripePlace}
 use Rattle.pr_machine.specs.declared.places.Schedule.{Schedule}
 use Rattle.pr_stripe.specs.Rows.{entering as row_if}
 use Rattle.pr_machine.specs.Places.{spots_of, rows_of}
@@ -67,7 +67,7 @@ module _ {N P : ℕ} (l : Loaded N P) (k : Shape) (p : ℕ) (h : History) (st : 
     here : IsScheduled (length k.stages) p l.plan.time schedule
     here = subst (λ v. IsScheduled v p l.plan.time schedule) (stages_are l k p h st 0) (subst (λ q. IsScheduled (vec_len l.conf.stages) q l.plan.time schedule) (stripes_are l k p h st 0) planned)
 
-    pub held_told : (places : List (Place N P)) (stages n r : ℕ) (entering : Bool) → places ≡ l.places.items → stages ≡ vec_len l.conf.stages → n ≡ length l.buffers.input.waiting → r ≡ length l.buffers.output.waiting → entering ≡ will_enter n schedule.first
+    pub held_told : (places : List (StripePlace N P)) (stages n r : ℕ) (entering : Bool) → places ≡ l.places.items → stages ≡ vec_len l.conf.stages → n ≡ length l.buffers.input.waiting → r ≡ length l.buffers.output.waiting → entering ≡ will_enter n schedule.first
         → (will_leave (length places) (spots_of places) (eqb stages 1) entering schedule.last && eqb r 16) ≡ stalled (length k.stages) p (account_of k p h)
     held_told places stages n r entering ep es en er ee =
         ap (λ ps. will_leave (length ps) (spots_of ps) (eqb stages 1) entering schedule.last && eqb r 16) ep
@@ -77,7 +77,7 @@ module _ {N P : ℕ} (l : Loaded N P) (k : Shape) (p : ℕ) (h : History) (st : 
         ∙ (ap (λ q. will_leave q (spots_of l.places.items) (eqb (length k.stages) 1) (will_enter (length l.buffers.input.waiting) schedule.first) schedule.last && eqb (length l.buffers.output.waiting) 16) st.stripes
         ∙ held_is (steps_of N P k) (tapped N k) (length k.stages) p (spots_of l.places.items) (rows_of l.buffers.store) l.plan.time l.entered l.left l.buffers.input.waiting l.buffers.output.waiting h hv hp st.parts schedule.first schedule.last here.first here.last))))
 
-    module _ (old new : List (Place N P)) (store store' : List (List ℕ)) (ready' : List (List ℕ)) (brings : Option (ℕ × ℕ)) (entering left : Bool) (sample result : List ℕ) (out : Option ℕ)
+    module _ (old new : List (StripePlace N P)) (store store' : List (List ℕ)) (ready' : List (List ℕ)) (brings : Option (ℕ × ℕ)) (entering left : Bool) (sample result : List ℕ) (out : Option ℕ)
         (old_is : old ≡ l.places.items) (store_is : store ≡ l.buffers.store) (brings_is : brings ≡ turned (event l.plan.stages l.plan.stripes l.plan.time)) (bus_is : row_if entering sample ≡ bus_of l.buffers.input.waiting schedule.first)
         (pass : IsPass (steps_of N P (shape_of l.conf)) (tapped N (shape_of l.conf)) (vec_len l.conf.stages) (length old) schedule.ring schedule.last brings (row_if entering sample) (spots_of old) (spots_of new) (rows_of store) (rows_of store') (row_if left result) out)
         (row : HasRoom l.buffers.output.waiting (row_if left result) → ready' ≡ pushed l.buffers.output.waiting (row_if left result)) where
@@ -116,7 +116,7 @@ module _ {N P : ℕ} (l : Loaded N P) (k : Shape) (p : ℕ) (h : History) (st : 
           (spots_of new) (rows_of store') ready' schedule.first schedule.last schedule.ring brings (row_if entering sample) (row_if left result) out here.first here.last here.ring brings_here bus_is pass_here row left (is_some_row left result) in
           same_turn t true _ _ _ _ e1 f2 f3 f4 f5
 
-      pub next_machine : (new' : List (Place N P)) (store'' : List (List ℕ)) (time' entered' left' : ℕ) (waiting' : List (List ℕ)) → stalled (length k.stages) p (account_of k p h) ≡ false → new' ≡ new → store'' ≡ store' → time' ≡ l.plan.time + 1
+      pub next_machine : (new' : List (StripePlace N P)) (store'' : List (List ℕ)) (time' entered' left' : ℕ) (waiting' : List (List ℕ)) → stalled (length k.stages) p (account_of k p h) ≡ false → new' ≡ new → store'' ≡ store' → time' ≡ l.plan.time + 1
           → entered' ≡ l.entered + cond entering 1 0 → left' ≡ l.left + cond left 1 0 → waiting' ≡ rest_of l.buffers.input.waiting schedule.first
           → IsStanding (steps_of N P k) (tapped N k) (length k.stages) p (spots_of new') (rows_of store'') time' entered' left' waiting' ready' (account_of k p (h ++ Cycle ∷ []))
       next_machine new' store'' time' entered' left' waiting' free en es et ee el ew =

@@ -9,7 +9,7 @@ use Rattle.pr_conf.specs.Through.{steps_of, tapped}
 use Rattle.pr_conf.specs.After.{with_states, state_rows, conf_after}
 use Rattle.pr_conf.proofs.AfterLaws.{with_states_after}
 use Rattle.pr_machine.specs.declared.loaded.Loaded.{Loaded}
-use Rattle.pr_machine.specs.declared.places.Place.{Place}
+use Rattle.pr_machine.specs.declared.places.StripePlace.{StripePlace}
 use Rattle.pr_machine.specs.Places.{spots_of, rows_of}
 use Rattle.pr_machine.specs.Stands.{History, PartsStand, account_of}
 use Rattle.pr_machine.specs.Emptying.{IsEmptied}
@@ -43,9 +43,9 @@ module _ {N P : ℕ} (l : Loaded N P) (k : Shape) (p : ℕ) (h : History) (st : 
       omega (arith, l.rows, l.conf.stages.ok.0)
 
   -- the configuration after all samples
-  pub parked_is : (places : List (Place N P)) (new : List (List ℕ)) (now : Shape) → places ≡ l.places.items → now ≡ with_states (shape_of l.conf) (rows_of new)
+  pub parked_is : (places : List (StripePlace N P)) (new : List (List ℕ)) (now : Shape) → places ≡ l.places.items → now ≡ with_states (shape_of l.conf) (rows_of new)
       → ((s : ℕ) → s < length l.buffers.store → IsEmptied (length places) (spots_of places) s (rows_of l.buffers.store s) (rows_of new s))
       → now ≡ conf_after N P k (account_of k p h).offered
   parked_is places new now same shape rows =
       shape ∙ with_states_after N P k (shape_of l.conf) (rows_of new) (account_of k p h).offered st.conf
-      (λ s hs. row_is new s hs (subst (λ (q : List (Place N P)). IsEmptied (length q) (spots_of q) s (rows_of l.buffers.store s) (rows_of new s)) same (rows s (let n = stages_in in omega arith))))
+      (λ s hs. row_is new s hs (subst (λ (q : List (StripePlace N P)). IsEmptied (length q) (spots_of q) s (rows_of l.buffers.store s) (rows_of new s)) same (rows s (let n = stages_in in omega arith))))

@@ -8,8 +8,8 @@ use Rattle.pr_conf_pipeline.specs.Rows.{Step}
 use Rattle.pr_control.specs.Time.{before, turned, IsInside}
 use Rattle.pr_machine_refines.specs.Spots.{Spot, Bare, Held, Gone, shows, stage_in, stepped}
 use Rattle.pr_machine_refines.specs.Cycle.{AreStepped, IsRingStep, IsLineStep, IsTurned, IsPass}
-use Rattle.pr_machine.specs.declared.places.Place.{Place}
-use Rattle.pr_machine.specs.declared.places.Place.TheVariants as V
+use Rattle.pr_machine.specs.declared.places.StripePlace.{StripePlace}
+use Rattle.pr_machine.specs.declared.places.StripePlace.TheVariants as V
 use Rattle.pr_machine.specs.Places.{seen, place_at, spots_of, AreIdle, IsHere, AreHere}
 
 stepped_idle : {S R : Type 0} (M : ℕ → Step S R) (bus : Option R) (spot : Spot S R) (b : Option R) → is_none (stage_in spot) ≡ true → stepped M bus spot b ≡ spot
@@ -35,7 +35,7 @@ not_first i ne = grind (arith, nat_tests)
 before_is : (n i : ℕ) → (i ≡ 0 → ⊥) → before n i ≡ i - 1
 before_is n i ne = ap (λ b. if b then n - 1 else i - 1) (not_first i ne)
 
-module _ {N P : ℕ} (M : ℕ → Step (List ℕ) (List ℕ)) (bus : Option (List ℕ)) (p live : ℕ) (old ring mid new : List (Place N P)) (lo : length old ≡ p) (most : live ≤ p) (some : 0 < live) (lr : length ring ≡ live) (is : mid ≡ ring ++ drop live old) where
+module _ {N P : ℕ} (M : ℕ → Step (List ℕ) (List ℕ)) (bus : Option (List ℕ)) (p live : ℕ) (old ring mid new : List (StripePlace N P)) (lo : length old ≡ p) (most : live ≤ p) (some : 0 < live) (lr : length ring ≡ live) (is : mid ≡ ring ++ drop live old) where
   front : (i : ℕ) → i < live → place_at mid i ≡ place_at ring i
   front i h = ap (λ xs. place_at xs i) is ∙ get_or_append_left ring (drop live old) V.Away i (omega arith)
 
@@ -91,7 +91,7 @@ others_kept v live None mid new store store' h below i l = h.spots i
 others_kept v live (Some e) mid new store store' h below i l = h.others i (λ same. omega arith)
 
 -- a cycle leaves places without a stage as they are, but for that of its event
-pub idle_after : {N P : ℕ} {B : Type 0} (M : ℕ → Step (List ℕ) (List ℕ)) (tap : List ℕ → B) (v p : ℕ) (ring last : Option ℕ) (brings : Option (ℕ × ℕ)) (bus : Option (List ℕ)) (old new : List (Place N P)) (store store' : ℕ → List ℕ) (byte : Option B) (out : Option ℕ) (live live' : ℕ)
+pub idle_after : {N P : ℕ} {B : Type 0} (M : ℕ → Step (List ℕ) (List ℕ)) (tap : List ℕ → B) (v p : ℕ) (ring last : Option ℕ) (brings : Option (ℕ × ℕ)) (bus : Option (List ℕ)) (old new : List (StripePlace N P)) (store store' : ℕ → List ℕ) (byte : Option B) (out : Option ℕ) (live live' : ℕ)
     → IsPass M tap v p ring last brings bus (spots_of old) (spots_of new) store store' byte out → length new ≡ p → AreIdle live (spots_of old) → live ≤ live' → IfSome brings (λ e. e.0 < live') → AreIdle live' (spots_of new)
 idle_after M tap v p ring last brings bus old new store store' byte out live live' h ln idle more below i l = elim (cases_lt i p) as (λ _. is_none (stage_in (spots_of new i)) ≡ true) [
   | inl lt ↦ ap (λ x. is_none (stage_in x)) (others_kept v live' brings h.mid (spots_of new) store store' h.event below i l) ∙ ap is_none (stages_kept M bus p ring (spots_of old) h.mid h.computed i lt) ∙ idle i (omega arith)
@@ -99,7 +99,7 @@ idle_after M tap v p ring last brings bus old new store store' byte out live liv
 ]
 
 -- at the start no stripe has a stage
-pub idle_start : {N P : ℕ} (places : List (Place N P)) → ((i : ℕ) → i < length places → seen (place_at places i) ≡ Bare None) → AreIdle 0 (spots_of places)
+pub idle_start : {N P : ℕ} (places : List (StripePlace N P)) → ((i : ℕ) → i < length places → seen (place_at places i) ≡ Bare None) → AreIdle 0 (spots_of places)
 idle_start places bare i l = elim (cases_lt i (length places)) as (λ _. is_none (stage_in (spots_of places i)) ≡ true) [
   | inl lt ↦ ap (λ x. is_none (stage_in x)) (bare i lt)
   | inr ge ↦ ap (λ x. is_none (stage_in (seen x))) (get_or_past places i V.Away ge)

@@ -9,8 +9,8 @@ use Rattle.pr_stripe.specs.Rows.{shown}
 use Rattle.pr_machine_refines.specs.Spots.{Bare}
 use Rattle.pr_machine_refines.specs.Stands.{IsStanding}
 use Rattle.pr_machine_refines.proofs.HistoryLaws.{standing_start}
-use Rattle.pr_machine.specs.declared.places.Place.{Place}
-use Rattle.pr_machine.specs.declared.places.Place.TheVariants as V
+use Rattle.pr_machine.specs.declared.places.StripePlace.{StripePlace}
+use Rattle.pr_machine.specs.declared.places.StripePlace.TheVariants as V
 use Rattle.pr_machine.specs.Places.{seen, place_at, is_bare, is_here, AreBare, spots_of, rows_of}
 use Rattle.pr_machine.specs.Stands.{account_of}
 use Rattle.pr_machine.proofs.Events.{some_stages}
@@ -19,17 +19,17 @@ none_is : {A : Type 0} (o : Option A) → is_none o ≡ true → o ≡ None
 none_is None h = refl
 none_is (Some x) h = absurd (let z = h in cc)
 
-pub bare_is : {N P : ℕ} (place : Place N P) → is_bare place ≡ true → seen place ≡ Bare None
+pub bare_is : {N P : ℕ} (place : StripePlace N P) → is_bare place ≡ true → seen place ≡ Bare None
 bare_is (V.Blank stripe) h = ap Bare (none_is (shown stripe.row) h)
 bare_is (V.Live stripe) h = absurd (let z = h in cc)
 bare_is V.Away h = absurd (let z = h in cc)
 
-pub bare_here : {N P : ℕ} (n : ℕ) (place : Place N P) → is_bare place ≡ true → is_here n place ≡ true
+pub bare_here : {N P : ℕ} (n : ℕ) (place : StripePlace N P) → is_bare place ≡ true → is_here n place ≡ true
 bare_here n (V.Blank stripe) h = refl
 bare_here n (V.Live stripe) h = absurd (let z = h in cc)
 bare_here n V.Away h = h
 
-pub starting : {N P : ℕ} (conf : Configuration N P) (places : List (Place N P)) (store : List (List ℕ)) (time : ℕ) (input output : Pieces) → 2 ≤ length places → AreBare places → ((s : ℕ) → s < vec_len conf.stages → rows_of store s ≡ (steps_of N P (shape_of conf) s).init)
+pub starting : {N P : ℕ} (conf : Configuration N P) (places : List (StripePlace N P)) (store : List (List ℕ)) (time : ℕ) (input output : Pieces) → 2 ≤ length places → AreBare places → ((s : ℕ) → s < vec_len conf.stages → rows_of store s ≡ (steps_of N P (shape_of conf) s).init)
     → time ≡ 0 → input.waiting ≡ [] → output.waiting ≡ []
     → IsStanding (steps_of N P (shape_of conf)) (tapped N (shape_of conf)) (length (shape_of conf).stages) (length places) (spots_of places) (rows_of store) time 0 0 input.waiting output.waiting (account_of (shape_of conf) (length places) [])
 starting {N = N} {P = P} conf places store time input output two bare first et ei eo =

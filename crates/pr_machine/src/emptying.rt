@@ -8,7 +8,7 @@ ghost use Rattle.pr_machine_refines.specs.Spots.{saved};
 ghost use Rattle.pr_machine.specs.Places.{seen, place_at, spots_of, rows_of, is_bare, IsHere, AreHere, AreBare};
 ghost use Rattle.pr_machine.specs.Emptying.{IsEmptied};
 
-use crate::places::Place;
+use crate::places::StripePlace;
 use pr_conf::Configuration;
 use pr_control::Store;
 use pr_stripe::{Blank, Stripe};
@@ -19,18 +19,21 @@ fn blanked<const N: usize, const P: usize>(
     stripe: Stripe<N, P, Blank>,
     store: &mut Store<N>,
     stage: u32,
-) -> Place<N, P>
+) -> StripePlace<N, P>
     requires { stage < length store.old }
     ensures same { store.new ≡ store.old }
     ensures bare { is_bare result ≡ true }
 {
-    Place::Blank(stripe.arm(stage, store).retire().save(store))
+    StripePlace::Blank(stripe.arm(stage, store).retire().save(store))
 }
 
 /// What a place becomes when its stripe is emptied: its stage is saved, and then the stripe is armed once more with the
 /// same stage and saved again, so that it is blank and shows a bubble. A stripe without a stage goes the same way with
 /// the first stage.
-fn emptied<const N: usize, const P: usize>(was: Place<N, P>, store: &mut Store<N>) -> Place<N, P>
+fn emptied<const N: usize, const P: usize>(
+    was: StripePlace<N, P>,
+    store: &mut Store<N>,
+) -> StripePlace<N, P>
     requires here { IsHere (length store.old) was }
     requires some { 0 < length store.old }
     ensures save { (s : ℕ) → s < length store.old → rows_of store.new s ≡ saved (rows_of store.old) (seen was.entry) s }
@@ -38,19 +41,19 @@ fn emptied<const N: usize, const P: usize>(was: Place<N, P>, store: &mut Store<N
     ensures size { length store.new ≡ length store.old }
 {
     match was {
-        Place::Blank(stripe) => blanked(stripe, store, 0),
-        Place::Live(stripe) => {
+        StripePlace::Blank(stripe) => blanked(stripe, store, 0),
+        StripePlace::Live(stripe) => {
             let stage = stripe.stage_number();
             let blank = stripe.retire().save(store);
             blanked(blank, store, stage)
         }
-        Place::Away => unreachable!(),
+        StripePlace::Away => unreachable!(),
     }
 }
 
 /// The stripe of one place is emptied.
 fn empty_at<const N: usize, const P: usize>(
-    places: &mut [Place<N, P>],
+    places: &mut [StripePlace<N, P>],
     store: &mut Store<N>,
     at: usize,
 )
@@ -63,14 +66,14 @@ fn empty_at<const N: usize, const P: usize>(
     ensures bare { is_bare (place_at places.new at) ≡ true }
     ensures size { length store.new ≡ length store.old }
 {
-    let was = mem::replace(&mut places[at], Place::Away);
+    let was = mem::replace(&mut places[at], StripePlace::Away);
     let now = emptied(was, store);
     places[at] = now;
 }
 
 /// Every stripe is emptied into the store.
 pub(crate) fn empty_all<const N: usize, const P: usize>(
-    places: &mut [Place<N, P>],
+    places: &mut [StripePlace<N, P>],
     store: &mut Store<N>,
 )
     requires here { AreHere (length store.old) places.old }

@@ -14,7 +14,7 @@ ghost use Rattle.pr_machine.specs.Ready.{AreReady};
 ghost use Rattle.pr_machine.specs.Schedules.{IsScheduled};
 
 use crate::buffers::Buffers;
-use crate::places::{Place, Schedule, is_stalled, pass};
+use crate::places::{Schedule, StripePlace, is_stalled, pass};
 use pr_conf::{Configuration, Turn};
 use pr_control::Plan;
 
@@ -22,7 +22,7 @@ use pr_control::Plan;
 #[derive(Drop)]
 pub struct Loaded<const N: usize, const P: usize> {
     pub(crate) conf: Configuration<N, P>,
-    pub(crate) places: Vec<Place<N, P>>,
+    pub(crate) places: Vec<StripePlace<N, P>>,
     pub(crate) buffers: Buffers<N>,
     pub(crate) plan: Plan,
     pub(crate) live: usize,
@@ -130,7 +130,7 @@ impl<const N: usize, const P: usize> Loaded<N, P> {
     /// The parts of a machine at cycle 0.
     pub(crate) fn at_start(
         conf: Configuration<N, P>,
-        places: Vec<Place<N, P>>,
+        places: Vec<StripePlace<N, P>>,
         buffers: Buffers<N>,
     ) -> Self
         requires two { 2 ≤ vec_len places }

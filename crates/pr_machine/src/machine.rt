@@ -10,7 +10,7 @@ ghost use Rattle.pr_machine.specs.Places.{AreBare};
 
 use crate::buffers::buffers_for;
 use crate::loaded::Loaded;
-use crate::places::Place;
+use crate::places::StripePlace;
 use pr_conf::{Configuration, Turn};
 use pr_stripe::{Blank, Stripe};
 use std::alloc::{AllocError, Global};
@@ -19,7 +19,7 @@ use thiserror::Error;
 /// What a machine without a configuration is made of: blank stripes.
 #[derive(Drop)]
 pub struct Idle<const N: usize, const P: usize> {
-    pub(crate) places: Vec<Place<N, P>>,
+    pub(crate) places: Vec<StripePlace<N, P>>,
     ghost two: { 2 ≤ vec_len places },
     ghost small: { vec_len places ≤ 256 },
     ghost bare: { AreBare places.items },
@@ -76,7 +76,7 @@ pub struct OutEmpty;
 fn blank_places<const N: usize, const P: usize>(
     alloc: Global,
     count: usize,
-) -> Result<Vec<Place<N, P>>, AllocError>
+) -> Result<Vec<StripePlace<N, P>>, AllocError>
     requires columns { 1 ≤ N }
     requires most_columns { N ≤ 64 }
     requires registers { 2 ≤ P }
@@ -86,7 +86,7 @@ fn blank_places<const N: usize, const P: usize>(
 {
     let mut places = Vec::new(alloc);
     for _ in 0..count {
-        places.push(Place::Blank(Stripe::<N, P, Blank>::make(alloc)?))?;
+        places.push(StripePlace::Blank(Stripe::<N, P, Blank>::make(alloc)?))?;
     }
     Ok(places)
 }

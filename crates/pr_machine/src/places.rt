@@ -23,7 +23,7 @@ use std::mem;
 
 /// A place of a machine's list of stripes.
 #[derive(Drop)]
-pub enum Place<const N: usize, const P: usize> {
+pub enum StripePlace<const N: usize, const P: usize> {
     /// A stripe without a stage.
     Blank(Stripe<N, P, Blank>),
     /// A stripe with a stage.
@@ -45,22 +45,22 @@ fn stage_at<const N: usize, const P: usize>(conf: &Configuration<N, P>, number: 
 
 /// The row that a place shows.
 #[inline(always)]
-fn row_at<const N: usize, const P: usize>(place: &Place<N, P>) -> &Row<N, P>
+fn row_at<const N: usize, const P: usize>(place: &StripePlace<N, P>) -> &Row<N, P>
     requires { is_there place.now ≡ true }
     ensures { shown result.now ≡ shows (seen place.now) }
 {
     match place {
-        Place::Blank(stripe) => stripe.row(),
-        Place::Live(stripe) => stripe.row(),
-        Place::Away => unreachable!(),
+        StripePlace::Blank(stripe) => stripe.row(),
+        StripePlace::Live(stripe) => stripe.row(),
+        StripePlace::Away => unreachable!(),
     }
 }
 
 /// A cycle of a place in which its stage computes, if it has one.
 #[inline(always)]
 fn compute_at<const N: usize, const P: usize>(
-    place: &mut Place<N, P>,
-    prev: &Place<N, P>,
+    place: &mut StripePlace<N, P>,
+    prev: &StripePlace<N, P>,
     conf: &Configuration<N, P>,
     buffers: &Buffers<N>,
     valid: bool,
@@ -73,7 +73,7 @@ fn compute_at<const N: usize, const P: usize>(
     ensures here { IsHere (vec_len conf.now.stages) place.new }
 {
     match place {
-        Place::Live(stripe) => {
+        StripePlace::Live(stripe) => {
             let number = stripe.stage_number();
             let row = row_at(prev);
             let valid = if number == 0 { valid } else { row.valid() };
@@ -85,16 +85,16 @@ fn compute_at<const N: usize, const P: usize>(
                 None => stripe.compute(row, &buffers.sample, valid, stage),
             }
         }
-        Place::Blank(_) | Place::Away => {}
+        StripePlace::Blank(_) | StripePlace::Away => {}
     }
 }
 
 /// What a stripe without a stage becomes when an event falls on it.
 fn armed<const N: usize, const P: usize>(
-    was: Place<N, P>,
+    was: StripePlace<N, P>,
     store: &Store<N>,
     stage: u32,
-) -> Place<N, P>
+) -> StripePlace<N, P>
     requires blank { stage_in (seen was) ≡ None }
     requires there { is_there was ≡ true }
     requires stage { stage < length store.now }
@@ -102,13 +102,17 @@ fn armed<const N: usize, const P: usize>(
     ensures here { IsHere (length store.now) result }
 {
     match was {
-        Place::Blank(stripe) => Place::Live(stripe.arm(stage, store)),
-        Place::Live(_) | Place::Away => unreachable!(),
+        StripePlace::Blank(stripe) => StripePlace::Live(stripe.arm(stage, store)),
+        StripePlace::Live(_) | StripePlace::Away => unreachable!(),
     }
 }
 
 /// The event of a place: its stage is saved, and another takes the stripe.
-fn renew<const N: usize, const P: usize>(place: &mut Place<N, P>, store: &mut Store<N>, stage: u32)
+fn renew<const N: usize, const P: usize>(
+    place: &mut StripePlace<N, P>,
+    store: &mut Store<N>,
+    stage: u32,
+)
     requires here { IsHere (length store.old) place.old }
     requires stage { stage < length store.old }
     ensures save { (s : ℕ) → s < length store.old
@@ -118,9 +122,9 @@ fn renew<const N: usize, const P: usize>(place: &mut Place<N, P>, store: &mut St
     ensures here { IsHere (length store.old) place.new }
 {
     match place {
-        Place::Live(stripe) => stripe.rearm(stage, store),
-        Place::Blank(_) | Place::Away => {
-            let was = mem::replace(place, Place::Away);
+        StripePlace::Live(stripe) => stripe.rearm(stage, store),
+        StripePlace::Blank(_) | StripePlace::Away => {
+            let was = mem::replace(place, StripePlace::Away);
             *place = armed(was, store, stage);
         }
     }
@@ -130,7 +134,7 @@ fn renew<const N: usize, const P: usize>(place: &mut Place<N, P>, store: &mut St
 #[inline(always)]
 #[tactic(auto, using(crate::proofs::Here::there))]
 fn step_below<const N: usize, const P: usize>(
-    places: &mut [Place<N, P>],
+    places: &mut [StripePlace<N, P>],
     conf: &Configuration<N, P>,
     at: usize,
     from: usize,
@@ -155,7 +159,7 @@ fn step_below<const N: usize, const P: usize>(
 #[inline(always)]
 #[tactic(auto, using(crate::proofs::Here::there))]
 fn step_at<const N: usize, const P: usize>(
-    places: &mut [Place<N, P>],
+    places: &mut [StripePlace<N, P>],
     conf: &Configuration<N, P>,
     at: usize,
     from: usize,
@@ -183,7 +187,7 @@ fn step_at<const N: usize, const P: usize>(
 
 /// The event of a cycle: the stripe of a place is emptied into the store, and armed.
 fn turn_over<const N: usize, const P: usize>(
-    places: &mut [Place<N, P>],
+    places: &mut [StripePlace<N, P>],
     store: &mut Store<N>,
     at: usize,
     stage: u32,
@@ -205,7 +209,7 @@ fn turn_over<const N: usize, const P: usize>(
 /// place before it showed at the start.
 #[inline(always)]
 fn step_ring<const N: usize, const P: usize>(
-    places: &mut [Place<N, P>],
+    places: &mut [StripePlace<N, P>],
     conf: &Configuration<N, P>,
     q: usize,
     buffers: &Buffers<N>,
@@ -232,7 +236,7 @@ fn step_ring<const N: usize, const P: usize>(
 /// `live` on there is no stage, so that nothing is to be done.
 #[inline(always)]
 fn step_line<const N: usize, const P: usize>(
-    places: &mut [Place<N, P>],
+    places: &mut [StripePlace<N, P>],
     conf: &Configuration<N, P>,
     live: usize,
     buffers: &Buffers<N>,
@@ -258,7 +262,7 @@ fn step_line<const N: usize, const P: usize>(
 /// Each place computes, but that of the cycle's event where every cycle has one.
 #[inline(always)]
 fn compute<const N: usize, const P: usize>(
-    places: &mut [Place<N, P>],
+    places: &mut [StripePlace<N, P>],
     conf: &Configuration<N, P>,
     schedule: &Schedule,
     buffers: &Buffers<N>,
@@ -278,19 +282,19 @@ fn compute<const N: usize, const P: usize>(
 }
 
 /// The stage in a place.
-fn stage_in_place<const N: usize, const P: usize>(place: &Place<N, P>) -> Option<u32>
+fn stage_in_place<const N: usize, const P: usize>(place: &StripePlace<N, P>) -> Option<u32>
     ensures { result ≡ stage_in (seen place.now) }
 {
     match place {
-        Place::Live(stripe) => Some(stripe.stage_number()),
-        Place::Blank(_) | Place::Away => None,
+        StripePlace::Live(stripe) => Some(stripe.stage_number()),
+        StripePlace::Blank(_) | StripePlace::Away => None,
     }
 }
 
 /// The event of a cycle, if there is one: the stage that was saved for it.
 #[inline(always)]
 fn replace_stage<const N: usize, const P: usize>(
-    places: &mut [Place<N, P>],
+    places: &mut [StripePlace<N, P>],
     store: &mut Store<N>,
     event: Option<(u32, u32)>,
 ) -> Option<u32>
@@ -332,7 +336,7 @@ pub struct Passed {
 /// Whether the last stage would compute a valid row. A single stage reads what enters.
 #[tactic(auto, using(crate::proofs::Here::there))]
 fn will_leave<const N: usize, const P: usize>(
-    places: &[Place<N, P>],
+    places: &[StripePlace<N, P>],
     stages: usize,
     entering: bool,
     last: Option<usize>,
@@ -356,7 +360,7 @@ fn will_leave<const N: usize, const P: usize>(
 /// Whether the last stage would compute a valid row while 16 results wait.
 #[inline(always)]
 pub(crate) fn is_stalled<const N: usize, const P: usize>(
-    places: &[Place<N, P>],
+    places: &[StripePlace<N, P>],
     stages: usize,
     entering: bool,
     last: Option<usize>,
@@ -374,7 +378,7 @@ pub(crate) fn is_stalled<const N: usize, const P: usize>(
 #[inline(always)]
 #[tactic(auto, using(crate::proofs::Here::there))]
 fn leaving<const N: usize, const P: usize>(
-    places: &[Place<N, P>],
+    places: &[StripePlace<N, P>],
     conf: &Configuration<N, P>,
     last: Option<usize>,
     into: &mut Vec<u8>,
@@ -404,7 +408,7 @@ fn leaving<const N: usize, const P: usize>(
 /// leaves is in the buffer for it.
 #[inline(always)]
 pub(crate) fn pass<const N: usize, const P: usize>(
-    places: &mut [Place<N, P>],
+    places: &mut [StripePlace<N, P>],
     conf: &Configuration<N, P>,
     buffers: &mut Buffers<N>,
     schedule: &Schedule,

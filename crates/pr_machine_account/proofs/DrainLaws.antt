@@ -4,7 +4,8 @@ use Rattle.std.proofs.lemmas.Bool.{cases_lt, cond-true, cond-false, cond_both, l
 use Rattle.std.proofs.lemmas.List.{length_push, nil_from_length}
 use Rattle.pr_conf_pipeline.specs.Rows.{Step, through}
 use Rattle.pr_control.specs.Time.{turn}
-use Rattle.pr_control.specs.Counts.{turns_in, drain}
+use Rattle.pr_control.specs.Counts.{turns_in}
+use Rattle.pr_control.specs.Drain.{drain}
 use Rattle.pr_control.proofs.TurnLaws.{turns_zero, turns_first, drain_split}
 use Rattle.pr_machine_account.specs.Account.{Account, Event, Offer, Take, Cycle, below, enters, entered, left, stalled, after, account_from, account, start, IsLawful}
 use Rattle.pr_machine_account.specs.Drain.{Feeding, offer_next, rest_after, take_all_and_cycle, turn_events, free_turn, free_turns, turns_events, remaining, IsDrained}

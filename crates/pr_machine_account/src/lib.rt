@@ -7,7 +7,8 @@
 #![tactic(auto)]
 
 ghost use Rattle.std.specs.Prelude.{ℕ, ◌≡◌, ◌+◌, ◌-◌, ◌<◌, ◌≤◌, List, [], ◌∷◌, ◌++◌, length, take, slice_get, Some};
-ghost use Rattle.pr_control.specs.Counts.{cycles_of, drain};
+ghost use Rattle.pr_control.specs.Counts.{cycles_of};
+ghost use Rattle.pr_control.specs.Drain.{drain};
 ghost use Rattle.pr_conf_pipeline.specs.Rows.{BytePipeline, through};
 ghost use Rattle.pr_machine_account.specs.Account.{Event, Take, account, start, left, done, below, IsLawful};
 ghost use Rattle.pr_machine_account.specs.Cycles.{IsCycle};

@@ -17,8 +17,8 @@ use Rattle.pr_flat.specs.declared.equations.Operand.{Operand}
 use Rattle.pr_lang_meaning.specs.Programs.{function_at}
 use Rattle.pr_expand_spec.specs.declared.givens.Standing.{Standing}
 use Rattle.pr_expand_spec.specs.declared.givens.Standing.TheVariants.{Stream, Own}
-use Rattle.pr_expand_spec.specs.Making.{Equations, Made, constant, lawful}
-use Rattle.pr_expand_spec.specs.Expressions.{Plan, Streams, Visible, assigned, declared_at_operator, declared_else, referred}
+use Rattle.pr_expand_spec.specs.Making.{Equations, Expanded, constant, lawful}
+use Rattle.pr_expand_spec.specs.Expressions.{ExprPlan, Streams, Visible, assigned, declared_at_operator, declared_else, referred}
 use Rattle.pr_expand_spec.specs.Statements.{named}
 use Rattle.pr_expand_spec.specs.Programs.{World, equations_of, item_change, items_change, start}
 use Rattle.pr_probe.specs.Operands.{made_world, operand_at, operand_standing}
@@ -36,20 +36,20 @@ referred-gives at (Some (Stream g c)) es = refl
 referred-gives at (Some (Own number)) es = refl
 referred-gives at None es = refl
 
-abbrev operand_by : Plan → Visible → Streams → Equations → Operand
+abbrev operand_by : ExprPlan → Visible → Streams → Equations → Operand
 operand_by plan v env es = (declared_else plan.is_operator (lawful None) (declared_at_operator plan.is_operator (lawful None) (plan.making v env es))).given.operand
 
 reference-gives : (name : List ℕ) (index : Option ℕ) (v : Visible) (env : Streams) (es : Equations) → v.known name ≡ None → (assigned None (reference name index) v env es).given.operand ≡ operand_standing (env name index)
 reference-gives name index v env es none =
-    ap (λ (p : Plan). operand_by p v env es) (plan-is (ref_to name index))
+    ap (λ (p : ExprPlan). operand_by p v env es) (plan-is (ref_to name index))
     ∙ (ap (λ (r : Result (Option ℕ) Offence). (referred (v.known name) (unwrap_or (result_ok r) None) (env name (unwrap_or (result_ok r) None)) es).given.operand) (place-is name index v.known)
     ∙ (ap (λ (s : Option Static). (referred s index (env name index) es).given.operand) none ∙ referred-gives index (env name index) es))
 
 -- it changes no instance of the program
-operand-still : (fresh : List ℕ) (m : Made) (env : Streams) (p : Probe) → bytes_eq fresh p.name ≡ false → operand_at (named fresh None env m).streams p ≡ operand_at env p
+operand-still : (fresh : List ℕ) (m : Expanded) (env : Streams) (p : Probe) → bytes_eq fresh p.name ≡ false → operand_at (named fresh None env m).streams p ≡ operand_at env p
 operand-still fresh m env p isnt = ap operand_standing (cond-false (bytes_eq fresh p.name && same_place None p.index) (Some (Stream m.given 0)) (env p.name p.index) (ap (λ b. b && same_place None p.index) isnt))
 
-operands-still : (test : List ℕ → Bool) (known : Known) (fresh : List ℕ) (m : Made) (env : Streams) (ps : List Probe) → test fresh ≡ false → AreApart test known ps → map (operand_at (named fresh None env m).streams) ps ≡ map (operand_at env) ps
+operands-still : (test : List ℕ → Bool) (known : Known) (fresh : List ℕ) (m : Expanded) (env : Streams) (ps : List Probe) → test fresh ≡ false → AreApart test known ps → map (operand_at (named fresh None env m).streams) ps ≡ map (operand_at env) ps
 operands-still test known fresh m env [] isnt are = refl
 operands-still test known fresh m env (p ∷ ps) isnt are =
     ap₂ (λ (o : Operand) (os : List Operand). o ∷ os) (operand-still fresh m env p (apart test fresh p.name isnt are.0.named)) (operands-still test known fresh m env ps isnt are.1)

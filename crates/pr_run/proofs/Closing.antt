@@ -16,7 +16,7 @@ use Rattle.pr_run_script.proofs.RunLaws.{taken_account, offered_cycle, turned_go
 use Rattle.pr_run_script.proofs.WholeLaws.{front_self, front_trans, closed_front}
 use Rattle.pr_edge.specs.Files.{View}
 use Rattle.pr_run.specs.Setting.{Setting, IsSet, stages_of, pieces}
-use Rattle.pr_run.specs.Turns.{Going, HasDone, HasBegun, HasRead, MayFollow, run_at, drained, IsOn, IsDone, IsCut}
+use Rattle.pr_run.specs.Turns.{Going, HasDone, HasBegun, HasRead, MayFollow, run_at, taken_unless, IsOn, IsDone, IsCut}
 use Rattle.pr_run.proofs.NextSamples.{follows_nil}
 
 -- ---- the steps change nothing in that a run goes on
@@ -40,27 +40,27 @@ turned_steps v p turn r e =
 pub turned_fed : (v p : ℕ) (turn : Held) (r : Run (List ℕ)) → (fed v p turn r).over ≡ false → turned v p turn r ≡ closed v p (emptied v p turn (fed v p turn r))
 turned_fed v p turn r e = turned_going v p turn r (sym (fed_over v p turn r) ∙ e)
 
--- ---- the drain
+-- ---- what waits is written
 emptied_is : (s : Setting) (input output : Bool) (h : History) (more : List (List ℕ)) (last : Got)
-    → emptied (stages_of s) s.stripes (record { input = input; output = output }) (run_at h more last) ≡ run_at (drained output s h) more last
+    → emptied (stages_of s) s.stripes (record { input = input; output = output }) (run_at h more last) ≡ run_at (taken_unless output s h) more last
 emptied_is s input true h more last = refl
 emptied_is s input false h more last = refl
 
-drained_offered : (s : Setting) (output : Bool) (h : History) → 0 < stages_of s → (account (stages_of s) s.stripes (drained output s h)).offered ≡ (account (stages_of s) s.stripes h).offered
-drained_offered s true h some = refl
-drained_offered s false h some = ap (λ (a : Account (List ℕ)). a.offered) (taken_account (stages_of s) s.stripes h some)
+taken_offered : (s : Setting) (output : Bool) (h : History) → 0 < stages_of s → (account (stages_of s) s.stripes (taken_unless output s h)).offered ≡ (account (stages_of s) s.stripes h).offered
+taken_offered s true h some = refl
+taken_offered s false h some = ap (λ (a : Account (List ℕ)). a.offered) (taken_account (stages_of s) s.stripes h some)
 
-pub on_drained : {N P : ℕ} (s : Setting) (runs : List (List ℕ) → Run (List ℕ)) (turn : Held) (m m' : Going N P) (f : Feed) (now : View) (t t' : Tape) (last : Got) (output : Bool) → IsSet s → turn.output ≡ output
-    → ((h : History) → HasDone s m t h → HasDone s m' t' (drained output s h)) → IsOn s runs m f now t last → IsOn s (λ xs. emptied (stages_of s) s.stripes turn (runs xs)) m' f now t' last
-on_drained s runs turn m m' f now t t' last output set side step on = record {
+pub on_written : {N P : ℕ} (s : Setting) (runs : List (List ℕ) → Run (List ℕ)) (turn : Held) (m m' : Going N P) (f : Feed) (now : View) (t t' : Tape) (last : Got) (output : Bool) → IsSet s → turn.output ≡ output
+    → ((h : History) → HasDone s m t h → HasDone s m' t' (taken_unless output s h)) → IsOn s runs m f now t last → IsOn s (λ xs. emptied (stages_of s) s.stripes turn (runs xs)) m' f now t' last
+on_written s runs turn m m' f now t t' last output set side step on = record {
   rows = on.rows;
-  history = drained output s on.history;
+  history = taken_unless output s on.history;
   done = step on.history on.done;
   read = on.read;
-  offered = drained_offered s output on.history set.some ∙ on.offered;
+  offered = taken_offered s output on.history set.some ∙ on.offered;
   run = λ more follows.
       ap (emptied (stages_of s) s.stripes turn) (on.run more follows)
-      ∙ (emptied_is s turn.input turn.output on.history more last ∙ ap (λ b. run_at (drained b s on.history) more last) side);
+      ∙ (emptied_is s turn.input turn.output on.history more last ∙ ap (λ b. run_at (taken_unless b s on.history) more last) side);
 }
 
 -- a write failed within the events of a run
@@ -151,18 +151,18 @@ cut_cycle s first runs next m m' f now t t' last over closes is test step on =
     cut_within s next m' f now t' on.rows last part (step on.history on.done) on.read
     (λ more follows. subst (λ (r : Run (List ℕ)). IsPrefix part r.history) (sym (closed_cycle s first runs next m f now t last over closes is test on more follows)) (front_self part))
 
--- a write failed while results were drained
-pub cut_drained : {N P : ℕ} (s : Setting) (runs next : List (List ℕ) → Run (List ℕ)) (turn : Held) (m m' : Going N P) (f : Feed) (now : View) (t t' : Tape) (last : Got) (output : Bool) → turn.output ≡ output
+-- a write failed while results were written
+pub cut_written : {N P : ℕ} (s : Setting) (runs next : List (List ℕ) → Run (List ℕ)) (turn : Held) (m m' : Going N P) (f : Feed) (now : View) (t t' : Tape) (last : Got) (output : Bool) → turn.output ≡ output
     → ((xs : List (List ℕ)) → (runs xs).over ≡ false → next xs ≡ closed (stages_of s) s.stripes (emptied (stages_of s) s.stripes turn (runs xs)))
-    → ((h : History) → HasDone s m t h → HasBegun s m' t' (drained output s h)) → IsOn s runs m f now t last → IsCut s next m' f now t'
-cut_drained s runs next turn m m' f now t t' last output side closes step on =
+    → ((h : History) → HasDone s m t h → HasBegun s m' t' (taken_unless output s h)) → IsOn s runs m f now t last → IsCut s next m' f now t'
+cut_written s runs next turn m m' f now t t' last output side closes step on =
     let v = stages_of s in
-    let part = drained output s on.history in
+    let part = taken_unless output s on.history in
     cut_within s next m' f now t' on.rows last part (step on.history on.done) on.read
     (λ more follows.
     (let xs = pieces s on.rows ++ more in
     let r = emptied v s.stripes turn (runs xs) in
     let is : r ≡ run_at part more last =
-    ap (emptied v s.stripes turn) (on.run more follows) ∙ (emptied_is s turn.input turn.output on.history more last ∙ ap (λ b. run_at (drained b s on.history) more last) side) in
+    ap (emptied v s.stripes turn) (on.run more follows) ∙ (emptied_is s turn.input turn.output on.history more last ∙ ap (λ b. run_at (taken_unless b s on.history) more last) side) in
     subst (λ (x : Run (List ℕ)). IsPrefix part x.history) (sym (closes xs (going_at s runs m f now t last on more follows)))
     (subst (λ (g : History). IsPrefix g (closed v s.stripes r).history) (ap (λ (x : Run (List ℕ)). x.history) is) (closed_front v s.stripes r))))

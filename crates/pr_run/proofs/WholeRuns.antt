@@ -3,7 +3,7 @@ use Rattle.std.proofs.Common.{◌≡◌, ℕ, zero, suc, ◌+◌, ◌-◌, ◌*�
 use Rattle.std.proofs.lemmas.Bool.{cases_lt, cond-true, cond-false, lt-leb, le-leb}
 use Rattle.std.proofs.lemmas.List.{length-map, drop-drop}
 use Rattle.std.proofs.Math.Nat.{div-le_self, mul-le-mul_left}
-use Rattle.pr_control.specs.Counts.{drain}
+use Rattle.pr_control.specs.Drain.{drain}
 use Rattle.pr_control.proofs.TurnLaws.{drain_grow}
 use Rattle.pr_base.specs.Rows.{row_bytes}
 use Rattle.pr_edge.specs.Tape.{Tape}

@@ -39,9 +39,9 @@ abbrev pub all_taken : Setting → History → History
 all_taken s h = h ++ replicate (waiting (stages_of s) (account (stages_of s) s.stripes h)) Take
 
 -- they are, unless the output side is held
-abbrev pub drained : Bool → Setting → History → History
-drained true s h = h
-drained false s h = all_taken s h
+abbrev pub taken_unless : Bool → Setting → History → History
+taken_unless true s h = h
+taken_unless false s h = all_taken s h
 
 -- the last line of the log, where the log is asked for
 abbrev pub logged_end : Bool → ℕ → ℕ → ℕ → List ℕ

@@ -5,15 +5,15 @@
 #![tactic(auto)]
 
 mod cycling;
-mod draining;
 mod ending;
 mod feeding;
 mod rooms;
 mod runs;
 mod turning;
+mod writing;
 
-pub use draining::put_widths;
 pub use ending::RunEnd;
 pub use feeding::{goes_on, offer_sample};
 pub use rooms::Room;
 pub use runs::run;
+pub use writing::put_widths;

@@ -8,10 +8,10 @@ ghost use Rattle.pr_machine.specs.Stands.{Stands, conf_of, stripes_of};
 ghost use Rattle.pr_run.specs.Setting.{Setting, IsFresh, setting_of};
 ghost use Rattle.pr_run.specs.Runs.{MayBegin, IsEnded, HasTurned, Ran, EndsRun, IsFault, IsCounted};
 
-use crate::draining::put_widths;
 use crate::ending::{Finished, RunEnd, finish};
 use crate::rooms::Room;
 use crate::turning::{Turned, Walk};
+use crate::writing::put_widths;
 use pr_edge::{Shelf, Sink, WriteFault};
 use pr_machine::{Machine, Running};
 use pr_samples::{Feed, Got, Stall};

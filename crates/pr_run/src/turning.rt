@@ -14,9 +14,9 @@ ghost use Rattle.pr_run.specs.Turns.{IsOn};
 ghost use Rattle.pr_run.specs.Outcomes.{IsTurned, has_failed, cycles_by};
 
 use crate::cycling::cycle_step;
-use crate::draining::drain_step;
 use crate::feeding::{feed_step, goes_on};
 use crate::rooms::Room;
+use crate::writing::write_step;
 use pr_edge::{Shelf, Sink};
 use pr_machine::{Machine, Running};
 use pr_samples::{Feed, Got, Held};
@@ -119,7 +119,7 @@ impl<'a> Walk<'a> {
     {
         let room = &mut *self.room;
         let last = feed_step(machine, feed, shelf, room, held.input, self.last);
-        match drain_step(machine, out, self.widths, &mut room.result, held.output) {
+        match write_step(machine, out, self.widths, &mut room.result, held.output) {
             Ok(()) => close_turn::<N, P, K, LOG>(machine, feed, out, last),
             Err(_) => Turned::Failed,
         }

@@ -2,7 +2,7 @@
 use Rattle.std.proofs.Common.{◌≡◌, ◌⊎◌, ℕ, zero, suc, ◌+◌, ◌-◌, ◌<◌, ◌≤◌, Bool, true, false, ◌&&◌, not, ltb, eqb, List, [], ◌∷◌, ◌++◌, length, replicate, refl, sym, ap, ap₂, ◌∙◌, subst, arith, inl, inr}
 use Rattle.std.proofs.lemmas.Bool.{cases_lt, cases_Bool, cond-true, cond-false, cond_both, lt-ltb, eq-eqb, false≢true}
 use Rattle.std.proofs.lemmas.List.{length-append, get_or_past}
-use Rattle.pr_control.specs.Counts.{drain}
+use Rattle.pr_control.specs.Drain.{drain}
 use Rattle.pr_control.proofs.TurnLaws.{drain_grow}
 use Rattle.pr_machine_account.specs.Account.{Account, Event, Offer, Take, Cycle, left, after, account_from, account}
 use Rattle.pr_machine_account.specs.Drain.{Feeding, offer_next, rest_after, take_all_and_cycle, free_turn, free_turns, remaining}

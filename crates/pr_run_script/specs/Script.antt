@@ -1,7 +1,7 @@
 -- The turns of a run: which samples are offered, which results are taken and which cycles are asked for, said by the
 -- account alone, for v stages on p stripes.
 use Rattle.std.specs.Prelude.{ℕ, zero, suc, ◌+◌, ◌-◌, ◌==◌, ◌&&◌, not, nat_lt, Bool, true, false, List, [], ◌∷◌, ◌++◌, length, replicate, slice_index_or, if◌then◌else◌}
-use Rattle.pr_control.specs.Counts.{drain}
+use Rattle.pr_control.specs.Drain.{drain}
 use Rattle.pr_machine_account.specs.Account.{Event, Offer, Take, Cycle, Account, account, left}
 
 -- the sides that are held in a turn; a side that is not held is free
@@ -49,7 +49,7 @@ read_next r (x ∷ rest) = record r { history = r.history ++ Offer x ∷ []; res
 abbrev pub fed : {R : Type 0} → ℕ → ℕ → Held → Run R → Run R
 fed v p held r = if reads v p held r then read_next r r.rest else r
 
--- step 2, the drain: where the output side is free, all waiting results are taken
+-- step 2, the writing: where the output side is free, all waiting results are taken
 abbrev pub emptied : {R : Type 0} → ℕ → ℕ → Held → Run R → Run R
 emptied v p held r = if held.output then r else record r { history = r.history ++ replicate (waiting v (account_at v p r)) Take }
 

@@ -31,8 +31,8 @@ use Rattle.pr_lang_meaning.specs.Programs.{function_at}
 use Rattle.pr_expand_spec.specs.declared.givens.Given.{Given}
 use Rattle.pr_expand_spec.specs.declared.givens.Standing.{Standing}
 use Rattle.pr_expand_spec.specs.declared.givens.Standing.TheVariants.{Stream, Own}
-use Rattle.pr_expand_spec.specs.Making.{Equations, Made, made, with_equation, lawful, declare_last, delay_from, delay_step, delayed_once, delayed, constant}
-use Rattle.pr_expand_spec.specs.Expressions.{Streams, Inlined, Visible, Plan, place, referred, earlier, AllMade, all_made, apply, combined, beside, concatenated, function_of, called, plan_of, made_with, declared_at_operator, declared_else, assigned}
+use Rattle.pr_expand_spec.specs.Making.{Equations, Expanded, made, with_equation, lawful, declare_last, delay_from, delay_step, delayed_once, delayed, constant}
+use Rattle.pr_expand_spec.specs.Expressions.{Streams, Inlined, Visible, ExprPlan, place, referred, earlier, AllExpanded, all_made, apply, combined, beside, concatenated, function_of, called, plan_of, made_with, declared_at_operator, declared_else, assigned}
 use Rattle.pr_expand_spec.specs.Statements.{Progress, Change, with_standing, named, body_made, number_after, settled, rec_change, in_turn, with_index, turns, change_of, changes_of}
 use Rattle.pr_expand_spec.specs.Programs.{no_streams, fitted_to, passed, with_arguments, inlined, signed_function, World, start, item_change}
 use Rattle.pr_scope_facts.proofs.Statics.{plain}
@@ -80,7 +80,7 @@ pub declared-with : (w : ℕ) (o : Op) (args : List Given) (es : Equations) → 
 declared-with w o args es = ap (made_with (with_equation o args None es)) (declare-last w es _)
 
 -- an operation whose own equation stands last, after those of its parts
-pub record AddsLast (P : Op → Type 0) (old : Equations) (m : Made) : Type 0 where
+pub record AddsLast (P : Op → Type 0) (old : Equations) (m : Expanded) : Type 0 where
   pub parts : Equations
   pub adds : Adds P old parts
   pub op : Op
@@ -88,47 +88,47 @@ pub record AddsLast (P : Op → Type 0) (old : Equations) (m : Made) : Type 0 wh
   pub args : List Given
   pub is : m ≡ with_equation op args None parts
 
-abbrev pub AddsIf : (Op → Type 0) → Bool → Equations → Made → Type 0
+abbrev pub AddsIf : (Op → Type 0) → Bool → Equations → Expanded → Type 0
 AddsIf P true es m = AddsLast P es m
 AddsIf P false es m = Adds P es m.equations
 
-adds-last : (P : Op → Type 0) (es : Equations) (m : Made) (width : Option ℕ) (l : AddsLast P es m) → Adds P es (with_equation l.op l.args width l.parts).equations
+adds-last : (P : Op → Type 0) (es : Equations) (m : Expanded) (width : Option ℕ) (l : AddsLast P es m) → Adds P es (with_equation l.op l.args width l.parts).equations
 adds-last P es m width l = adds-both P es l.parts (with_equation l.op l.args width l.parts).equations l.adds (adds-with P l.op l.args width l.parts l.holds)
 
-pub adds-any : (P : Op → Type 0) (b : Bool) (es : Equations) (m : Made) → AddsIf P b es m → Adds P es m.equations
-adds-any P true es m l = subst (λ (x : Made). Adds P es x.equations) (sym l.is) (adds-last P es m None l)
+pub adds-any : (P : Op → Type 0) (b : Bool) (es : Equations) (m : Expanded) → AddsIf P b es m → Adds P es m.equations
+adds-any P true es m l = subst (λ (x : Expanded). Adds P es x.equations) (sym l.is) (adds-last P es m None l)
 adds-any P false es m adds = adds
 
-pub adds-declared : (P : Op → Type 0) (b : Bool) (width : Option ℕ) (es : Equations) (m : Made) → AddsIf P b es m → Adds P es (declared_at_operator b width m).equations
-adds-declared P true (Some w) es m l = subst (λ (x : Made). Adds P es (declared_at_operator true (Some w) x).equations) (sym l.is) (subst (λ (x : Made). Adds P es x.equations) (sym (declared-with w l.op l.args l.parts)) (adds-last P es m (Some w) l))
+pub adds-declared : (P : Op → Type 0) (b : Bool) (width : Option ℕ) (es : Equations) (m : Expanded) → AddsIf P b es m → Adds P es (declared_at_operator b width m).equations
+adds-declared P true (Some w) es m l = subst (λ (x : Expanded). Adds P es (declared_at_operator true (Some w) x).equations) (sym l.is) (subst (λ (x : Expanded). Adds P es x.equations) (sym (declared-with w l.op l.args l.parts)) (adds-last P es m (Some w) l))
 adds-declared P true None es m l = adds-any P true es m l
 adds-declared P false width es m adds = adds
 
-pub adds-else : (P : Op → Type 0) → P op.Fit → (b : Bool) (width : Option ℕ) (es : Equations) (m : Made) → Adds P es m.equations → Adds P es (declared_else b width m).equations
+pub adds-else : (P : Op → Type 0) → P op.Fit → (b : Bool) (width : Option ℕ) (es : Equations) (m : Expanded) → Adds P es m.equations → Adds P es (declared_else b width m).equations
 adds-else P fits false (Some w) es m adds = adds-both P es m.equations _ adds (adds-with P op.Fit (m.given ∷ []) (Some w) m.equations fits)
 adds-else P fits false None es m adds = adds
 adds-else P fits true width es m adds = adds
 
 -- ---- parts
-abbrev pub PlanAdds : (Op → Type 0) → Visible → Streams → Plan → Type 0
+abbrev pub PlanAdds : (Op → Type 0) → Visible → Streams → ExprPlan → Type 0
 PlanAdds P v env p = (es : Equations) → AddsIf P p.is_operator es (p.making v env es)
 
-pub adds-parts : (P : Op → Type 0) (v : Visible) (env : Streams) (ps : List Plan) → AllByRecursion (PlanAdds P v env) ps → (es : Equations) → Adds P es (all_made ps v env es).equations
+pub adds-parts : (P : Op → Type 0) (v : Visible) (env : Streams) (ps : List ExprPlan) → AllByRecursion (PlanAdds P v env) ps → (es : Equations) → Adds P es (all_made ps v env es).equations
 adds-parts P v env [] all es = adds-nothing P es
 adds-parts P v env (p ∷ ps) all es =
     let first = p.making v env es in
     adds-both P es first.equations (all_made ps v env first.equations).equations (adds-any P p.is_operator es first (all.0 es)) (adds-parts P v env ps all.1 first.equations)
 
-pub adds-apply : (P : Op → Type 0) (o : Op) (es : Equations) (a : AllMade) → P o → Adds P es a.equations → AddsLast P es (apply o a)
+pub adds-apply : (P : Op → Type 0) (o : Op) (es : Equations) (a : AllExpanded) → P o → Adds P es a.equations → AddsLast P es (apply o a)
 adds-apply P o es a holds adds = record { parts = a.equations; adds = adds; op = o; holds = holds; args = a.given; is = refl }
 
-adds-beside : (P : Op → Type 0) → P op.Cat → (old : Equations) (above : Made) (g : Given) (gs : List Given) → Adds P old above.equations → AddsLast P old (beside above (g ∷ gs))
+adds-beside : (P : Op → Type 0) → P op.Cat → (old : Equations) (above : Expanded) (g : Given) (gs : List Given) → Adds P old above.equations → AddsLast P old (beside above (g ∷ gs))
 adds-beside P cat old above g [] adds = record { parts = above.equations; adds = adds; op = op.Cat; holds = cat; args = above.given ∷ g ∷ []; is = refl }
 adds-beside P cat old above g (h ∷ gs) adds =
     let next = with_equation op.Cat (above.given ∷ g ∷ []) None above.equations in
     adds-beside P cat old next h gs (adds-both P old above.equations next.equations adds (adds-with P op.Cat (above.given ∷ g ∷ []) None above.equations cat))
 
-pub adds-concatenated : (P : Op → Type 0) → P op.Cat → (v : Visible) (env : Streams) (ps : List Plan) → AllByRecursion (PlanAdds P v env) ps → (es : Equations) → AddsIf P (nat_le 2 (length ps)) es (concatenated (all_made ps v env es).given (all_made ps v env es).equations)
+pub adds-concatenated : (P : Op → Type 0) → P op.Cat → (v : Visible) (env : Streams) (ps : List ExprPlan) → AllByRecursion (PlanAdds P v env) ps → (es : Equations) → AddsIf P (nat_le 2 (length ps)) es (concatenated (all_made ps v env es).given (all_made ps v env es).equations)
 adds-concatenated P cat v env [] all es = adds-nothing P es
 adds-concatenated P cat v env (p ∷ []) all es = adds-any P p.is_operator es (p.making v env es) (all.0 es)
 adds-concatenated P cat v env (p ∷ q ∷ ps) all es =
@@ -236,11 +236,11 @@ adds-earlier P all k (Some (Stream g c)) es = adds-delayed P c (all.others (op.D
 adds-earlier P all k (Some (Own r)) es = adds-nothing P es
 adds-earlier P all k None es = adds-nothing P es
 
-adds-combined : (P : Op → Type 0) → Covers P → (v : Visible) (env : Streams) (o : BinOp) (shift : Option Op) (a b : Plan) → IfSome shift IsShift → PlanAdds P v env a → PlanAdds P v env b → (es : Equations) → AddsLast P es (combined o shift a b v env es)
+adds-combined : (P : Op → Type 0) → Covers P → (v : Visible) (env : Streams) (o : BinOp) (shift : Option Op) (a b : ExprPlan) → IfSome shift IsShift → PlanAdds P v env a → PlanAdds P v env b → (es : Equations) → AddsLast P es (combined o shift a b v env es)
 adds-combined P all v env o (Some shift) a b is one two es = adds-apply P shift es (all_made (a ∷ []) v env es) (all.others shift (shift-no-input shift is)) (adds-parts P v env (a ∷ []) (one, tt) es)
 adds-combined P all v env o None a b is one two es = adds-apply P (operator o) es (all_made (a ∷ b ∷ []) v env es) (all.others (operator o) (no-input o)) (adds-parts P v env (a ∷ b ∷ []) (one, (two, tt)) es)
 
-adds-called : (P : Op → Type 0) (f : Option Inlined) → IfSome f (DoesAdd P) → (es : Equations) (a : AllMade) → Adds P es a.equations → Adds P es (called f a).equations
+adds-called : (P : Op → Type 0) (f : Option Inlined) → IfSome f (DoesAdd P) → (es : Equations) (a : AllExpanded) → Adds P es a.equations → Adds P es (called f a).equations
 adds-called P None does es a adds = adds
 adds-called P (Some f) does es a adds = adds-both P es a.equations (f a.given a.equations).equations adds (does a.given a.equations)
 
@@ -288,7 +288,7 @@ adds-body P all v fs name at width e number s =
 abbrev ChangeAdds : (Op → Type 0) → Change → Type 0
 ChangeAdds P f = (v : Visible) → AllAdd P v → (s : Progress) → Adds P s.equations (f v s).equations
 
-adds-settled : (P : Op → Type 0) (old : Equations) (counted body : Made) → Adds P old counted.equations → Adds P old body.equations → Adds P old (settled counted body).equations
+adds-settled : (P : Op → Type 0) (old : Equations) (counted body : Expanded) → Adds P old counted.equations → Adds P old body.equations → Adds P old (settled counted body).equations
 adds-settled P old counted body first second = choice (nat_le (length counted.equations) (length body.equations)) where
   choice : (b : Bool) → Adds P old (cond b body counted).equations
   choice true = second

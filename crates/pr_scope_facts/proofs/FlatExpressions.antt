@@ -23,8 +23,8 @@ use Rattle.pr_lang_meaning.specs.Expressions.{constant_shift, operator}
 use Rattle.pr_expand_spec.specs.declared.givens.Given.{Given}
 use Rattle.pr_expand_spec.specs.declared.givens.Standing.{Standing}
 use Rattle.pr_expand_spec.specs.declared.givens.Standing.TheVariants.{Stream, Own}
-use Rattle.pr_expand_spec.specs.Making.{Equations, Made, made, given_operand, with_equation, lawful, constant}
-use Rattle.pr_expand_spec.specs.Expressions.{Streams, Inlined, Visible, Plan, place, referred, earlier, AllMade, all_made, apply, combined, beside, concatenated, function_of, called, own_past, plan_of, declared_at_operator, declared_else, assigned}
+use Rattle.pr_expand_spec.specs.Making.{Equations, Expanded, made, given_operand, with_equation, lawful, constant}
+use Rattle.pr_expand_spec.specs.Expressions.{Streams, Inlined, Visible, ExprPlan, place, referred, earlier, AllExpanded, all_made, apply, combined, beside, concatenated, function_of, called, own_past, plan_of, declared_at_operator, declared_else, assigned}
 use Rattle.pr_scope_facts.proofs.Statics.{SameKnown, constant-made}
 use Rattle.pr_scope_facts.proofs.InvertedExpressions.{slice-inverted, binary-inverted, choose-inverted, AllWalk, parts-inverted, call-inverted}
 use Rattle.pr_scope_facts.proofs.Inductions.{ExprFact, ProvedExpr, ExprLayer, each-expression}
@@ -102,7 +102,7 @@ operation-grown s es o args width is lawful state given = fresh-grown s es o arg
 })
 
 -- an operation whose own equation stands last
-pub record GrownLast (s : Setting) (es : Equations) (m : Made) : Type 0 where
+pub record GrownLast (s : Setting) (es : Equations) (m : Expanded) : Type 0 where
   pub parts : Equations
   pub state : State s parts
   pub later : Later es parts
@@ -112,22 +112,22 @@ pub record GrownLast (s : Setting) (es : Equations) (m : Made) : Type 0 where
   pub given : AreGiven s parts args
   pub is : m ≡ with_equation op args None parts
 
-abbrev pub GrownIf : Bool → Setting → Equations → Made → Type 0
+abbrev pub GrownIf : Bool → Setting → Equations → Expanded → Type 0
 GrownIf true s es m = GrownLast s es m
 GrownIf false s es m = Grown s es m
 
-grown-before : (s : Setting) (es ds : Equations) (m : Made) → Later es ds → Grown s ds m → Grown s es m
+grown-before : (s : Setting) (es ds : Equations) (m : Expanded) → Later es ds → Grown s ds m → Grown s es m
 grown-before s es ds m l g = record { state = g.state; later = later-both es ds m.equations l g.later; given = g.given }
 
-last-grown : (s : Setting) (es : Equations) (m : Made) (width : Option ℕ) → IfSome width IsWidth → (l : GrownLast s es m) → Grown s es (with_equation l.op l.args width l.parts)
+last-grown : (s : Setting) (es : Equations) (m : Expanded) (width : Option ℕ) → IfSome width IsWidth → (l : GrownLast s es m) → Grown s es (with_equation l.op l.args width l.parts)
 last-grown s es m width lawful l = grown-before s es l.parts (with_equation l.op l.args width l.parts) l.later (operation-grown s l.parts l.op l.args width l.operation lawful l.state l.given)
 
-pub grown-any : (b : Bool) (s : Setting) (es : Equations) (m : Made) → GrownIf b s es m → Grown s es m
+pub grown-any : (b : Bool) (s : Setting) (es : Equations) (m : Expanded) → GrownIf b s es m → Grown s es m
 grown-any true s es m l = subst (Grown s es) (sym l.is) (last-grown s es m None tt l)
 grown-any false s es m g = g
 
-pub declared-grown : (b : Bool) (width : Option ℕ) (s : Setting) (es : Equations) (m : Made) → IfSome width IsWidth → GrownIf b s es m → Grown s es (declared_at_operator b width m)
-declared-grown true (Some w) s es m lawful l = subst (λ (x : Made). Grown s es (declared_at_operator true (Some w) x)) (sym l.is) (subst (Grown s es) (sym (declared-with w l.op l.args l.parts)) (last-grown s es m (Some w) lawful l))
+pub declared-grown : (b : Bool) (width : Option ℕ) (s : Setting) (es : Equations) (m : Expanded) → IfSome width IsWidth → GrownIf b s es m → Grown s es (declared_at_operator b width m)
+declared-grown true (Some w) s es m lawful l = subst (λ (x : Expanded). Grown s es (declared_at_operator true (Some w) x)) (sym l.is) (subst (Grown s es) (sym (declared-with w l.op l.args l.parts)) (last-grown s es m (Some w) lawful l))
 declared-grown true None s es m lawful l = grown-any true s es m l
 declared-grown false width s es m lawful g = g
 
@@ -137,7 +137,7 @@ fit-operation = record { operates_is = refl; count_is = refl; ends = refl }
 pub fitted-grown : (s : Setting) (es : Equations) (w : ℕ) (g : Given) → IsWidth w → State s es → IsGiven s es g.operand → Grown s es (with_equation op.Fit (g ∷ []) (Some w) es)
 fitted-grown s es w g lawful state given = operation-grown s es op.Fit (g ∷ []) (Some w) fit-operation lawful state (given, tt)
 
-else-grown : (b : Bool) (width : Option ℕ) (s : Setting) (es : Equations) (m : Made) → IfSome width IsWidth → Grown s es m → Grown s es (declared_else b width m)
+else-grown : (b : Bool) (width : Option ℕ) (s : Setting) (es : Equations) (m : Expanded) → IfSome width IsWidth → Grown s es m → Grown s es (declared_else b width m)
 else-grown false (Some w) s es m lawful g = grown-before s es m.equations _ g.later (fitted-grown s m.equations w m.given lawful g.state g.given)
 else-grown false None s es m lawful g = g
 else-grown true width s es m lawful g = g
@@ -228,15 +228,15 @@ clean-of s es scene env (inr (inl body)) sound = body.1
 clean-of s es scene env (inr (inr out)) sound = λ name at. outside-streams s es out (env name at) (sound name at)
 
 -- ---- parts
-record GrownAll (s : Setting) (es : Equations) (a : AllMade) : Type 0 where
+record GrownAll (s : Setting) (es : Equations) (a : AllExpanded) : Type 0 where
   state : State s a.equations
   later : Later es a.equations
   given : AreGiven s a.equations a.given
 
-abbrev PartGrown : Visible → Setting → Streams → Equations → Plan → Type 0
+abbrev PartGrown : Visible → Setting → Streams → Equations → ExprPlan → Type 0
 PartGrown v s env from p = (es : Equations) → Later from es → State s es → GrownIf p.is_operator s es (p.making v env es)
 
-parts-grown : (v : Visible) (s : Setting) (env : Streams) (from : Equations) (ps : List Plan) → AllByRecursion (PartGrown v s env from) ps → (es : Equations) → Later from es → State s es → GrownAll s es (all_made ps v env es)
+parts-grown : (v : Visible) (s : Setting) (env : Streams) (from : Equations) (ps : List ExprPlan) → AllByRecursion (PartGrown v s env from) ps → (es : Equations) → Later from es → State s es → GrownAll s es (all_made ps v env es)
 parts-grown v s env from [] all es l state = record { state = state; later = later-same es; given = tt }
 parts-grown v s env from (p ∷ ps) all es l state =
     let first = p.making v env es in
@@ -248,17 +248,17 @@ parts-grown v s env from (p ∷ ps) all es l state =
       given = (given-kept s first.equations (all_made ps v env first.equations).equations rest.later first.given.operand one.given, rest.given);
     }
 
-apply-grown : (s : Setting) (es : Equations) (o : Op) (a : AllMade) → IsOperation o (length a.given) → GrownAll s es a → GrownLast s es (apply o a)
+apply-grown : (s : Setting) (es : Equations) (o : Op) (a : AllExpanded) → IsOperation o (length a.given) → GrownAll s es a → GrownLast s es (apply o a)
 apply-grown s es o a is g = record { parts = a.equations; state = g.state; later = g.later; op = o; args = a.given; operation = is; given = g.given; is = refl }
 
-beside-grown : (s : Setting) (old : Equations) (above : Made) (g : Given) (gs : List Given) → State s above.equations → Later old above.equations → IsGiven s above.equations above.given.operand → AreGiven s above.equations (g ∷ gs) → GrownLast s old (beside above (g ∷ gs))
+beside-grown : (s : Setting) (old : Equations) (above : Expanded) (g : Given) (gs : List Given) → State s above.equations → Later old above.equations → IsGiven s above.equations above.given.operand → AreGiven s above.equations (g ∷ gs) → GrownLast s old (beside above (g ∷ gs))
 beside-grown s old above g [] state l given all = record { parts = above.equations; state = state; later = l; op = op.Cat; args = above.given ∷ g ∷ []; operation = record { operates_is = refl; count_is = refl; ends = refl }; given = (given, (all.0, tt)); is = refl }
 beside-grown s old above g (h ∷ gs) state l given all =
     let next = with_equation op.Cat (above.given ∷ g ∷ []) None above.equations in
     let grown = operation-grown s above.equations op.Cat (above.given ∷ g ∷ []) None (record { operates_is = refl; count_is = refl; ends = refl }) tt state (given, (all.0, tt)) in
     beside-grown s old next h gs grown.state (later-both old above.equations next.equations l grown.later) grown.given (all-given-kept s above.equations next.equations (h ∷ gs) grown.later all.1)
 
-concatenated-grown : (v : Visible) (s : Setting) (env : Streams) (from : Equations) (ps : List Plan) → AllByRecursion (PartGrown v s env from) ps → (es : Equations) → Later from es → State s es → GrownIf (nat_le 2 (length ps)) s es (concatenated (all_made ps v env es).given (all_made ps v env es).equations)
+concatenated-grown : (v : Visible) (s : Setting) (env : Streams) (from : Equations) (ps : List ExprPlan) → AllByRecursion (PartGrown v s env from) ps → (es : Equations) → Later from es → State s es → GrownIf (nat_le 2 (length ps)) s es (concatenated (all_made ps v env es).given (all_made ps v env es).equations)
 concatenated-grown v s env from [] all es l state = record { state = state; later = later-same es; given = tt }
 concatenated-grown v s env from (p ∷ []) all es l state =
     let one = grown-any p.is_operator s es (p.making v env es) (all.0 es l state) in
@@ -296,7 +296,7 @@ lawful-calm known v fs = calm-visible known v fs.same (λ q c is none. some-more
 lawful-sound : (known : Known) (v : Visible) → Lawful known v → (name : List ℕ) (c : Callee) → known name ≡ Some (Function c) → IfSome (function_of (v.known name) (v.functions name)) (IsSound c.past)
 lawful-sound known v fs name c is = callee-of (IsSound c.past) (v.known name) (v.functions name) (some-more (IsLawful c.past) (IsSound c.past) (λ f l. l.sound) (v.functions name) (fs.functions name c is))
 
-called-grown : (past : Bool) (s : Setting) → (past ≡ false) ⊎ (s ≡ Outside) → (f : Option Inlined) → IfSome f (IsSound past) → (es : Equations) (a : AllMade) → GrownAll s es a → Grown s es (called f a)
+called-grown : (past : Bool) (s : Setting) → (past ≡ false) ⊎ (s ≡ Outside) → (f : Option Inlined) → IfSome f (IsSound past) → (es : Equations) (a : AllExpanded) → GrownAll s es a → Grown s es (called f a)
 called-grown past s may None sound es a g = record { state = g.state; later = g.later; given = tt }
 called-grown past s may (Some f) sound es a g = grown-before s es a.equations (f a.given a.equations) g.later (sound.at s may a.equations g.state a.given g.given)
 
@@ -322,7 +322,7 @@ each-grown known v (e ∷ es) s env streams scene c d walk from sound may =
     let pasts = pasts_of (map past_of (map (λ (p : Proved known v). p.0) es)) known in
     (part-grown known v e s env streams scene c walk.0 walk.1 from sound (may-left s from past pasts scene env may), each-grown known v es s env streams scene walk.0 d walk.2 from sound (may-right s from past pasts scene env may))
 
-combined-grown : (v : Visible) (s : Setting) (env : Streams) (es : Equations) (o : BinOp) (shift : Option Op) (a b : Plan) → IfSome shift IsShift → PartGrown v s env es a → (shift ≡ None → PartGrown v s env es b) → State s es → GrownLast s es (combined o shift a b v env es)
+combined-grown : (v : Visible) (s : Setting) (env : Streams) (es : Equations) (o : BinOp) (shift : Option Op) (a b : ExprPlan) → IfSome shift IsShift → PartGrown v s env es a → (shift ≡ None → PartGrown v s env es b) → State s es → GrownLast s es (combined o shift a b v env es)
 combined-grown v s env es o (Some shift) a b is one two state = apply-grown s es shift (all_made (a ∷ []) v env es) (shift-operation shift is) (parts-grown v s env es (a ∷ []) (one, tt) es (later-same es) state)
 combined-grown v s env es o None a b is one two state = apply-grown s es (operator o) (all_made (a ∷ b ∷ []) v env es) (operator-is o) (parts-grown v s env es (a ∷ b ∷ []) (one, (two refl, tt)) es (later-same es) state)
 

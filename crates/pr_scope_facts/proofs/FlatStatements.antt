@@ -23,7 +23,7 @@ use Rattle.pr_flat.specs.Facts.{is_width, has_lawful_width}
 use Rattle.pr_expand_spec.specs.declared.givens.Given.{Given}
 use Rattle.pr_expand_spec.specs.declared.givens.Standing.{Standing}
 use Rattle.pr_expand_spec.specs.declared.givens.Standing.TheVariants.{Stream, Own}
-use Rattle.pr_expand_spec.specs.Making.{Equations, Made, with_equation, lawful, constant}
+use Rattle.pr_expand_spec.specs.Making.{Equations, Expanded, with_equation, lawful, constant}
 use Rattle.pr_expand_spec.specs.Expressions.{Streams, Visible, place, plan_of, assigned}
 use Rattle.pr_expand_spec.specs.Statements.{Progress, with_standing, named, let_change, body_made, number_after, with_recurrence, rec_change, with_index, turns, change_of, changes_of}
 use Rattle.pr_expand_spec.specs.Programs.{no_streams, fitted_to, passed, with_arguments, inlined, signed_function}
@@ -53,7 +53,7 @@ progressed-same s p sound = record { sound = sound; later = later-same p.equatio
 progressed-both : (s : Setting) (p q r : Progress) → Progressed s p q → Progressed s q r → Progressed s p r
 progressed-both s p q r one two = record { sound = two.sound; later = later-both p.equations q.equations r.equations one.later two.later }
 
-pub named-grown : (s : Setting) (name : List ℕ) (at : Option ℕ) (p : Progress) (m : Made) → SoundProgress s p → Grown s p.equations m → Progressed s p (named name at p.streams m)
+pub named-grown : (s : Setting) (name : List ℕ) (at : Option ℕ) (p : Progress) (m : Expanded) → SoundProgress s p → Grown s p.equations m → Progressed s p (named name at p.streams m)
 named-grown s name at p m sound g = record {
   sound = record {
     state = g.state;
@@ -146,7 +146,7 @@ rec-grown known v fs target width init e inside a b w p sound =
     let m = with_equation (op.Rec begins (length es)) (body.given ∷ []) (lawful width) body.equations in
     let stands = settled-is (body_made target.name at width e 0 v p) body (sym grown.number) in
     let closed : Grown Outside es m = closed-grown es body.equations begins number body.given (lawful width) grown.grown.state grown.grown.later grown.number grown.grown.given (rec-width width begins (length es) (λ h is. let fits = w.fits h is in omega (arith, initial, fits))) in
-    subst (λ (b : Made). Progressed Outside p (with_recurrence target.name at width begins p b)) (sym stands) (record {
+    subst (λ (b : Expanded). Progressed Outside p (with_recurrence target.name at width begins p b)) (sym stands) (record {
       sound = record {
         state = closed.state;
         streams = each-standing (SoundStanding Outside m.equations) target.name at (Stream (record { operand = m.given.operand; signed = false }) begins) p.streams (closed.given, closed-begins body.equations begins (length es) body.given (lawful width)) (streams-kept Outside es m.equations p.streams closed.later sound.streams);

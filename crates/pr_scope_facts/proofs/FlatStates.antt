@@ -13,7 +13,7 @@ use Rattle.pr_flat.specs.Shape.{EquationShape, EachEquation}
 use Rattle.pr_flat.specs.Facts.{arity, is_rec, has_lawful_kinds, has_lawful_width, has_lawful_ends, has_lawful_constant, does_begin_with, begins_with, op_at, IsBody}
 use Rattle.pr_flat.proofs.WidthLemmas.{equation_at, one_equation}
 use Rattle.pr_expand_spec.specs.declared.givens.Given.{Given}
-use Rattle.pr_expand_spec.specs.Making.{Equations, Made, made, given_operand, given_signed, kinds_read, with_equation, is_delay_of, delay_from, delay_step, delayed_once, delayed}
+use Rattle.pr_expand_spec.specs.Making.{Equations, Expanded, made, given_operand, given_signed, kinds_read, with_equation, is_delay_of, delay_from, delay_step, delayed_once, delayed}
 use Rattle.pr_scope_facts.proofs.Adding.{each-more}
 use Rattle.pr_scope_facts.proofs.Appending.{Appends, appends-nothing, appends-both, appends-length, appends-at}
 
@@ -274,7 +274,7 @@ pub record Fresh (s : Setting) (es : Equations) (o : Op) (args : List Given) (de
   pub delays : is_delay o ≡ true → AllByRecursion (λ (g : Given). IsClean s es g.operand) args
 
 -- what comes of making: the equations keep their facts, and what is given may be read
-pub record Grown (s : Setting) (es : Equations) (m : Made) : Type 0 where
+pub record Grown (s : Setting) (es : Equations) (m : Expanded) : Type 0 where
   pub state : State s m.equations
   pub later : Later es m.equations
   pub given : IsGiven s m.equations m.given.operand
@@ -407,7 +407,7 @@ delay-clean Outside es i low d = (low, record { free = λ rec e there init first
 delay-clean (Inside first number) es i low d = (low, record { free = λ rec e there init first op above below. d }, λ above. d)
 
 -- a delay once, and what it gives
-record Delayed (s : Setting) (es : Equations) (c : ℕ) (m : Made) : Type 0 where
+record Delayed (s : Setting) (es : Equations) (c : ℕ) (m : Expanded) : Type 0 where
   state : State s m.equations
   later : Later es m.equations
   clean : IsClean s m.equations m.given.operand

@@ -14,12 +14,12 @@ use Rattle.pr_scope.specs.Expressions.{Reading, reading, reading_step, past_of, 
 use Rattle.pr_scope.specs.Statements as scope
 use Rattle.pr_lang_meaning.specs.Expressions.{Sense, sense_of, sense_step}
 use Rattle.pr_lang_meaning.specs.Statements as meaning
-use Rattle.pr_expand_spec.specs.Expressions.{Plan, plan_of, plan_step}
+use Rattle.pr_expand_spec.specs.Expressions.{ExprPlan, plan_of, plan_step}
 use Rattle.pr_expand_spec.specs.Statements as equations
 
 -- a fact of an expression's walk, meaning and equations, and of whether its text has `@`
 abbrev pub ExprFact : Type 1
-ExprFact = Reading → Sense → Plan → (Known → Bool) → Type 0
+ExprFact = Reading → Sense → ExprPlan → (Known → Bool) → Type 0
 
 abbrev pub OfExpr : ExprFact → Expr → Type 0
 OfExpr P e = P (reading e) (sense_of e) (plan_of e) (past_of e)
@@ -29,7 +29,7 @@ abbrev pub ProvedExpr : ExprFact → Type 0
 ProvedExpr P = (e : Expr) × OfExpr P e
 
 abbrev layer_of : ExprFact → Expr-F Expr → Type 0
-layer_of P x = P (reading_step (map-Expr Expr Reading reading x)) (sense_step (map-Expr Expr Sense sense_of x)) (plan_step (map-Expr Expr Plan plan_of x)) (past_step (map-Expr Expr (Known → Bool) past_of x))
+layer_of P x = P (reading_step (map-Expr Expr Reading reading x)) (sense_step (map-Expr Expr Sense sense_of x)) (plan_step (map-Expr Expr ExprPlan plan_of x)) (past_step (map-Expr Expr (Known → Bool) past_of x))
 
 -- the fact of a layer, where those of its parts stand beside them
 abbrev pub ExprLayer : (P : ExprFact) → Expr-F (ProvedExpr P) → Type 0
@@ -38,7 +38,7 @@ ExprLayer P y = layer_of P (map-Expr (ProvedExpr P) Expr (λ p. p.0) y)
 pub each-expression : (P : ExprFact) → ((y : Expr-F (ProvedExpr P)) → ExprLayer P y) → (e : Expr) → OfExpr P e
 each-expression P step = ind-Expr (OfExpr P) (λ x y is.
     let layer : layer_of P x = subst (layer_of P) is (step y) in
-    transport (λ i. P (sym (fold-roll-Expr Reading reading_step x) i) (sym (fold-roll-Expr Sense sense_step x) i) (sym (fold-roll-Expr Plan plan_step x) i) (sym (fold-roll-Expr (Known → Bool) past_step x) i)) layer)
+    transport (λ i. P (sym (fold-roll-Expr Reading reading_step x) i) (sym (fold-roll-Expr Sense sense_step x) i) (sym (fold-roll-Expr ExprPlan plan_step x) i) (sym (fold-roll-Expr (Known → Bool) past_step x) i)) layer)
 
 -- a fact of what a statement does in the walk, in the meaning and in the equations, and of whether its text has `@` or `rec`
 abbrev pub StmtFact : Type 1
@@ -67,4 +67,4 @@ pub sense_amount : (e : Expr) → (sense_of e).amount ≡ amount_of e
 sense_amount = amount_kept Sense sense_step (λ s. s.amount) (λ x. refl)
 
 pub plan_amount : (e : Expr) → (plan_of e).amount ≡ amount_of e
-plan_amount = amount_kept Plan plan_step (λ p. p.amount) (λ x. refl)
+plan_amount = amount_kept ExprPlan plan_step (λ p. p.amount) (λ x. refl)

@@ -28,8 +28,8 @@ use Rattle.pr_lang_meaning.specs.Expressions.{constant_shift, operator}
 use Rattle.pr_expand_spec.specs.declared.givens.Given.{Given}
 use Rattle.pr_expand_spec.specs.declared.givens.Standing.{Standing}
 use Rattle.pr_expand_spec.specs.declared.givens.Standing.TheVariants.{Stream, Own}
-use Rattle.pr_expand_spec.specs.Making.{Equations, Made, made, lawful, constant}
-use Rattle.pr_expand_spec.specs.Expressions.{Streams, Inlined, Visible, Plan, place, referred, earlier, AllMade, all_made, apply, combined, concatenated, function_of, called, plan_of, declared_at_operator, declared_else, assigned}
+use Rattle.pr_expand_spec.specs.Making.{Equations, Expanded, made, lawful, constant}
+use Rattle.pr_expand_spec.specs.Expressions.{Streams, Inlined, Visible, ExprPlan, place, referred, earlier, AllExpanded, all_made, apply, combined, concatenated, function_of, called, plan_of, declared_at_operator, declared_else, assigned}
 use Rattle.pr_scope.specs.Statements as scope
 use Rattle.pr_scope.specs.Statements.{stmt_past_of, stmt_past_step, stmts_past_of}
 use Rattle.pr_scope_names.specs.Names.{bind, same_place}
@@ -73,15 +73,15 @@ NoRec delays old new = Adds (IsCalmOp delays) old new
 
 -- ---- two runs: the second one over blank equations
 -- the second is the first, but for the recurrence's number; and the first makes no recurrence
-pub record Quiet (delays : Bool) (es : Equations) (m n : Made) : Type 0 where
+pub record Quiet (delays : Bool) (es : Equations) (m n : Expanded) : Type 0 where
   pub same : blank_made m ≡ n
   pub calm : NoRec delays es m.equations
 
-record QuietIf (delays : Bool) (operates : Bool) (es : Equations) (m n : Made) : Type 0 where
+record QuietIf (delays : Bool) (operates : Bool) (es : Equations) (m n : Expanded) : Type 0 where
   same : blank_made m ≡ n
   calm : AddsIf (IsCalmOp delays) operates es m
 
-record QuietAll (delays : Bool) (es : Equations) (a b : AllMade) : Type 0 where
+record QuietAll (delays : Bool) (es : Equations) (a b : AllExpanded) : Type 0 where
   same : blank_all a ≡ b
   calm : NoRec delays es a.equations
 
@@ -114,26 +114,26 @@ permits-right : (delays : Bool) (a b : Bool) (scene : Scene) (env : Streams) →
 permits-right delays a b scene env (inl none) = inl (or_parts a b none).1
 permits-right delays a b scene env (inr body) = inr body
 
-abbrev PlanQuiet : Bool → Visible → Streams → Plan → Type 0
+abbrev PlanQuiet : Bool → Visible → Streams → ExprPlan → Type 0
 PlanQuiet delays v env p = (es : Equations) → QuietIf delays p.is_operator es (p.making v env es) (p.making v (blank_streams env) (blanked es))
 
-quiet-parts : (delays : Bool) (v : Visible) (env : Streams) (ps : List Plan) → AllByRecursion (PlanQuiet delays v env) ps → (es : Equations) → QuietAll delays es (all_made ps v env es) (all_made ps v (blank_streams env) (blanked es))
+quiet-parts : (delays : Bool) (v : Visible) (env : Streams) (ps : List ExprPlan) → AllByRecursion (PlanQuiet delays v env) ps → (es : Equations) → QuietAll delays es (all_made ps v env es) (all_made ps v (blank_streams env) (blanked es))
 quiet-parts delays v env [] all es = record { same = refl; calm = adds-nothing (IsCalmOp delays) es }
 quiet-parts delays v env (p ∷ ps) all es =
     let first = p.making v env es in
     let one = all.0 es in
     let rest = quiet-parts delays v env ps all.1 first.equations in
-    let again : Made → AllMade = λ m. all_made ps v (blank_streams env) m.equations in
-    let joined : Made → AllMade = λ m. record { equations = (again m).equations; given = m.given ∷ (again m).given } in
+    let again : Expanded → AllExpanded = λ m. all_made ps v (blank_streams env) m.equations in
+    let joined : Expanded → AllExpanded = λ m. record { equations = (again m).equations; given = m.given ∷ (again m).given } in
     record {
-      same = ap (λ (a : AllMade). record { equations = a.equations; given = blank_given first.given ∷ a.given }) rest.same ∙ ap joined one.same;
+      same = ap (λ (a : AllExpanded). record { equations = a.equations; given = blank_given first.given ∷ a.given }) rest.same ∙ ap joined one.same;
       calm = adds-both (IsCalmOp delays) es first.equations (all_made ps v env first.equations).equations (adds-any (IsCalmOp delays) p.is_operator es first one.calm) rest.calm;
     }
 
-quiet-apply : (delays : Bool) (o : Op) (es : Equations) (a b : AllMade) → IsCalmOp delays o → QuietAll delays es a b → QuietIf delays true es (apply o a) (apply o b)
+quiet-apply : (delays : Bool) (o : Op) (es : Equations) (a b : AllExpanded) → IsCalmOp delays o → QuietAll delays es a b → QuietIf delays true es (apply o a) (apply o b)
 quiet-apply delays o es a b plain quiet = record { same = blank-apply o a ∙ ap (apply o) quiet.same; calm = adds-apply (IsCalmOp delays) o es a plain quiet.calm }
 
-quiet-combined : (delays : Bool) (v : Visible) (env : Streams) (o : BinOp) (shift : Option Op) (a b : Plan) → IfSome shift IsShift → PlanQuiet delays v env a → (shift ≡ None → PlanQuiet delays v env b) → (es : Equations) → QuietIf delays true es (combined o shift a b v env es) (combined o shift a b v (blank_streams env) (blanked es))
+quiet-combined : (delays : Bool) (v : Visible) (env : Streams) (o : BinOp) (shift : Option Op) (a b : ExprPlan) → IfSome shift IsShift → PlanQuiet delays v env a → (shift ≡ None → PlanQuiet delays v env b) → (es : Equations) → QuietIf delays true es (combined o shift a b v env es) (combined o shift a b v (blank_streams env) (blanked es))
 quiet-combined delays v env o (Some shift) a b is one two es = quiet-apply delays shift es (all_made (a ∷ []) v env es) (all_made (a ∷ []) v (blank_streams env) (blanked es)) (shift-not-rec shift is, λ no. shift-no-delay shift is) (quiet-parts delays v env (a ∷ []) (one, tt) es)
 quiet-combined delays v env o None a b is one two es = quiet-apply delays (operator o) es (all_made (a ∷ b ∷ []) v env es) (all_made (a ∷ b ∷ []) v (blank_streams env) (blanked es)) (not-rec o, λ no. no-delay o) (quiet-parts delays v env (a ∷ b ∷ []) (one, (two refl, tt)) es)
 
@@ -150,20 +150,20 @@ quiet-earlier delays may k (Some (Own r)) es still = record { same = ap (λ (q :
 quiet-earlier delays may k None es still = record { same = refl; calm = adds-nothing (IsCalmOp delays) es }
 
 -- ---- parts beside one another
-parts-calm : (delays : Bool) (v : Visible) (env : Streams) (p : Plan) → PlanQuiet delays v env p → PlanAdds (IsCalmOp delays) v env p
+parts-calm : (delays : Bool) (v : Visible) (env : Streams) (p : ExprPlan) → PlanQuiet delays v env p → PlanAdds (IsCalmOp delays) v env p
 parts-calm delays v env p quiet es = (quiet es).calm
 
-quiet-concatenated : (delays : Bool) (v : Visible) (env : Streams) (ps : List Plan) → AllByRecursion (PlanQuiet delays v env) ps → (es : Equations) → QuietIf delays (nat_le 2 (length ps)) es (concatenated (all_made ps v env es).given (all_made ps v env es).equations) (concatenated (all_made ps v (blank_streams env) (blanked es)).given (all_made ps v (blank_streams env) (blanked es)).equations)
+quiet-concatenated : (delays : Bool) (v : Visible) (env : Streams) (ps : List ExprPlan) → AllByRecursion (PlanQuiet delays v env) ps → (es : Equations) → QuietIf delays (nat_le 2 (length ps)) es (concatenated (all_made ps v env es).given (all_made ps v env es).equations) (concatenated (all_made ps v (blank_streams env) (blanked es)).given (all_made ps v (blank_streams env) (blanked es)).equations)
 quiet-concatenated delays v env ps all es =
     let a = all_made ps v env es in
-    record { same = blank-concatenated a.given a.equations ∙ ap (λ (b : AllMade). concatenated b.given b.equations) (quiet-parts delays v env ps all es).same; calm = adds-concatenated (IsCalmOp delays) (refl, λ is. refl) v env ps (each-more (PlanQuiet delays v env) (PlanAdds (IsCalmOp delays) v env) (parts-calm delays v env) ps all) es }
+    record { same = blank-concatenated a.given a.equations ∙ ap (λ (b : AllExpanded). concatenated b.given b.equations) (quiet-parts delays v env ps all es).same; calm = adds-concatenated (IsCalmOp delays) (refl, λ is. refl) v env ps (each-more (PlanQuiet delays v env) (PlanAdds (IsCalmOp delays) v env) (parts-calm delays v env) ps all) es }
 
 -- ---- calls
-quiet-called : (delays : Bool) (f : Option Inlined) → IfSome f IsCalm → (es : Equations) (a b : AllMade) → QuietAll delays es a b → QuietIf delays false es (called f a) (called f b)
-quiet-called delays None calm es a b quiet = record { same = ap (λ (x : AllMade). made x.equations (Operand.Const 0) false) quiet.same; calm = quiet.calm }
+quiet-called : (delays : Bool) (f : Option Inlined) → IfSome f IsCalm → (es : Equations) (a b : AllExpanded) → QuietAll delays es a b → QuietIf delays false es (called f a) (called f b)
+quiet-called delays None calm es a b quiet = record { same = ap (λ (x : AllExpanded). made x.equations (Operand.Const 0) false) quiet.same; calm = quiet.calm }
 quiet-called delays (Some f) calm es a b quiet =
     let does = calm.at a.given a.equations in
-    record { same = does.same ∙ ap (λ (x : AllMade). f x.given x.equations) quiet.same; calm = adds-both (IsCalmOp delays) es a.equations (f a.given a.equations).equations quiet.calm (adds-weaker (IsCalmOp false) (IsCalmOp delays) (λ o plain. (plain.0, λ is. plain.1 refl)) a.equations (f a.given a.equations).equations does.calm) }
+    record { same = does.same ∙ ap (λ (x : AllExpanded). f x.given x.equations) quiet.same; calm = adds-both (IsCalmOp delays) es a.equations (f a.given a.equations).equations quiet.calm (adds-weaker (IsCalmOp false) (IsCalmOp delays) (λ o plain. (plain.0, λ is. plain.1 refl)) a.equations (f a.given a.equations).equations does.calm) }
 
 -- ---- expressions
 -- an operator on two streams has walked over both
@@ -268,7 +268,7 @@ pub record QuietBody (name : List ℕ) (at width : Option ℕ) (e : Expr) (v : V
   pub number : (number : ℕ) → length (body_made name at width e number v s).equations ≡ number_after name at width e v s
 
 -- so the body stands that is made under the recurrence's number
-pub settled-is : (counted body : Made) → length body.equations ≡ length counted.equations → settled counted body ≡ body
+pub settled-is : (counted body : Expanded) → length body.equations ≡ length counted.equations → settled counted body ≡ body
 settled-is counted body same = cond-true (nat_le (length counted.equations) (length body.equations)) body counted (le-leb (length counted.equations) (length body.equations) (omega (arith, same)))
 
 -- what holds of all that names stand for, and of one standing more
@@ -284,9 +284,9 @@ quiet-body known v calm name at width e s streams scene c d walk own still =
     let w = lawful width in
     let env : ℕ → Streams = λ number. with_standing name at (Own number) s.streams in
     let q : (number : ℕ) → QuietIf true b s.equations ((plan_of e).making v (env number) s.equations) ((plan_of e).making v (blank_streams (env number)) (blanked s.equations)) = λ number. quiet-if true known v calm e (env number) streams scene c d walk (inr (refl, own, each-standing StandsStill name at (Own number) s.streams tt still)) s.equations in
-    let blank_body : Made = declared_at_operator b w ((plan_of e).making v (with_standing name at (Own 0) (blank_streams s.streams)) (blanked s.equations)) in
+    let blank_body : Expanded = declared_at_operator b w ((plan_of e).making v (with_standing name at (Own 0) (blank_streams s.streams)) (blanked s.equations)) in
     let same : (number : ℕ) → blank_made (body_made name at width e number v s) ≡ blank_body = λ number. blank-declared b w ((plan_of e).making v (env number) s.equations) ∙ ap (declared_at_operator b w) ((q number).same ∙ ap (λ (x : Streams). (plan_of e).making v x (blanked s.equations)) (blank-standing name at (Own number) s.streams)) in
-    let size : (number : ℕ) → length (body_made name at width e number v s).equations ≡ length blank_body.equations = λ number. sym (length-map (body_made name at width e number v s).equations blank_equation) ∙ ap (λ (m : Made). length m.equations) (same number) in
+    let size : (number : ℕ) → length (body_made name at width e number v s).equations ≡ length blank_body.equations = λ number. sym (length-map (body_made name at width e number v s).equations blank_equation) ∙ ap (λ (m : Expanded). length m.equations) (same number) in
     record { calm = λ number. adds-declared (IsCalmOp true) b w s.equations ((plan_of e).making v (env number) s.equations) (q number).calm; number = λ number. size number ∙ sym (size 0) }
 
 -- ---- statements
@@ -298,7 +298,7 @@ record QuietChange (s t u : Progress) : Type 0 where
   same : blank_progress t ≡ u
   calm : NoRec false s.equations t.equations
 
-quiet-named : (name : List ℕ) (at : Option ℕ) (env : Streams) (es : Equations) (m n : Made) → Quiet false es m n → QuietChange (record { streams = env; equations = es }) (named name at env m) (named name at (blank_streams env) n)
+quiet-named : (name : List ℕ) (at : Option ℕ) (env : Streams) (es : Equations) (m n : Expanded) → Quiet false es m n → QuietChange (record { streams = env; equations = es }) (named name at env m) (named name at (blank_streams env) n)
 quiet-named name at env es m n q = record {
   same = (λ i. record { streams = blank-standing name at (Stream m.given 0) env i; equations = blanked m.equations }) ∙ ap (named name at (blank_streams env)) q.same;
   calm = q.calm;
@@ -382,7 +382,7 @@ pub calm-function : (known : Known) (v : Visible) → Calm known v → (at : ℕ
 calm-function known v calm at params width body result f walk past =
     let parts = or_parts (stmts_past_of body known) (past_of result known) (sym walk.past ∙ past) in
     let run : List Given → Progress → Progress = λ args s. changes_of body v (with_arguments params args s) in
-    let give : Progress → Made = λ s. assigned width result v s.streams s.equations in
+    let give : Progress → Expanded = λ s. assigned width result v s.streams s.equations in
     record {
       at = λ args es.
           let s : Progress = record { streams = no_streams; equations = es } in

@@ -10,8 +10,8 @@ use Rattle.pr_flat.specs.Shape.{EquationShape}
 use Rattle.pr_expand_spec.specs.declared.givens.Given.{Given}
 use Rattle.pr_expand_spec.specs.declared.givens.Standing.{Standing}
 use Rattle.pr_expand_spec.specs.declared.givens.Standing.TheVariants.{Stream, Own}
-use Rattle.pr_expand_spec.specs.Making.{Equations, Made, made, given_signed, given_operand, kinds_read, is_signed, with_equation, declare_last, same_operand, is_delay_of, delay_from, delay_step, delayed_once, delayed}
-use Rattle.pr_expand_spec.specs.Expressions.{Streams, AllMade, apply, beside, concatenated, own_past, declared_at_operator, declared_else}
+use Rattle.pr_expand_spec.specs.Making.{Equations, Expanded, made, given_signed, given_operand, kinds_read, is_signed, with_equation, declare_last, same_operand, is_delay_of, delay_from, delay_step, delayed_once, delayed}
+use Rattle.pr_expand_spec.specs.Expressions.{Streams, AllExpanded, apply, beside, concatenated, own_past, declared_at_operator, declared_else}
 
 -- the number of the recurrence is left out
 abbrev pub blank : Operand → Operand
@@ -28,10 +28,10 @@ blank_equation e = record { op = e.op; args = map blank e.args; declared = e.dec
 abbrev pub blanked : Equations → Equations
 blanked es = map blank_equation es
 
-abbrev pub blank_made : Made → Made
+abbrev pub blank_made : Expanded → Expanded
 blank_made m = record { equations = blanked m.equations; given = blank_given m.given }
 
-abbrev pub blank_all : AllMade → AllMade
+abbrev pub blank_all : AllExpanded → AllExpanded
 blank_all a = record { equations = blanked a.equations; given = map blank_given a.given }
 
 abbrev pub blank_standing : Standing → Standing
@@ -51,7 +51,7 @@ blank-kinds [] = refl
 blank-kinds (g ∷ gs) = ap (λ (x : List Bool). g.signed ∷ x) (blank-kinds gs)
 
 -- an equation of these operands and kinds, after those at the front
-abbrev built : Op → Option ℕ → Equations → List Operand → List Bool → ℕ → Made
+abbrev built : Op → Option ℕ → Equations → List Operand → List Bool → ℕ → Expanded
 built o width front args kinds n = made (front ++ record { op = o; args = args; declared = width; kinds = kinds_read o kinds } ∷ []) (Eq n) (is_signed o (kinds_read o kinds))
 
 pub blank-with : (o : Op) (args : List Given) (width : Option ℕ) (es : Equations) → blank_made (with_equation o args width es) ≡ with_equation o (map blank_given args) width (blanked es)
@@ -67,23 +67,23 @@ blank-last w (e ∷ []) = refl
 blank-last w (e ∷ f ∷ es) = ap (λ (x : Equations). blank_equation e ∷ x) (blank-last w (f ∷ es))
 
 -- a declared width is the same
-pub blank-declared : (b : Bool) (width : Option ℕ) (m : Made) → blank_made (declared_at_operator b width m) ≡ declared_at_operator b width (blank_made m)
+pub blank-declared : (b : Bool) (width : Option ℕ) (m : Expanded) → blank_made (declared_at_operator b width m) ≡ declared_at_operator b width (blank_made m)
 blank-declared true (Some w) m = ap (λ (x : Equations). record { equations = x; given = blank_given m.given }) (blank-last w m.equations)
 blank-declared true None m = refl
 blank-declared false width m = refl
 
-pub blank-else : (b : Bool) (width : Option ℕ) (m : Made) → blank_made (declared_else b width m) ≡ declared_else b width (blank_made m)
+pub blank-else : (b : Bool) (width : Option ℕ) (m : Expanded) → blank_made (declared_else b width m) ≡ declared_else b width (blank_made m)
 blank-else false (Some w) m = blank-with op.Fit (m.given ∷ []) (Some w) m.equations
 blank-else false None m = refl
 blank-else true width m = refl
 
 -- ---- parts
-pub blank-apply : (o : Op) (parts : AllMade) → blank_made (apply o parts) ≡ apply o (blank_all parts)
+pub blank-apply : (o : Op) (parts : AllExpanded) → blank_made (apply o parts) ≡ apply o (blank_all parts)
 blank-apply o parts = blank-with o parts.given None parts.equations
 
-pub blank-beside : (above : Made) (gs : List Given) → blank_made (beside above gs) ≡ beside (blank_made above) (map blank_given gs)
+pub blank-beside : (above : Expanded) (gs : List Given) → blank_made (beside above gs) ≡ beside (blank_made above) (map blank_given gs)
 blank-beside above [] = refl
-blank-beside above (g ∷ gs) = blank-beside (with_equation op.Cat (above.given ∷ g ∷ []) None above.equations) gs ∙ ap (λ (m : Made). beside m (map blank_given gs)) (blank-with op.Cat (above.given ∷ g ∷ []) None above.equations)
+blank-beside above (g ∷ gs) = blank-beside (with_equation op.Cat (above.given ∷ g ∷ []) None above.equations) gs ∙ ap (λ (m : Expanded). beside m (map blank_given gs)) (blank-with op.Cat (above.given ∷ g ∷ []) None above.equations)
 
 pub blank-concatenated : (gs : List Given) (es : Equations) → blank_made (concatenated gs es) ≡ concatenated (map blank_given gs) (blanked es)
 blank-concatenated [] es = refl
@@ -133,10 +133,10 @@ blank-delayed zero g c es still = refl
 blank-delayed (suc k) g c es still =
     let once = delayed_once g.operand c es in
     let again = delayed_once (blank g.operand) c (blanked es) in
-    let next : Made → Given = λ m. record { operand = m.given.operand; signed = g.signed } in
+    let next : Expanded → Given = λ m. record { operand = m.given.operand; signed = g.signed } in
     let found : delay_from 0 es g.operand c ≡ delay_from 0 (blanked es) (blank g.operand) c = sym (ap (λ (q : Operand). delay_from 0 (blanked es) q c) (blank-still g.operand still) ∙ same-delay_from 0 es g.operand c still) in
     let first : blank_made once ≡ again = blank-step (delay_from 0 es g.operand c) g.operand c es ∙ ap (λ (o : Option ℕ). delay_step o (blank g.operand) c (blanked es)) found in
-    blank-delayed k (next once) c once.equations (step-still (delay_from 0 es g.operand c) g.operand c es) ∙ ap (λ (m : Made). delayed k (next m) c m.equations) first
+    blank-delayed k (next once) c once.equations (step-still (delay_from 0 es g.operand c) g.operand c es) ∙ ap (λ (m : Expanded). delayed k (next m) c m.equations) first
 
 pub blank-own : (number k : ℕ) → blank (own_past number k) ≡ own_past 0 k
 blank-own number k = by_test (nat_le 1 k && nat_le k 256) where

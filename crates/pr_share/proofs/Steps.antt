@@ -129,11 +129,11 @@ module _ {N P : ℕ} (s : Setting) (runs : List (List ℕ) → Run (List ℕ)) (
             ∙ (ap (fed (stages_of s) s.stripes free) (run_as false e (x ∷ more) (λ z. absurd (let y = z in cc))) ∙ fed_reads s h (x ∷ more) room));
       }
 
-  -- ---- the drain
-  pub turn_drained : (m' : Going N P) (t' : Tape) → 0 < stages_of s
+  -- ---- what waits is written
+  pub turn_written : (m' : Going N P) (t' : Tape) → 0 < stages_of s
       → ((h : History) → HasShown s m t h → HasShown s m' t' (h ++ replicate (waiting (stages_of s) (account (stages_of s) s.stripes h)) Take))
       → IsTurning s (λ xs. emptied (stages_of s) s.stripes free (runs xs)) m' f told t' used
-  turn_drained m' t' hv step = record {
+  turn_written m' t' hv step = record {
     rows = on.rows;
     history = on.history ++ replicate (waiting (stages_of s) (account (stages_of s) s.stripes on.history)) Take;
     shown = step on.history on.shown;

@@ -5,7 +5,7 @@ use Rattle.std.proofs.lemmas.List.{get_or_append_left, get_or-append_right, get_
 use Rattle.std.proofs.lemmas.List.{drop-replicate}
 use Rattle.std.proofs.lemmas.Simd.{get_or-replicate, length-replicate}
 use Rattle.std.specs.Int.{bit_at}
-use Rattle.pr_base.specs.Pe.{Made, shifted, carry_in, next_state}
+use Rattle.pr_base.specs.Pe.{PeResult, shifted, carry_in, next_state}
 use Rattle.pr_conf.specs.declared.pes.Source.{Source}
 use Rattle.pr_conf.specs.declared.pes.Bit.{Bit}
 use Rattle.pr_conf.specs.declared.pes.Pe.{Pe}
@@ -13,35 +13,35 @@ use Rattle.pr_conf.specs.StageMap.{made_from, pe_made, last_carry, source_byte, 
 use Rattle.pr_stripe_prepared.proofs.RoundLaws.{same_made}
 
 module _ (n : ℕ) (row wide st : List ℕ) (same : (i : ℕ) → get_or row i 0 ≡ get_or wide i 0) where
-  same_byte : (columns : List Made) (s : Source) → source_byte n (record { row = row; state = st; columns = columns }) s ≡ source_byte n (record { row = wide; state = st; columns = columns }) s
+  same_byte : (columns : List PeResult) (s : Source) → source_byte n (record { row = row; state = st; columns = columns }) s ≡ source_byte n (record { row = wide; state = st; columns = columns }) s
   same_byte columns (Source.Const k) = refl
   same_byte columns (Source.Prev c reg) = same ((reg - 1) * n + c)
   same_byte columns (Source.Here c) = refl
   same_byte columns (Source.State c) = refl
   same_byte columns (Source.Bus place) = same place
 
-  same_bit : (columns : List Made) (c : Bit) → source_bit n (record { row = row; state = st; columns = columns }) c ≡ source_bit n (record { row = wide; state = st; columns = columns }) c
+  same_bit : (columns : List PeResult) (c : Bit) → source_bit n (record { row = row; state = st; columns = columns }) c ≡ source_bit n (record { row = wide; state = st; columns = columns }) c
   same_bit columns Bit.None = refl
   same_bit columns (Bit.Of s place) = ap (λ x. bit_at x place) (same_byte columns s)
   same_bit columns Bit.CarryIn = refl
 
-  same_c : (columns : List Made) (c : Bit) (cin cin' : ℕ) → cin ≡ cin' → c_of n (record { row = row; state = st; columns = columns }) c cin ≡ c_of n (record { row = wide; state = st; columns = columns }) c cin'
+  same_c : (columns : List PeResult) (c : Bit) (cin cin' : ℕ) → cin ≡ cin' → c_of n (record { row = row; state = st; columns = columns }) c cin ≡ c_of n (record { row = wide; state = st; columns = columns }) c cin'
   same_c columns Bit.None cin cin' e = refl
   same_c columns (Bit.Of s place) cin cin' e = ap (λ x. bit_at x place) (same_byte columns s)
   same_c columns Bit.CarryIn cin cin' e = e
 
-  same_pe_made : (columns : List Made) (pe : Pe) → pe_made n (record { row = row; state = st; columns = columns }) pe ≡ pe_made n (record { row = wide; state = st; columns = columns }) pe
+  same_pe_made : (columns : List PeResult) (pe : Pe) → pe_made n (record { row = row; state = st; columns = columns }) pe ≡ pe_made n (record { row = wide; state = st; columns = columns }) pe
   same_pe_made columns pe =
       let into = ap (carry_in pe.cin (last_carry columns)) (same_bit columns pe.c) in
       same_made pe.mode pe.table pe.mask _ _ _ _ _ _ _ _ (same_byte columns pe.a)
       (ap (λ x. shifted x (source_byte n (record { row = row; state = st; columns = columns }) pe.lo) pe.shift) (same_byte columns pe.hi) ∙ ap (λ x. shifted (source_byte n (record { row = wide; state = st; columns = columns }) pe.hi) x pe.shift) (same_byte columns pe.lo))
       (same_c columns pe.c _ _ into) into
 
-  pub same_made_from : (columns : List Made) (pes : List Pe) → made_from n row st columns pes ≡ made_from n wide st columns pes
+  pub same_made_from : (columns : List PeResult) (pes : List Pe) → made_from n row st columns pes ≡ made_from n wide st columns pes
   same_made_from columns [] = refl
   same_made_from columns (pe ∷ pes) = ap (λ m. made_from n row st (columns ++ m ∷ []) pes) (same_pe_made columns pe) ∙ same_made_from (columns ++ pe_made n (record { row = wide; state = st; columns = columns }) pe ∷ []) pes
 
-  same_states : (all : List Made) (pes : List Pe) (columns : List Made) (old : List ℕ) → states_from n (record { row = row; state = st; columns = all }) pes columns old ≡ states_from n (record { row = wide; state = st; columns = all }) pes columns old
+  same_states : (all : List PeResult) (pes : List Pe) (columns : List PeResult) (old : List ℕ) → states_from n (record { row = row; state = st; columns = all }) pes columns old ≡ states_from n (record { row = wide; state = st; columns = all }) pes columns old
   same_states all [] columns old = refl
   same_states all (pe ∷ pes) [] old = refl
   same_states all (pe ∷ pes) (m ∷ columns) [] = refl

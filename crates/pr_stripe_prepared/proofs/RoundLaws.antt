@@ -7,7 +7,7 @@ use Rattle.std.proofs.lemmas.Nat.Bits.{and_pow}
 use Rattle.std.proofs.Math.Nat.{suc-mul}
 use Rattle.std.specs.Int.{bit_at}
 use Rattle.std.specs.Int.Bits.{and_zero_r, or_zero_r, or_zero_l}
-use Rattle.pr_base.specs.Pe.{Made, made, shifted, looked_up, carry_in, carry_out, result_of}
+use Rattle.pr_base.specs.Pe.{PeResult, made, shifted, looked_up, carry_in, carry_out, result_of}
 use Rattle.pr_base.specs.declared.choices.Mode.{Mode}
 use Rattle.pr_base.specs.declared.choices.Carry.{Carry}
 use Rattle.pr_conf.specs.declared.pes.Source.{Source}
@@ -257,7 +257,7 @@ summed_is Mode.Zero c false a x s mark e none l m = refl
 not_last : (k : ℕ) → suc k < 16 → (suc k == 16) ≡ false
 not_last k l = grind (arith, nat_tests)
 
-none_made : Made
+none_made : PeResult
 none_made = record { output = 0; carry = 0 }
 
 pub same_made : (mode : Mode) (table mask a b c cin a' b' c' cin' : ℕ) → a ≡ a' → b ≡ b' → c ≡ c' → cin ≡ cin' → made mode table mask a b c cin ≡ made mode table mask a' b' c' cin'
@@ -274,7 +274,7 @@ module _ (q : Prepared) (pes : List Pe) (registers : ℕ) (p : IsPrepared q pes 
     (bytes : (k : ℕ) → k < 16 → (get_or a k 0 < 256) × (get_or b k 0 < 256)) (looked : (k : ℕ) → k < 16 → found q a b c k < 256)
     (halves : q.has_c ≡ true → (k : ℕ) → k < 16 → (found_by q.off a b k < 256) × (found_by q.on a b k < 256))
     (before : IsRight q pes row st was outs carries r) where
-  abbrev all : List Made
+  abbrev all : List PeResult
   all = made_from (length st) row st [] pes
 
   abbrev sight : ℕ → Sight
@@ -404,7 +404,7 @@ module _ (q : Prepared) (pes : List Pe) (registers : ℕ) (p : IsPrepared q pes 
   out_carry k l lk here =
       let pe = get_or pes k any_pe in
       last_carry_is all k none_made (let e = p.long in let f = all_made (length st) row st pes in omega arith)
-      ∙ ap (λ (m : Made). m.carry) (at_of k l ∙ made_is k any_pe l lk here)
+      ∙ ap (λ (m : PeResult). m.carry) (at_of k l ∙ made_is k any_pe l lk here)
       ∙ ap (λ x. carry_out pe.mode (get_or a k 0) x (given q c k + goes k)) (sym (x_is k any_pe l lk here))
 
   -- what goes on into the next column
@@ -458,7 +458,7 @@ module _ (q : Prepared) (pes : List Pe) (registers : ℕ) (p : IsPrepared q pes 
       ∙ ap (λ y. bit_and y (get_or q.mask k 0)) (summed_is pe.mode pe.c q.has_sums (get_or a k 0) x s (get_or q.sums k 0) m.sums m.none (looked k l) here.small)
       ∙ ap (λ y. bit_and (result_of pe.mode (get_or a k 0) x s) y) m.mask
       ∙ ap (λ y. bit_and (result_of pe.mode (get_or a k 0) y s) pe.mask) (x_is k any_pe l lk here)
-      ∙ sym (output_is all k none_made (omega arith) ∙ ap (λ (m : Made). m.output) (at_of k l ∙ made_is k any_pe l lk here))
+      ∙ sym (output_is all k none_made (omega arith) ∙ ap (λ (m : PeResult). m.output) (at_of k l ∙ made_is k any_pe l lk here))
 
   pub right_more : IsRight q pes row st a output into (r + 1)
   right_more = record {

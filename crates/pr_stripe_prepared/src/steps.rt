@@ -3,7 +3,7 @@
 ghost use Rattle.std.specs.Prelude.{◌≡◌, ◌+◌, ◌-◌, ◌*◌, ◌/◌, ◌%◌, ◌<◌, ◌≤◌, false, [], ℕ, ◌==◌, if◌then◌else◌, slice_index, slice_index_or, true, replicate, ◌++◌, length, vec_len, List};
 ghost use Rattle.pr_conf.specs.declared.pes.Pe.{Pe};
 ghost use Rattle.pr_conf.specs.StageMap.{passed, registers_to};
-ghost use Rattle.pr_base.specs.Pe.{Made};
+ghost use Rattle.pr_base.specs.Pe.{PeResult};
 ghost use Rattle.pr_stripe_columns.specs.Elements.{outputs_of};
 ghost use Rattle.pr_stripe_prepared.specs.Elements.{AreMarks};
 ghost use Rattle.pr_stripe_prepared.specs.Steps.{IsStep, IsFirstStep};
@@ -21,7 +21,7 @@ fn pass_one(into: &mut [u8], before: &[u8], output: &[u8], marks: &[u8])
     requires before { length before.now ≡ 16 }
     requires output { length output.now ≡ 16 }
     requires marks { length marks.now ≡ 16 }
-    ensures { (reg : ℕ) (pes : List Pe) (made : List Made) → length pes ≡ 16
+    ensures { (reg : ℕ) (pes : List Pe) (made : List PeResult) → length pes ≡ 16
         → ((i : ℕ) (d : Pe) → i < 16 → slice_index marks.now i ≡ (if (slice_index_or pes i d).write == reg then 255 else 0))
         → output.now ≡ outputs_of made → into.new ≡ passed reg pes made before.now }
 {
@@ -39,7 +39,7 @@ fn pass(registers: &mut [u8], before: &[u8], marks: &[u8], output: &[u8], count:
     requires before { length before.now ≡ count * 16 }
     requires marks { length marks.now ≡ count * 16 }
     requires output { length output.now ≡ 16 }
-    ensures { (pes : List Pe) (made : List Made) → length pes ≡ 16
+    ensures { (pes : List Pe) (made : List PeResult) → length pes ≡ 16
         → AreMarks count pes marks.now → output.now ≡ outputs_of made
         → registers.new ≡ registers_to count 16 false pes made before.now }
 {

@@ -1,5 +1,5 @@
 pub mod Notes
 pub mod Noted
-pub mod Plans
+pub mod Requests
 pub mod Words
 pub mod Calls

@@ -12,7 +12,7 @@ use Rattle.pr_tool_modes.specs.Resumptions.{IsNoFile}
 use Rattle.pr_tool_modes.specs.Sources.{name_in}
 use Rattle.pr_tool_share.specs.Lists.{IsListedOnce, IsUnlisted}
 use Rattle.pr_tool.specs.declared.notes.Bounds.{Bounds}
-use Rattle.pr_tool.specs.Plans.{Plan, Texts, Runs, Folds, Moves, Extends, Evaluates, Generates, Shares, plan_of}
+use Rattle.pr_tool.specs.Requests.{Request, Texts, Runs, Folds, Moves, Extends, Evaluates, Generates, Shares, request_of}
 
 -- what is asked for, if the words are lawful
 abbrev pub Asked : Type 0
@@ -22,8 +22,8 @@ abbrev pub asked_by : List (String Global) → Asked
 asked_by words = lawful_words (map string_bytes words)
 
 -- ---- files
--- this is no file that is read for a plan; which files a list of programs names is told by its text
-abbrev pub IsOtherFile : Told → Plan → List ℕ → Type 0
+-- this is no file that is read for a request; which files a list of programs names is told by its text
+abbrev pub IsOtherFile : Told → Request → List ℕ → Type 0
 IsOtherFile told (Texts form source) q = q ≢ name_in source
 IsOtherFile told (Runs j) q = IsNotNamed j q
 IsOtherFile told (Folds j) q = IsNotNamed j q
@@ -35,10 +35,10 @@ IsOtherFile told (Shares list stripes) q = IsUnlisted told list q
 
 abbrev pub IsOther : Told → Asked → List ℕ → Type 0
 IsOther told None q = ⊤
-IsOther told (Some order) q = IsOtherFile told (plan_of order) q
+IsOther told (Some order) q = IsOtherFile told (request_of order) q
 
--- at most one file that is read for a plan is of this name, and that one is not the samples of a listed program
-abbrev pub IsOnceFile : Told → Plan → List ℕ → Type 0
+-- at most one file that is read for a request is of this name, and that one is not the samples of a listed program
+abbrev pub IsOnceFile : Told → Request → List ℕ → Type 0
 IsOnceFile told (Texts form source) q = ⊤
 IsOnceFile told (Runs j) q = IsNamedOnce j q
 IsOnceFile told (Folds j) q = IsNamedOnce j q
@@ -50,7 +50,7 @@ IsOnceFile told (Shares list stripes) q = IsListedOnce told list q
 
 abbrev pub IsOnce : Told → Asked → List ℕ → Type 0
 IsOnce told None q = ⊤
-IsOnce told (Some order) q = IsOnceFile told (plan_of order) q
+IsOnce told (Some order) q = IsOnceFile told (request_of order) q
 
 -- ---- limits
 -- the bytes of a file of samples

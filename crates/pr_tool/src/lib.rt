@@ -1,13 +1,13 @@
 //! The whole tool as one call: the words of a command line, files and sinks in; an answer out.
 //!
-//! Begin at `piperench`. It reads the words to a `Plan` (`plan_of`) and carries that out (`carry_out`). Its clauses are
+//! Begin at `piperench`. It reads the words to a `Request` (`request_of`) and carries that out (`carry_out`). Its clauses are
 //! the claims about the whole product.
 #![tactic(auto)]
 
 mod laws;
 mod modes;
 mod notes;
-mod plans;
+mod requests;
 mod tool;
 
 pub use laws::answer_law;

@@ -12,13 +12,13 @@ ghost use Rattle.pr_tool_modes.specs.Lines.{AreProgramLines};
 ghost use Rattle.pr_tool_modes.specs.declared.targets.Target.{Target};
 ghost use Rattle.pr_tool.specs.Notes.{note_of};
 ghost use Rattle.pr_tool.specs.Noted.{GainsNote};
-ghost use Rattle.pr_tool.specs.Plans.{Runs, plan_of};
+ghost use Rattle.pr_tool.specs.Requests.{Runs, request_of};
 ghost use Rattle.pr_tool.specs.Words.{asked_by, bounds_for, bounds_in, fabric_for, IsOnce, IsOther};
 ghost use Rattle.pr_tool.specs.Calls.{IsUnchanged, IsCalled, IsVerdict, IsToldVerdict, HasGained};
 
 use crate::modes::carry_out;
 use crate::notes::{Bounds, put_note};
-use crate::plans::plan_of;
+use crate::requests::request_of;
 use pr_base::{Cap, Fabric};
 use pr_edge::{Shelf, Sink};
 use pr_tool_answers::Answer;
@@ -46,7 +46,7 @@ pub fn piperench<S: Shelf, K: Sink, E: Sink>(
     note: &mut E,
     bench: &mut Bench,
 ) -> Answer
-    // What it came to, by the plan of the words: what was read, what is written, and what is on the bench.
+    // What it came to, by the request of the words: what was read, what is written, and what is on the bench.
     ensures called { IsCalled (asked_by words.now)
         (call (S.view shelf.old) (S.view shelf.new) (K.view out.old) (K.view out.new)) bench.old bench.new result }
 
@@ -70,17 +70,17 @@ pub fn piperench<S: Shelf, K: Sink, E: Sink>(
     // answer no run was begun: nothing is written, and the bench is as it was.
     ensures lines { (files : List ℕ → Option (List ℕ)) (order : Order) (j : Job) (name : List ℕ) (target : Target)
         → (S.view shelf.old).told ≡ Some files
-        → asked_by words.now ≡ Some order → plan_of order ≡ Runs j → j.source ≡ Text name target
+        → asked_by words.now ≡ Some order → request_of order ≡ Runs j → j.source ≡ Text name target
         → AreProgramLines files j
         (call (S.view shelf.old) (S.view shelf.new) (K.view out.old) (K.view out.new)) bench.old bench.new result }
 
-    // What each plan has written over told files, and what is on the bench. A checkpoint has the number of its samples, with those
+    // What each request has written over told files, and what is on the bench. A checkpoint has the number of its samples, with those
     // before, and the configuration as they left it, and comes of samples that are all good alone; the bench is as it was. A run that
     // goes on from one writes the lines of the further samples, which are the rest of what the program means (`moving_law`). The
     // programs of a list have written the text of their turns, in which the lines of each are those that it writes alone.
     ensures gained { (files : List ℕ → Option (List ℕ)) (order : Order) → (S.view shelf.old).told ≡ Some files
         → asked_by words.now ≡ Some order
-        → HasGained files (plan_of order)
+        → HasGained files (request_of order)
         (call (S.view shelf.old) (S.view shelf.new) (K.view out.old) (K.view out.new)) bench.old bench.new result }
 
     // Each answer by its cause: wrong words, a failed read, a failed write, want of memory.
@@ -97,7 +97,7 @@ pub fn piperench<S: Shelf, K: Sink, E: Sink>(
     ensures once { (q : List ℕ) → IsOnce (S.view shelf.old).told (asked_by words.now) q
         → IsInOrder ((S.view shelf.old).reach q) ((S.view shelf.new).reach q) }
 
-    // Only the files of the plan are read, and those that a list of programs names.
+    // Only the files of the request are read, and those that a list of programs names.
     ensures other_files { (q : List ℕ) → IsOther (S.view shelf.old).told (asked_by words.now) q
         → (S.view shelf.new).reach q ≡ (S.view shelf.old).reach q }
 
@@ -161,7 +161,7 @@ fn reply_to<S: Shelf, K: Sink>(
 {
     match read_words(alloc, words) {
         Ok(words) => Reply {
-            answer: carry_out(alloc, &plan_of(&words), shelf, out, bench),
+            answer: carry_out(alloc, &request_of(&words), shelf, out, bench),
             bounds: bounds_of(&words),
         },
         Err(WordsFault::Usage) => Reply {

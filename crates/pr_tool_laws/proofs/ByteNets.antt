@@ -13,7 +13,7 @@ use Rattle.pr_cut_units.specs.Parts.{each, kept}
 use Rattle.pr_cut_units.specs.Widening.{Argument, widened}
 use Rattle.pr_cut_units.specs.States.{delayed, hold_cell, later_cell, hold_units, held}
 use Rattle.pr_cut_units.specs.Reached.{hold_count}
-use Rattle.pr_cut_units.specs.Equations.{Plan, plan_of, operand_slices, arguments, input_slices, equation_units, Cut, has_units, next_units, cut_next, cut_after, input_units, cut_start, cut_whole}
+use Rattle.pr_cut_units.specs.Equations.{UnitPlan, plan_of, operand_slices, arguments, input_slices, equation_units, Cut, has_units, next_units, cut_next, cut_after, input_units, cut_start, cut_whole}
 use Rattle.pr_cut_units.specs.Nets.{output_of, net_of}
 use Rattle.pr_cut_units.proofs.Operands.{top_small}
 use Rattle.pr_tool_laws.proofs.ByteParts.{zero_byte, byte_at, slices-each, AreByteUnits, cells-each, units-append, IsBytePart, kept_bytes, unit_bytes, then_bytes, either_bytes}
@@ -60,17 +60,17 @@ number_bytes : (k c : ℕ) → SlicesAreBytes (map (λ b. Slice.Const b) (bytes_
 number_bytes zero c = tt
 number_bytes (suc k) c = (omega arith, number_bytes k (c / 256))
 
-operand_bytes : (plan : Plan) (values : List (List Slice)) (a : Operand) → AreByteValues values → SlicesAreBytes (operand_slices plan values a)
+operand_bytes : (plan : UnitPlan) (values : List (List Slice)) (a : Operand) → AreByteValues values → SlicesAreBytes (operand_slices plan values a)
 operand_bytes plan values (Operand.Const c) h = number_bytes (slices_of (number_width c)) c
 operand_bytes plan values (Operand.Eq i) h = value_bytes values i h
 operand_bytes plan values (Operand.Past rec k) h = slices-each _ _ (λ i. tt)
 
-arguments_bytes : (plan : Plan) (values : List (List Slice)) (args : List Operand) (kinds : List Bool) → AreByteValues values → HaveBytes (arguments plan values args kinds)
+arguments_bytes : (plan : UnitPlan) (values : List (List Slice)) (args : List Operand) (kinds : List Bool) → AreByteValues values → HaveBytes (arguments plan values args kinds)
 arguments_bytes plan values [] kinds h = tt
 arguments_bytes plan values (a ∷ args) [] h = tt
 arguments_bytes plan values (a ∷ args) (kind ∷ kinds) h = (operand_bytes plan values a h, arguments_bytes plan values args kinds h)
 
-equation_bytes : (plan : Plan) (i u : ℕ) (op : Op) (args : List Argument) → HaveBytes args → IsBytePart (equation_units plan i op args u)
+equation_bytes : (plan : UnitPlan) (i u : ℕ) (op : Op) (args : List Argument) → HaveBytes args → IsBytePart (equation_units plan i op args u)
 equation_bytes plan i u Op.Input args h = kept_bytes u (input_slices plan i) (slices-each _ _ (λ j. tt))
 equation_bytes plan i u (Op.Delay c) (x ∷ []) h = delayed_bytes u (slice_index plan.widths i) c x.slices h.0
 equation_bytes plan i u (Op.Rec init first) (body ∷ []) h = held_bytes u (slice_index plan.widths i) init (hold_count plan.equations i) body h.0
@@ -81,7 +81,7 @@ record IsByteCut (cut : Cut) : Type 0 where
   units : AreByteUnits cut.units
   values : AreByteValues cut.values
 
-next_bytes : (plan : Plan) (cut : Cut) (e : EquationShape) → IsByteCut cut → IsByteCut (cut_next plan cut e)
+next_bytes : (plan : UnitPlan) (cut : Cut) (e : EquationShape) → IsByteCut cut → IsByteCut (cut_next plan cut e)
 next_bytes plan cut e g =
     let i : ℕ = length cut.values in
     let n : ℕ = length cut.units in
@@ -92,7 +92,7 @@ next_bytes plan cut e g =
       values = values_push cut.values (next_units plan cut e n).slices g.values p.slices;
     }
 
-rest_bytes : (plan : Plan) (cut : Cut) (rest : List EquationShape) → IsByteCut cut → IsByteCut (cut_after plan cut rest)
+rest_bytes : (plan : UnitPlan) (cut : Cut) (rest : List EquationShape) → IsByteCut cut → IsByteCut (cut_after plan cut rest)
 rest_bytes plan cut [] g = g
 rest_bytes plan cut (e ∷ rest) g = rest_bytes plan (cut_next plan cut e) rest (next_bytes plan cut e g)
 
@@ -103,7 +103,7 @@ input_bytes offset (w ∷ widths) = (
   input_bytes (offset + slices_of w) widths,
 )
 
-whole_bytes : (plan : Plan) → IsByteCut (cut_whole plan)
+whole_bytes : (plan : UnitPlan) → IsByteCut (cut_whole plan)
 whole_bytes plan = rest_bytes plan (cut_start plan.equations) plan.equations (record { units = input_bytes 0 _; values = tt })
 
 -- ---- the net
@@ -111,7 +111,7 @@ pub record IsByteNet (net : NetShape) : Type 0 where
   pub units : AreByteUnits net.units
   pub outputs : OutputsAreBytes net.outputs
 
-outputs_bytes : (plan : Plan) (values : List (List Slice)) (os : List Operand) → AreByteValues values → OutputsAreBytes (map (output_of plan values) os)
+outputs_bytes : (plan : UnitPlan) (values : List (List Slice)) (os : List Operand) → AreByteValues values → OutputsAreBytes (map (output_of plan values) os)
 outputs_bytes plan values [] h = tt
 outputs_bytes plan values (a ∷ os) h = (operand_bytes plan values a h, outputs_bytes plan values os h)
 

@@ -6,7 +6,7 @@ use Rattle.std.proofs.lemmas.Bool.{ltb-true}
 use Rattle.std.proofs.lemmas.Nat.{and_le_r}
 use Rattle.pr_base.specs.Numbers.{slices_of, bytes_of}
 use Rattle.pr_base.specs.Rows.{row_bytes}
-use Rattle.pr_base.specs.Pe.{Made, next_state}
+use Rattle.pr_base.specs.Pe.{PeResult, next_state}
 use Rattle.pr_base.specs.declared.choices.Next.{Next}
 use Rattle.pr_conf_pipeline.specs.Rows.{state_over, rows_over, rows, state_after}
 use Rattle.pr_conf.specs.declared.pes.Source.{Source}
@@ -80,15 +80,15 @@ pes_parts : (pes : List Pe) → list_all has_pe_bytes pes ≡ true → AreBytePe
 pes_parts [] h = tt
 pes_parts (pe ∷ pes) h = let p = both (has_pe_bytes pe) (list_all has_pe_bytes pes) h in (pe_parts pe p.0, pes_parts pes p.1)
 
-abbrev AreByteColumns : List Made → Type 0
+abbrev AreByteColumns : List PeResult → Type 0
 AreByteColumns [] = Unit {0}
 AreByteColumns (m ∷ columns) = (m.output < 256) × AreByteColumns columns
 
-columns_push : (columns : List Made) (m : Made) → AreByteColumns columns → m.output < 256 → AreByteColumns (columns ++ m ∷ [])
+columns_push : (columns : List PeResult) (m : PeResult) → AreByteColumns columns → m.output < 256 → AreByteColumns (columns ++ m ∷ [])
 columns_push [] m h k = (k, tt)
 columns_push (c ∷ columns) m h k = (h.0, columns_push columns m h.1 k)
 
-output_in : (columns : List Made) (i : ℕ) → AreByteColumns columns → slice_index (map (λ (m : Made). m.output) columns) i < 256
+output_in : (columns : List PeResult) (i : ℕ) → AreByteColumns columns → slice_index (map (λ (m : PeResult). m.output) columns) i < 256
 output_in [] i h = omega arith
 output_in (m ∷ columns) zero h = h.0
 output_in (m ∷ columns) (suc i) h = output_in columns i h.1
@@ -96,7 +96,7 @@ output_in (m ∷ columns) (suc i) h = output_in columns i h.1
 masked_is : (x mask : ℕ) → mask < 256 → bit_and x mask < 256
 masked_is x mask h = omega (arith, h, and_le_r x mask)
 
-made_are : (N : ℕ) (row state : List ℕ) (columns : List Made) (pes : List Pe) → AreByteColumns columns → AreBytePes pes → AreByteColumns (made_from N row state columns pes)
+made_are : (N : ℕ) (row state : List ℕ) (columns : List PeResult) (pes : List Pe) → AreByteColumns columns → AreBytePes pes → AreByteColumns (made_from N row state columns pes)
 made_are N row state columns [] h p = h
 made_are N row state columns (pe ∷ pes) h p =
     let sight : Sight = record { row = row; state = state; columns = columns } in
@@ -120,14 +120,14 @@ next_is Next.Keep old output a h k l = h
 next_is Next.Output old output a h k l = k
 next_is Next.A old output a h k l = l
 
-states_are : (N : ℕ) (sight : Sight) (pes : List Pe) (columns : List Made) (state : List ℕ) → IsByteSight sight → AreBytePes pes → AreByteColumns columns → AreBytes state → AreBytes (states_from N sight pes columns state)
+states_are : (N : ℕ) (sight : Sight) (pes : List Pe) (columns : List PeResult) (state : List ℕ) → IsByteSight sight → AreBytePes pes → AreByteColumns columns → AreBytes state → AreBytes (states_from N sight pes columns state)
 states_are N sight [] columns state s p c h = tt
 states_are N sight (pe ∷ pes) [] state s p c h = tt
 states_are N sight (pe ∷ pes) (m ∷ columns) [] s p c h = tt
 states_are N sight (pe ∷ pes) (m ∷ columns) (old ∷ state) s p c h =
     (next_is pe.next old m.output (source_byte N sight pe.a) h.0 c.0 (source_is N sight pe.a s p.0.a), states_are N sight pes columns state s p.1 c.1 h.1)
 
-passed_are : (reg : ℕ) (pes : List Pe) (columns : List Made) (before : List ℕ) → AreByteColumns columns → AreBytes before → AreBytes (passed reg pes columns before)
+passed_are : (reg : ℕ) (pes : List Pe) (columns : List PeResult) (before : List ℕ) → AreByteColumns columns → AreBytes before → AreBytes (passed reg pes columns before)
 passed_are reg [] columns before c h = tt
 passed_are reg (pe ∷ pes) [] before c h = tt
 passed_are reg (pe ∷ pes) (m ∷ columns) [] c h = tt
@@ -138,7 +138,7 @@ before_are : (N : ℕ) (first : Bool) (row : List ℕ) (reg : ℕ) → AreBytes 
 before_are N true row reg h = bytes-zeros N
 before_are N false row reg h = bytes-take N (drop ((reg - 1) * N) row) (bytes-drop ((reg - 1) * N) row h)
 
-registers_are : (count N : ℕ) (first : Bool) (pes : List Pe) (columns : List Made) (row : List ℕ) → AreByteColumns columns → AreBytes row → AreBytes (registers_to count N first pes columns row)
+registers_are : (count N : ℕ) (first : Bool) (pes : List Pe) (columns : List PeResult) (row : List ℕ) → AreByteColumns columns → AreBytes row → AreBytes (registers_to count N first pes columns row)
 registers_are zero N first pes columns row c h = tt
 registers_are (suc count) N first pes columns row c h =
     bytes-append (registers_to count N first pes columns row) (passed (suc count) pes columns (passed_bytes N first row (suc count))) (registers_are count N first pes columns row c h)

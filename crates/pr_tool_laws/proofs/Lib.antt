@@ -1,6 +1,6 @@
 mod Sources
 mod Lists
-mod Plans
+mod Requests
 mod ByteParts
 mod ByteTable
 mod ByteNets

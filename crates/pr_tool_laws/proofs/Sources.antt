@@ -23,7 +23,7 @@ use Rattle.pr_tool_modes.specs.Checkpoints.{IsBadMark, IsResumable, file_in, bro
 use Rattle.pr_tool_modes.specs.Configurations.{IsBadConfiguration, IsLoadable, broken_in, broken_answer, columns_of, registers_of, configuration_in}
 use Rattle.pr_tool_modes.specs.Files.{IsRefusedFile}
 use Rattle.pr_tool_modes.specs.Programs.{IsBadProgram, IsUncompiled, HasProgram, front_answer, compile_answer}
-use Rattle.pr_tool_modes.specs.Sources.{Source, File, Text, IsOnFabric, IsGood, IsRefusedSource}
+use Rattle.pr_tool_modes.specs.Sources.{ConfSource, File, Text, IsOnFabric, IsGood, IsRefusedSource}
 use Rattle.pr_tool_laws.specs.Bytes.{HaveBytes}
 
 abbrev pub Files : Type 0
@@ -93,7 +93,7 @@ resumable_or bytes fits = elim (cases_option (broken_mark bytes)) [
 ]
 
 -- ---- sources
-abbrev pub GoodSource : Files → Source → Type 0
+abbrev pub GoodSource : Files → ConfSource → Type 0
 GoodSource files source = IsGood (Some files) source ⊎ ((a : Answer) × IsRefusedSource files source a)
 
 pub file_source : (files : Files) → HaveBytes files → (name : List ℕ) → GoodSource files (File name)

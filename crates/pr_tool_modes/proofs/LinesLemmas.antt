@@ -36,7 +36,7 @@ use Rattle.pr_tool_modes.specs.Lines.{ByAnswer, HasAllLines, HasFirstLines, AreE
 use Rattle.pr_tool_modes.specs.Programs.{inputs_of, HasProgram}
 use Rattle.pr_tool_modes.specs.Runs.{Course, course, ends_well, HasAll, IsWhole, IsBroken, IsStopped, IsEnd}
 use Rattle.pr_tool_modes.specs.Samples.{fed_in, fed_at_most, fed_whole, pieces}
-use Rattle.pr_tool_modes.specs.Sources.{Source, Text, name_in, most_in, Gives}
+use Rattle.pr_tool_modes.specs.Sources.{ConfSource, Text, name_in, most_in, Gives}
 use Rattle.pr_tool_modes.specs.Stalls.{HasStall}
 use Rattle.pr_tool_modes.specs.Unlogged.{GainsLines, GainsFirst}
 use Rattle.pr_tool_modes.proofs.CompileLaws.{is_meant}
@@ -350,14 +350,14 @@ two_registers Fabric.Wide = omega arith
 
 pub program_in : (files : List ℕ → Option (List ℕ)) (j : Job) (name : List ℕ) (target : Target) (N P : ℕ) (conf : Shape) → j.source ≡ Text name target → Gives (Some files) j.source N P conf → IsProgramOf files j N P conf
 program_in files j name target N P conf is gives =
-    let on = subst (λ (s : Source). Gives (Some files) s N P conf) is gives in
+    let on = subst (λ (s : ConfSource). Gives (Some files) s N P conf) is gives in
     let has = of_fabric (Some files) name target N P conf on in
     let c = has.is in
     let meant = is_meant (columns target.fabric) (registers target.fabric) target.narrowed has.text c.program c.widths conf (two_registers target.fabric) c.has c in
     record {
       program = c.program;
       widths = c.widths;
-      has = subst (λ (s : Source). HasProgram (Some files) (name_in s) c.program c.widths) (sym is) (record { text = has.text; file = has.file; short = has.short; has = c.has });
+      has = subst (λ (s : ConfSource). HasProgram (Some files) (name_in s) c.program c.widths) (sym is) (record { text = has.text; file = has.file; short = has.short; has = c.has });
       means = subst (λ (n : ℕ). IsMeant n P c.program conf) (sym on.columns_are) (subst (λ (p : ℕ). IsMeant (columns target.fabric) p c.program conf) (sym on.registers_are) meant);
     }
 

@@ -16,8 +16,8 @@ use Rattle.pr_tool_answers.specs.declared.answers.Answer.{Answer}
 use Rattle.pr_tool_answers.specs.Owed.{IsOwed}
 use Rattle.pr_tool_answers.proofs.OwedLemmas.{owed_by}
 use Rattle.pr_tool_modes.specs.declared.benches.Bench.{Bench}
-use Rattle.pr_tool_modes.specs.declared.jobs.Source.{Source as NamedSource}
-use Rattle.pr_tool_modes.specs.declared.jobs.Source.TheVariants as named
+use Rattle.pr_tool_modes.specs.declared.jobs.ConfSource.{ConfSource as NamedSource}
+use Rattle.pr_tool_modes.specs.declared.jobs.ConfSource.TheVariants as named
 use Rattle.pr_tool_modes.specs.declared.loadables.Loadable.{Loadable}
 use Rattle.pr_tool_modes.specs.Calls.{Call, call}
 use Rattle.pr_tool_modes.specs.Executions.{HasRun, HasRan, IsRunOf, IsRunRefusal, HasCome, IsRunVerdict}

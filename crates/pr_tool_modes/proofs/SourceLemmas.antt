@@ -13,7 +13,7 @@ use Rattle.pr_tool_modes.specs.Files.{IsText, IsFileRefusal}
 use Rattle.pr_tool_modes.specs.Configurations.{IsBadConfiguration, broken_in, columns_of, configuration_in}
 use Rattle.pr_tool_modes.specs.Checkpoints.{IsBadMark, file_in, broken_mark}
 use Rattle.pr_tool_modes.specs.Programs.{HasCompiled, IsUncompiled}
-use Rattle.pr_tool_modes.specs.Sources.{Source, File, Text, Mark, name_in, IsOnFabric, Gives, IsSourceRefusal, IsRefusedSource}
+use Rattle.pr_tool_modes.specs.Sources.{ConfSource, File, Text, Mark, name_in, IsOnFabric, Gives, IsSourceRefusal, IsRefusedSource}
 use Rattle.pr_tool_modes.proofs.CompileLaws.{one_compiled}
 use Rattle.pr_tool_modes.proofs.ReasonLemmas.{IsKind, word_refuses, one_word, never_word, compile_refuses, one_uncompiled, never_uncompiled}
 use Rattle.pr_tool_modes.proofs.FileLemmas.{refusal_owed, one_refused, never_refused, refusal_kind}
@@ -34,12 +34,12 @@ pub on_fabric : (told : Told) (name : List ℕ) (target : Target) (N P : ℕ) (c
 on_fabric told name target N P conf columns_are registers_are has = record { columns_are = columns_are; registers_are = registers_are; has = has }
 
 -- ---- the verdict
-pub source_owed : (files : List ℕ → Option (List ℕ)) (source : Source) (sb sn ob on : ℕ) (a : Answer) → IsSourceRefusal (Some files) source sb sn a → IsOwed (IsRefusedSource files source) sb sn ob on a
+pub source_owed : (files : List ℕ → Option (List ℕ)) (source : ConfSource) (sb sn ob on : ℕ) (a : Answer) → IsSourceRefusal (Some files) source sb sn a → IsOwed (IsRefusedSource files source) sb sn ob on a
 source_owed files (File name) sb sn ob on a is = refusal_owed 16777216 Cap.ConfigBytes IsBadConfiguration files name sb sn ob on a is
 source_owed files (Mark name count) sb sn ob on a is = refusal_owed 16777216 Cap.ConfigBytes IsBadMark files name sb sn ob on a is
 source_owed files (Text name target) sb sn ob on a is = refusal_owed 1048576 Cap.ProgramBytes (IsUncompiled (columns target.fabric) (registers target.fabric) target.narrowed) files name sb sn ob on a is
 
-pub one_source : (files : List ℕ → Option (List ℕ)) (source : Source) (a b : Answer) → IsRefusedSource files source a → IsRefusedSource files source b → a ≡ b
+pub one_source : (files : List ℕ → Option (List ℕ)) (source : ConfSource) (a b : Answer) → IsRefusedSource files source a → IsRefusedSource files source b → a ≡ b
 one_source files (File name) a b is by = one_refused 16777216 Cap.ConfigBytes IsBadConfiguration files name (λ bytes p q x y. one_word (broken_in bytes) p q x y) a b is by
 one_source files (Mark name count) a b is by = one_refused 16777216 Cap.ConfigBytes IsBadMark files name (λ bytes p q x y. one_word (broken_mark bytes) p q x y) a b is by
 one_source files (Text name target) a b is by =
@@ -50,7 +50,7 @@ pub of_fabric : (told : Told) (name : List ℕ) (target : Target) (N P : ℕ) (c
 of_fabric told name target N P conf is =
     subst (λ (n : ℕ). HasCompiled told name n (registers target.fabric) target.narrowed conf) is.columns_are (subst (λ (p : ℕ). HasCompiled told name N p target.narrowed conf) is.registers_are is.has)
 
-pub never_source : (files : List ℕ → Option (List ℕ)) (source : Source) (a : Answer) (N P : ℕ) (conf : Shape) → Gives (Some files) source N P conf → IsRefusedSource files source a → ⊥
+pub never_source : (files : List ℕ → Option (List ℕ)) (source : ConfSource) (a : Answer) (N P : ℕ) (conf : Shape) → Gives (Some files) source N P conf → IsRefusedSource files source a → ⊥
 never_source files (File name) a N P conf gives is =
     never_refused 16777216 Cap.ConfigBytes IsBadConfiguration files name a gives.bytes is gives.file gives.short (never_word (broken_in gives.bytes) a gives.loadable.good)
 never_source files (Mark name count) a N P conf gives is =
@@ -60,7 +60,7 @@ never_source files (Text name target) a N P conf gives is =
     never_refused 1048576 Cap.ProgramBytes (IsUncompiled (columns target.fabric) (registers target.fabric) target.narrowed) files name a has.text is has.file has.short (never_uncompiled (columns target.fabric) (registers target.fabric) target.narrowed has.text a conf has.is)
 
 -- a source gives one configuration at most
-pub one_conf : (files : List ℕ → Option (List ℕ)) (source : Source) (N P M Q : ℕ) (c d : Shape) → Gives (Some files) source N P c → Gives (Some files) source M Q d → c ≡ d
+pub one_conf : (files : List ℕ → Option (List ℕ)) (source : ConfSource) (N P M Q : ℕ) (c d : Shape) → Gives (Some files) source N P c → Gives (Some files) source M Q d → c ≡ d
 one_conf files (File name) N P M Q c d is by =
     let same : is.bytes ≡ by.bytes = (let both : Some is.bytes ≡ Some by.bytes = sym is.file ∙ by.file in cc) in
     is.loadable.read ∙ (ap configuration_in same ∙ sym by.loadable.read)
@@ -74,7 +74,7 @@ one_conf files (Text name target) N P M Q c d is by =
     one_compiled (columns target.fabric) (registers target.fabric) target.narrowed one.text c d one.is (subst (λ (t : List ℕ). IsCompiled (columns target.fabric) (registers target.fabric) target.narrowed t d) same other.is)
 
 -- ---- what a refusal answers
-pub source_kind : (told : Told) (source : Source) (before now : ℕ) (a : Answer) → IsSourceRefusal told source before now a → IsKind (HasReadCause told (name_in source) before now) a
+pub source_kind : (told : Told) (source : ConfSource) (before now : ℕ) (a : Answer) → IsSourceRefusal told source before now a → IsKind (HasReadCause told (name_in source) before now) a
 source_kind told (File name) before now a is = refusal_kind 16777216 Cap.ConfigBytes IsBadConfiguration told name before now a refl (λ bytes h. word_refuses (broken_in bytes) a h) is
 source_kind told (Mark name count) before now a is = refusal_kind 16777216 Cap.ConfigBytes IsBadMark told name before now a refl (λ bytes h. word_refuses (broken_mark bytes) a h) is
 source_kind told (Text name target) before now a is =

@@ -6,11 +6,11 @@ use Rattle.pr_conf.specs.Shape.{Shape}
 use Rattle.pr_tool_modes.specs.declared.targets.Target.{Target}
 use Rattle.pr_tool_modes.specs.declared.texts.Form.{Form}
 use Rattle.pr_tool_modes.specs.Jobs.{Job}
-use Rattle.pr_tool_modes.specs.Sources.{Source, Text, Gives}
+use Rattle.pr_tool_modes.specs.Sources.{ConfSource, Text, Gives}
 use Rattle.pr_tool_modes.specs.Texts.{text_in}
 
 -- the same job, with the configuration of another source
-abbrev pub from_source : Source → Job → Job
+abbrev pub from_source : ConfSource → Job → Job
 from_source source j = record j { source = source }
 
 -- the program in one file has a configuration, whose constants are bytes, and another file has what is written of it; that file

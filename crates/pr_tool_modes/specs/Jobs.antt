@@ -1,22 +1,22 @@
 -- What a run is asked to do.
 use Rattle.std.specs.Prelude.{◌≡◌, ◌≢◌, ℕ, Bool, List, Option, Some, option_map}
-use Rattle.pr_tool_modes.specs.declared.jobs.Source.{Source as NamedSource}
-use Rattle.pr_tool_modes.specs.declared.jobs.Source.TheVariants as named
+use Rattle.pr_tool_modes.specs.declared.jobs.ConfSource.{ConfSource as NamedSource}
+use Rattle.pr_tool_modes.specs.declared.jobs.ConfSource.TheVariants as named
 use Rattle.pr_tool_modes.specs.declared.jobs.Run.{Run}
 use Rattle.pr_tool_modes.specs.declared.jobs.Job.{Job as NamedJob}
 use Rattle.pr_tool_modes.specs.declared.jobs.Resumption.{Resumption as NamedResumption}
-use Rattle.pr_tool_modes.specs.Sources.{Source, File, Text, Mark, name_in}
+use Rattle.pr_tool_modes.specs.Sources.{ConfSource, File, Text, Mark, name_in}
 
 -- where the configuration comes from, the names of a file of samples and of a stall file, if there is one, a number of
 -- stripes, and whether the log is asked for
 pub record Job : Type 0 where
-  pub source : Source
+  pub source : ConfSource
   pub second : List ℕ
   pub stall : Option (List ℕ)
   pub stripes : ℕ
   pub log : Bool
 
-abbrev pub job : Source → List ℕ → Option (List ℕ) → ℕ → Bool → Job
+abbrev pub job : ConfSource → List ℕ → Option (List ℕ) → ℕ → Bool → Job
 job source second stall stripes log = record { source = source; second = second; stall = stall; stripes = stripes; log = log }
 
 -- the name of a checkpoint, and what is done of a job when a run goes on from it
@@ -64,14 +64,14 @@ abbrev pub IsResumedOnce : Resumption → List ℕ → Type 0
 IsResumedOnce r q = IsNamedOnce (resumed r 0) q
 
 -- ---- as the code has them
-abbrev pub source_of : NamedSource → Source
+abbrev pub source_of : NamedSource → ConfSource
 source_of (named.File name) = File name.now
 source_of (named.Program name target) = Text name.now target
 
 abbrev pub stall_in : Run → Option (List ℕ)
 stall_in r = option_map (λ s. s.now) r.stall
 
-abbrev pub job_on : Source → Run → Job
+abbrev pub job_on : ConfSource → Run → Job
 job_on source r = job source r.samples.now (stall_in r) r.stripes r.log
 
 abbrev pub job_of : NamedJob → Job

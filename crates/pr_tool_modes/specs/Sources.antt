@@ -16,30 +16,30 @@ use Rattle.pr_tool_modes.specs.Checkpoints.{HasMark, IsBadMark, IsNotMarked}
 use Rattle.pr_tool_modes.specs.Programs.{HasCompiled, IsUncompiled, IsNotCompiled}
 
 -- a configuration file; a program that is compiled; a checkpoint after so many samples
-pub data Source : Type 0 where
-  File : (name : List ℕ) → Source
-  Text : (name : List ℕ) (target : Target) → Source
-  Mark : (name : List ℕ) (count : ℕ) → Source
+pub data ConfSource : Type 0 where
+  File : (name : List ℕ) → ConfSource
+  Text : (name : List ℕ) (target : Target) → ConfSource
+  Mark : (name : List ℕ) (count : ℕ) → ConfSource
 
-abbrev pub name_in : Source → List ℕ
+abbrev pub name_in : ConfSource → List ℕ
 name_in (File name) = name
 name_in (Text name target) = name
 name_in (Mark name count) = name
 
 -- how many bytes its file may have
-abbrev pub most_bytes : Source → ℕ
+abbrev pub most_bytes : ConfSource → ℕ
 most_bytes (File name) = most_config_bytes
 most_bytes (Text name target) = most_program_bytes
 most_bytes (Mark name count) = most_config_bytes
 
 -- how many samples came before
-abbrev pub count_in : Source → ℕ
+abbrev pub count_in : ConfSource → ℕ
 count_in (File name) = 0
 count_in (Text name target) = 0
 count_in (Mark name count) = count
 
 -- how many may follow
-abbrev pub most_in : Source → ℕ
+abbrev pub most_in : ConfSource → ℕ
 most_in source = 2 ^ 40 - count_in source
 
 -- ---- configurations of either fabric
@@ -63,26 +63,26 @@ pub record IsOnFabric (told : Told) (name : List ℕ) (target : Target) (N P : �
   pub has : HasCompiled told name N P target.narrowed conf
 
 -- the source gives this configuration
-abbrev pub Gives : Told → Source → ℕ → ℕ → Shape → Type 0
+abbrev pub Gives : Told → ConfSource → ℕ → ℕ → Shape → Type 0
 Gives told (File name) N P conf = HasConfiguration told name N P conf
 Gives told (Text name target) N P conf = IsOnFabric told name target N P conf
 Gives told (Mark name count) N P conf = HasMark told name N P count conf
 
 -- the source gives a configuration
-pub record IsGood (told : Told) (source : Source) : Type 0 where
+pub record IsGood (told : Told) (source : ConfSource) : Type 0 where
   pub N : ℕ
   pub P : ℕ
   pub conf : Shape
   pub gives : Gives told source N P conf
 
 -- why a source gives none
-abbrev pub IsSourceRefusal : Told → Source → ℕ → ℕ → Answer → Type 0
+abbrev pub IsSourceRefusal : Told → ConfSource → ℕ → ℕ → Answer → Type 0
 IsSourceRefusal told (File name) before now answer = IsNotConfigured told name before now answer
 IsSourceRefusal told (Text name target) before now answer = IsNotCompiled (columns target.fabric) (registers target.fabric) target.narrowed told name before now answer
 IsSourceRefusal told (Mark name count) before now answer = IsNotMarked told name before now answer
 
 -- by the files alone
-abbrev pub IsRefusedSource : (List ℕ → Option (List ℕ)) → Source → Answer → Type 0
+abbrev pub IsRefusedSource : (List ℕ → Option (List ℕ)) → ConfSource → Answer → Type 0
 IsRefusedSource files (File name) answer = IsRefusedFile most_config_bytes Cap.ConfigBytes IsBadConfiguration files name answer
 IsRefusedSource files (Text name target) answer = IsRefusedFile most_program_bytes Cap.ProgramBytes (IsUncompiled (columns target.fabric) (registers target.fabric) target.narrowed) files name answer
 IsRefusedSource files (Mark name count) answer = IsRefusedFile most_config_bytes Cap.ConfigBytes IsBadMark files name answer

@@ -8,7 +8,7 @@ use Rattle.pr_code_show.specs.Shown.{shown}
 use Rattle.pr_tool_answers.specs.declared.answers.Answer.{Answer}
 use Rattle.pr_tool_modes.specs.declared.texts.Form.{Form}
 use Rattle.pr_tool_modes.specs.Files.{ShowsFault}
-use Rattle.pr_tool_modes.specs.Sources.{Source, Gives, IsGood, IsSourceRefusal, IsRefusedSource}
+use Rattle.pr_tool_modes.specs.Sources.{ConfSource, Gives, IsGood, IsSourceRefusal, IsRefusedSource}
 use Rattle.pr_tool_modes.specs.Calls.{Call}
 
 -- the text of a configuration: its summary, or its file in the newer format
@@ -24,13 +24,13 @@ IsPut text old new before now Answer.Memory = new ≡ old
 IsPut text old new before now answer = ⊥
 
 -- there is no configuration, and nothing is written
-pub record HasNoText (source : Source) (k : Call) (answer : Answer) : Type 0 where
+pub record HasNoText (source : ConfSource) (k : Call) (answer : Answer) : Type 0 where
   pub cause : IsSourceRefusal k.before.told source k.before.faults k.now.faults answer
   pub unwritten : k.new ≡ k.old
   pub shown : ShowsFault k.before.faults k.now.faults answer
 
 -- the text of the configuration was to be written; no read failed
-pub record HasText (form : Form) (source : Source) (k : Call) (answer : Answer) : Type 0 where
+pub record HasText (form : Form) (source : ConfSource) (k : Call) (answer : Answer) : Type 0 where
   pub N : ℕ
   pub P : ℕ
   pub conf : Shape
@@ -39,12 +39,12 @@ pub record HasText (form : Form) (source : Source) (k : Call) (answer : Answer) 
   pub steady : k.now.faults ≡ k.before.faults
 
 -- what a mode comes to that writes a text of a configuration
-abbrev pub IsTexted : Form → Source → Call → Answer → Type 0
+abbrev pub IsTexted : Form → ConfSource → Call → Answer → Type 0
 IsTexted form source k answer = HasNoText source k answer ⊎ HasText form source k answer
 
 -- ---- what is written over told files
 -- something is put of the text of the source's configuration
-pub record HasWritten (files : List ℕ → Option (List ℕ)) (form : Form) (source : Source) (put : List ℕ → Type 0) : Type 0 where
+pub record HasWritten (files : List ℕ → Option (List ℕ)) (form : Form) (source : ConfSource) (put : List ℕ → Type 0) : Type 0 where
   pub N : ℕ
   pub P : ℕ
   pub conf : Shape
@@ -52,11 +52,11 @@ pub record HasWritten (files : List ℕ → Option (List ℕ)) (form : Form) (so
   pub text : put (text_in form N P conf)
 
 -- the text is written; after a failed write first bytes of it are; and else nothing is
-abbrev pub AreTextBytes : (List ℕ → Option (List ℕ)) → Form → Source → Call → Answer → Type 0
+abbrev pub AreTextBytes : (List ℕ → Option (List ℕ)) → Form → ConfSource → Call → Answer → Type 0
 AreTextBytes files form source k Answer.Ok = HasWritten files form source (Appends k.old k.new)
 AreTextBytes files form source k Answer.WriteFault = HasWritten files form source (AppendsFront k.old k.new)
 AreTextBytes files form source k answer = k.new ≡ k.old
 
 -- ---- the verdict
-abbrev pub IsTextVerdict : (List ℕ → Option (List ℕ)) → Source → Answer → Type 0
+abbrev pub IsTextVerdict : (List ℕ → Option (List ℕ)) → ConfSource → Answer → Type 0
 IsTextVerdict files source answer = IsRefusedSource files source answer ⊎ ((answer ≡ Answer.Ok) × IsGood (Some files) source)

@@ -5,7 +5,7 @@ ghost use Rattle.pr_conf.specs.Configuration.{shape_of};
 ghost use Rattle.pr_tool_modes.specs.Calls.{call, IsOrderly};
 ghost use Rattle.pr_tool_modes.specs.Files.{ShowsFault};
 ghost use Rattle.pr_tool_modes.specs.Jobs.{job_on, job_of, stall_in, IsNoStall, IsNotBoth, IsApart, IsNamedOnce, IsNotNamed};
-ghost use Rattle.pr_tool_modes.specs.Sources.{Source, count_in};
+ghost use Rattle.pr_tool_modes.specs.Sources.{ConfSource, count_in};
 ghost use Rattle.pr_tool_modes.specs.Stalls.{IsStallRefusal};
 ghost use Rattle.pr_tool_modes.specs.Executions.{HasRun, IsRunOn, IsRunOf, HasCome};
 
@@ -33,7 +33,7 @@ fn run_on<const N: usize, const P: usize, S: Shelf, K: Sink>(
     out: &mut K,
 ) -> Result<Over<N, P>, Answer>
     requires { before ≤ 2 ^ 40 }
-    ensures ran { (source : Source) → count_in source ≡ before
+    ensures ran { (source : ConfSource) → count_in source ≡ before
         → IfOk result (λ o. HasRun (IsNoStall (job_on source run.now)) (shape_of conf.entry) (job_on source run.now)
         (S.view shelf.old) (S.view shelf.new) (K.view out.old).told (K.view out.new).told o.machine o.answer) }
     ensures refused { IfErr result
@@ -74,7 +74,7 @@ pub fn run_either<S: Shelf, K: Sink>(
     out: &mut K,
 ) -> Result<Ran, Answer>
     // Whatever the source that the configuration comes from.
-    ensures ran { (source : Source) → count_in source ≡ origin.before
+    ensures ran { (source : ConfSource) → count_in source ≡ origin.before
         → IfOk result (λ r. IsRunOn origin.conf (job_on source run.now)
         (call (S.view shelf.old) (S.view shelf.new) (K.view out.old) (K.view out.new)) r.bench r.answer) }
     ensures left { IfOk result (λ r. r.bench ≢ Bench.Nothing) }
@@ -120,7 +120,7 @@ pub fn run_from<S: Shelf, K: Sink>(
     bench: &mut Bench,
 ) -> Answer
     // Whatever the source that the configuration comes from.
-    ensures ended { (source : Source) → count_in source ≡ origin.before → IsRunOf origin.conf (job_on source run.now)
+    ensures ended { (source : ConfSource) → count_in source ≡ origin.before → IsRunOf origin.conf (job_on source run.now)
         (call (S.view shelf.old) (S.view shelf.new) (K.view out.old) (K.view out.new)) bench.old bench.new result }
     ensures orderly { IsOrderly (IsNotBoth run.now.samples.now (stall_in run.now))
         (IsApart run.now.samples.now (stall_in run.now)) (S.view shelf.old) (S.view shelf.new) }

@@ -9,7 +9,7 @@ ghost use Rattle.pr_tool_modes.specs.Jobs.{job_on, job_of, stall_in, resumption_
 ghost use Rattle.pr_tool_modes.specs.Ready.{IsReady};
 ghost use Rattle.pr_tool_modes.specs.Resumptions.{IsNoFile};
 ghost use Rattle.pr_tool_modes.specs.Runs.{course_from};
-ghost use Rattle.pr_tool_modes.specs.Sources.{Source, count_in, columns_in, registers_in, shape_in};
+ghost use Rattle.pr_tool_modes.specs.Sources.{ConfSource, count_in, columns_in, registers_in, shape_in};
 ghost use Rattle.pr_tool_modes.specs.Texts.{IsPut};
 ghost use Rattle.pr_tool_modes.specs.Folds.{HasMarked, IsUnmarked, HasRunFor, IsUnfolded, IsFoldOf, IsFolded, HasExtended};
 
@@ -75,10 +75,10 @@ fn fold_on<const N: usize, const P: usize, S: Shelf>(
     shelf: &mut S,
 ) -> Result<Vec<u8>, Answer>
     requires { before ≤ 2 ^ 40 }
-    ensures marked { (source : Source) → count_in source ≡ before
+    ensures marked { (source : ConfSource) → count_in source ≡ before
         → IfOk result (λ v. HasRunFor (IsNoStall (job_on source run.now)) (shape_of conf.entry) (job_on source run.now)
         (S.view shelf.old) (S.view shelf.new) (λ r. HasMarked N P r before v.items)) }
-    ensures refused { (source : Source) → count_in source ≡ before
+    ensures refused { (source : ConfSource) → count_in source ≡ before
         → IfErr result (IsUnfolded (shape_of conf.entry) (job_on source run.now)
         (S.view shelf.old) (S.view shelf.new)) }
     ensures orderly { IsOrderly (IsNotBoth run.now.samples.now (stall_in run.now))
@@ -96,11 +96,11 @@ fn fold_loaded<S: Shelf>(
     run: &Run<'_>,
     shelf: &mut S,
 ) -> Result<Vec<u8>, Answer>
-    ensures marked { (source : Source) → count_in source ≡ origin.before
+    ensures marked { (source : ConfSource) → count_in source ≡ origin.before
         → IfOk result (λ v. HasRunFor (IsNoStall (job_on source run.now)) (shape_in origin.conf) (job_on source run.now)
         (S.view shelf.old) (S.view shelf.new)
         (λ r. HasMarked (columns_in origin.conf) (registers_in origin.conf) r origin.before v.items)) }
-    ensures refused { (source : Source) → count_in source ≡ origin.before
+    ensures refused { (source : ConfSource) → count_in source ≡ origin.before
         → IfErr result (IsUnfolded (shape_in origin.conf) (job_on source run.now)
         (S.view shelf.old) (S.view shelf.new)) }
     ensures orderly { IsOrderly (IsNotBoth run.now.samples.now (stall_in run.now))
@@ -134,7 +134,7 @@ fn fold_from<S: Shelf, K: Sink>(
     shelf: &mut S,
     out: &mut K,
 ) -> Answer
-    ensures ended { (source : Source) → count_in source ≡ origin.before
+    ensures ended { (source : ConfSource) → count_in source ≡ origin.before
         → IsFoldOf origin.conf origin.before (job_on source run.now)
         (call (S.view shelf.old) (S.view shelf.new) (K.view out.old) (K.view out.new)) result }
     ensures orderly { IsOrderly (IsNotBoth run.now.samples.now (stall_in run.now))

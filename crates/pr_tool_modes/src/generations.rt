@@ -9,7 +9,7 @@ ghost use Rattle.pr_tool_modes.specs.Generations.{generation_of, job_for, genera
 
 use crate::benches::Bench;
 use crate::executions::{Ran, run_either};
-use crate::jobs::{Generation, Job, Run, Source};
+use crate::jobs::{ConfSource, Generation, Job, Run};
 use crate::loadables::Origin;
 use crate::programs::compile_file;
 use itoa::Buffer;
@@ -41,7 +41,7 @@ fn job_of(generation: &Generation) -> Job<'static>
     ensures { job_in result ≡ job_for (generation_of generation.now) }
 {
     Job {
-        source: Source::Program {
+        source: ConfSource::Program {
             name: PROGRAM,
             target: generation.target,
         },

@@ -5,7 +5,7 @@ use crate::targets::Target;
 
 /// Where a configuration comes from.
 #[derive(Clone, Copy, PartialEq, Eq, Debug)]
-pub enum Source<'a> {
+pub enum ConfSource<'a> {
     /// From a configuration file.
     File {
         /// Its name.
@@ -39,7 +39,7 @@ pub struct Run<'a> {
 #[derive(Clone, Copy, PartialEq, Eq, Debug)]
 pub struct Job<'a> {
     /// Where the configuration comes from.
-    pub source: Source<'a>,
+    pub source: ConfSource<'a>,
     /// The samples, and how they are run.
     pub run: Run<'a>,
 }

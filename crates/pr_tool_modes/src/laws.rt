@@ -22,13 +22,13 @@ ghost use Rattle.pr_tool_modes.specs.Lines.{IsWholeRun, MeansLines, NoMore};
 ghost use Rattle.pr_tool_modes.specs.Programs.{HasProgram};
 ghost use Rattle.pr_tool_modes.specs.Resumptions.{GoesOn, IsMarkKept};
 ghost use Rattle.pr_tool_modes.specs.Samples.{pieces};
-ghost use Rattle.pr_tool_modes.specs.Sources.{Source, File, Text, Mark, Gives};
+ghost use Rattle.pr_tool_modes.specs.Sources.{ConfSource, File, Text, Mark, Gives};
 ghost use Rattle.pr_tool_modes.specs.Texts.{IsTextVerdict};
 
 /// Files alone fix the answer of a mode: each mode has one verdict at most. All programs of one file mean the same, so
 /// their lines are one text.
 pub fn verdict_law()
-    ensures text { (files : List ℕ → Option (List ℕ)) (source : Source) → AtMostOne (IsTextVerdict files source) }
+    ensures text { (files : List ℕ → Option (List ℕ)) (source : ConfSource) → AtMostOne (IsTextVerdict files source) }
     ensures eval { (files : List ℕ → Option (List ℕ)) (first second : List ℕ)
         → AtMostOne (IsEvalVerdict files first second) }
     ensures run { (files : List ℕ → Option (List ℕ)) (j : Job) → AtMostOne (IsRunVerdict files j) }

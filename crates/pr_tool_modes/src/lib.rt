@@ -33,7 +33,7 @@ pub use executions::execute;
 pub use files::read_file;
 pub use folds::{extend, fold};
 pub use generations::generate;
-pub use jobs::{Generation, Job, Resumption, Run, Source};
+pub use jobs::{ConfSource, Generation, Job, Resumption, Run};
 pub use laws::{behaviour_law, moving_law, verdict_law};
 pub use loadables::{Loadable, Origin};
 pub use moves::move_on;

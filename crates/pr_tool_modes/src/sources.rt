@@ -6,7 +6,7 @@ ghost use Rattle.pr_tool_modes.specs.Sources.{columns_in, registers_in, shape_in
 ghost use Rattle.pr_tool_modes.specs.Jobs.{source_of};
 
 use crate::configurations::read_configuration;
-use crate::jobs::Source;
+use crate::jobs::ConfSource;
 use crate::loadables::Loadable;
 use crate::programs::compile_file;
 use pr_edge::Shelf;
@@ -15,7 +15,11 @@ use std::alloc::Global;
 
 /// Reads the file of a source for its configuration, which is of the fabric that a configuration file names, or that a program
 /// is compiled for.
-pub fn load<S: Shelf>(alloc: Global, source: &Source<'_>, shelf: &mut S) -> Result<Loadable, Answer>
+pub fn load<S: Shelf>(
+    alloc: Global,
+    source: &ConfSource<'_>,
+    shelf: &mut S,
+) -> Result<Loadable, Answer>
     ensures gives { IfOk result
         (λ l. Gives (S.view shelf.old).told (source_of source.now) (columns_in l) (registers_in l) (shape_in l)) }
     ensures refused { IfErr result
@@ -32,7 +36,9 @@ pub fn load<S: Shelf>(alloc: Global, source: &Source<'_>, shelf: &mut S) -> Resu
         ≡ (S.view shelf.old).reach q }
 {
     match *source {
-        Source::File { name } => read_configuration(alloc, shelf, name),
-        Source::Program { name, target } => Ok(compile_file(alloc, shelf, name, target)?.loaded),
+        ConfSource::File { name } => read_configuration(alloc, shelf, name),
+        ConfSource::Program { name, target } => Ok(
+            compile_file(alloc, shelf, name, target)?.loaded,
+        ),
     }
 }

@@ -7,7 +7,7 @@ ghost use Rattle.pr_tool_modes.specs.Jobs.{source_of};
 ghost use Rattle.pr_tool_modes.specs.Sources.{name_in, most_bytes, columns_in, registers_in, shape_in};
 ghost use Rattle.pr_tool_modes.specs.Texts.{text_in, IsPut, IsTexted};
 
-use crate::jobs::Source;
+use crate::jobs::ConfSource;
 use crate::loadables::Loadable;
 use crate::sources::load;
 use pr_code::encode;
@@ -70,7 +70,7 @@ fn put_text<K: Sink>(alloc: Global, loaded: &Loadable, form: Form, out: &mut K) 
 /// Writes a text of the configuration of a source.
 pub fn write_text<S: Shelf, K: Sink>(
     alloc: Global,
-    source: &Source<'_>,
+    source: &ConfSource<'_>,
     form: Form,
     shelf: &mut S,
     out: &mut K,

@@ -3,7 +3,7 @@
 use crate::trials::{check, check_answer};
 use pr_edge::{MemShelf, MemSink};
 use pr_tool_files::{BASE, Change, Kind, NEWER, OLDER, WIDE, XOR, made, packed, plain};
-use pr_tool_modes::{Answer, Form, Source, write_text};
+use pr_tool_modes::{Answer, ConfSource, Form, write_text};
 use std::alloc::{AllocError, Global};
 use std::process::Abort;
 
@@ -23,7 +23,13 @@ fn answer(
     let mut files = Vec::new(alloc);
     files.push((String::from_str(alloc, "c")?, bytes))?;
     let mut shelf = MemShelf::make(alloc, files, failing)?;
-    Ok(write_text(alloc, &Source::File { name: "c" }, form, &mut shelf, out))
+    Ok(write_text(
+        alloc,
+        &ConfSource::File { name: "c" },
+        form,
+        &mut shelf,
+        out,
+    ))
 }
 
 /// Checks what comes of a file, and what is written.
@@ -159,7 +165,7 @@ fn no_file(rt: HostRuntime) -> Result<(), AllocError> {
     let alloc = rt.alloc();
     let mut out = MemSink::make(alloc, 200, Vec::new(alloc))?;
     let mut shelf = MemShelf::make(alloc, Vec::new(alloc), Vec::new(alloc))?;
-    let source = Source::File { name: "c" };
+    let source = ConfSource::File { name: "c" };
     let came = write_text(alloc, &source, Form::Summary, &mut shelf, &mut out);
     check_answer(&rt, came, Answer::ReadFault, "no file");
     Ok(())

@@ -2,7 +2,7 @@
 ghost use Rattle.std.specs.Prelude.{◌≤◌};
 
 use pr_edge::{MemShelf, MemSink};
-use pr_tool_modes::{Answer, Bench, Job, Run, Source, execute};
+use pr_tool_modes::{Answer, Bench, ConfSource, Job, Run, execute};
 use std::alloc::{AllocError, Global};
 use std::fmt::Write;
 use std::process::Abort;
@@ -39,7 +39,7 @@ fn job_of(stall: Option<&str>, stripes: usize) -> Job<'_>
     requires most { stripes ≤ 256 }
 {
     Job {
-        source: Source::File { name: "c" },
+        source: ConfSource::File { name: "c" },
         run: Run {
             samples: "s",
             stall,

@@ -10,7 +10,7 @@ use Rattle.pr_tool_answers.specs.declared.answers.Answer.{Answer}
 use Rattle.pr_tool_answers.specs.declared.answers.Cause.{Cause}
 use Rattle.pr_tool_modes.specs.declared.targets.Target.{Target}
 use Rattle.pr_tool_modes.specs.Files.{IsText, IsFileRefusal, IsRefusedFile}
-use Rattle.pr_tool_modes.specs.Sources.{Source, Text, Gives, IsGood, IsSourceRefusal, IsRefusedSource}
+use Rattle.pr_tool_modes.specs.Sources.{ConfSource, Text, Gives, IsGood, IsSourceRefusal, IsRefusedSource}
 
 -- ---- the list
 -- a line of the list is not as it should be
@@ -38,7 +38,7 @@ pub record HasList (told : Told) (list : List ℕ) (entries : List Entry) : Type
 abbrev pub base : Target
 base = record { fabric = Fabric.Base; narrowed = false }
 
-abbrev pub source_in : Entry → Source
+abbrev pub source_in : Entry → ConfSource
 source_in entry = Text entry.program base
 
 -- the answer where program k ends so, by the answer of a program alone; none where that tells of no single program

@@ -8,7 +8,7 @@ use Rattle.pr_flat.specs.Shape.{EquationShape, shapes_of}
 use Rattle.pr_scope_names.proofs.Seen.{names_on}
 use Rattle.pr_lang_meaning.specs.Expressions.{constant_shift}
 use Rattle.pr_expand_spec.specs.declared.givens.Standing.TheVariants.{Own}
-use Rattle.pr_expand_spec.specs.Making.{Made, lawful, with_equation}
+use Rattle.pr_expand_spec.specs.Making.{Expanded, lawful, with_equation}
 use Rattle.pr_expand_spec.specs.Expressions.{Visible, assigned, declared_at_operator, place, plan_of}
 use Rattle.pr_expand_spec.specs.Statements.{Progress, changes_of, number_after, with_index, with_standing}
 use Rattle.pr_scope_facts.proofs.Appending.{appends-length, assigned-appends, body-appends}
@@ -91,7 +91,7 @@ make_innermost-returns-in_ok-all-in-Call-clause-value t c =
     let env = streams_in c.args.env.now in
     let es = shapes_in c.args.ledger in
     let e = call_is v (visible_in items c.make_all.new.statics) env es c.args.expr.now c.in-Call.name c.in-Call.args c.deref.result.now (all_of c.in_ok-all-in-Call.all) c.in-Call.is c.deref.ensures.value (visible_kept items c.args.statics.now c.make_all.new.statics c.in_ok-all-in-Call.ensures.names) c.in_ok-all-in-Call.ensures.value in
-    subst (λ (z : Made). IfOk c.call.result (λ m. made_of m ≡ z)) e c.call.ensures.value
+    subst (λ (z : Expanded). IfOk c.call.result (λ m. made_of m ≡ z)) e c.call.ensures.value
 
 pub make_innermost-returns-in_ok-all-in-Cat-clause-value : goal.make_innermost-returns-in_ok-all-in-Cat-clause-value
 make_innermost-returns-in_ok-all-in-Cat-clause-value t c =
@@ -100,7 +100,7 @@ make_innermost-returns-in_ok-all-in-Cat-clause-value t c =
     let env = streams_in c.args.env.now in
     let es = shapes_in c.args.ledger in
     let e = cat_is v env es c.args.expr.now c.in-Cat.parts c.deref-in-Cat.result.now (all_of c.in_ok-all-in-Cat.all) c.in-Cat.is c.deref-in-Cat.ensures.value c.in_ok-all-in-Cat.ensures.value in
-    subst (λ (z : Made). IfOk c.concatenate.result (λ m. made_of m ≡ z)) e c.concatenate.ensures.value
+    subst (λ (z : Expanded). IfOk c.concatenate.result (λ m. made_of m ≡ z)) e c.concatenate.ensures.value
 
 pub make_innermost-returns-in_ok-all-in-Call-clause-limit : goal.make_innermost-returns-in_ok-all-in-Call-clause-limit
 make_innermost-returns-in_ok-all-in-Call-clause-limit t c =
@@ -109,7 +109,7 @@ make_innermost-returns-in_ok-all-in-Call-clause-limit t c =
     let env = streams_in c.args.env.now in
     let es = shapes_in c.args.ledger in
     let e = call_is v (visible_in items c.make_all.new.statics) env es c.args.expr.now c.in-Call.name c.in-Call.args c.deref.result.now (all_of c.in_ok-all-in-Call.all) c.in-Call.is c.deref.ensures.value (visible_kept items c.args.statics.now c.make_all.new.statics c.in_ok-all-in-Call.ensures.names) c.in_ok-all-in-Call.ensures.value in
-    subst (λ (z : Made). IfErr c.call.result (λ s. IsPast s z.equations)) e c.call.ensures.limit
+    subst (λ (z : Expanded). IfErr c.call.result (λ s. IsPast s z.equations)) e c.call.ensures.limit
 
 pub make_innermost-returns-in_ok-all-in-Cat-clause-limit : goal.make_innermost-returns-in_ok-all-in-Cat-clause-limit
 make_innermost-returns-in_ok-all-in-Cat-clause-limit t c =
@@ -118,7 +118,7 @@ make_innermost-returns-in_ok-all-in-Cat-clause-limit t c =
     let env = streams_in c.args.env.now in
     let es = shapes_in c.args.ledger in
     let e = cat_is v env es c.args.expr.now c.in-Cat.parts c.deref-in-Cat.result.now (all_of c.in_ok-all-in-Cat.all) c.in-Cat.is c.deref-in-Cat.ensures.value c.in_ok-all-in-Cat.ensures.value in
-    subst (λ (z : Made). IfErr c.concatenate.result (λ s. IsPast s z.equations)) e c.concatenate.ensures.limit
+    subst (λ (z : Expanded). IfErr c.concatenate.result (λ s. IsPast s z.equations)) e c.concatenate.ensures.limit
 
 pub make_innermost-returns-in_err-all-in-Call-clause-limit : goal.make_innermost-returns-in_err-all-in-Call-clause-limit
 make_innermost-returns-in_err-all-in-Call-clause-limit t c =
@@ -171,7 +171,7 @@ make_rest-returns-in-Some-clause-value t c =
     let x = made_of c.args.made in
     let by : Some c.in-Some.by ≡ constant_shift c.in-Binary.op c.amount.result = sym c.in-Some.is ∙ c.shift.ensures in
     let e = shift_is v env c.args.expr.now c.deref.result.now c.in-Binary.op _ c.in-Binary.second x c.in-Some.by c.amount.result c.in-Binary.is c.deref.ensures c.amount.ensures by in
-    subst (λ (z : Made). IfOk c.one-in-Some.result (λ m. made_of m ≡ z)) e c.one-in-Some.ensures.value
+    subst (λ (z : Expanded). IfOk c.one-in-Some.result (λ m. made_of m ≡ z)) e c.one-in-Some.ensures.value
 
 pub make_rest-returns-in-Some-clause-limit : goal.make_rest-returns-in-Some-clause-limit
 make_rest-returns-in-Some-clause-limit t c =
@@ -180,7 +180,7 @@ make_rest-returns-in-Some-clause-limit t c =
     let x = made_of c.args.made in
     let by : Some c.in-Some.by ≡ constant_shift c.in-Binary.op c.amount.result = sym c.in-Some.is ∙ c.shift.ensures in
     let e = shift_is v env c.args.expr.now c.deref.result.now c.in-Binary.op _ c.in-Binary.second x c.in-Some.by c.amount.result c.in-Binary.is c.deref.ensures c.amount.ensures by in
-    subst (λ (z : Made). IfErr c.one-in-Some.result (λ s. IsPast s z.equations)) e c.one-in-Some.ensures.limit
+    subst (λ (z : Expanded). IfErr c.one-in-Some.result (λ s. IsPast s z.equations)) e c.one-in-Some.ensures.limit
 
 pub make_rest-returns-in_ok-b-in-None-clause-value : goal.make_rest-returns-in_ok-b-in-None-clause-value
 make_rest-returns-in_ok-b-in-None-clause-value t c =
@@ -189,7 +189,7 @@ make_rest-returns-in_ok-b-in-None-clause-value t c =
     let x = made_of c.args.made in
     let none : None ≡ constant_shift c.in-Binary.op c.amount.result = sym c.in-None.is ∙ c.shift.ensures in
     let e = two_is v env c.args.expr.now c.deref.result.now c.deref-in-None.result.now c.in-Binary.op _ c.in-Binary.second x (made_of c.in_ok-b-in-None.b) c.op_of.result c.amount.result c.in-Binary.is c.deref.ensures c.deref-in-None.ensures c.amount.ensures none c.op_of.ensures c.in_ok-b-in-None.ensures.value in
-    subst (λ (z : Made). IfOk c.two.result (λ m. made_of m ≡ z)) e c.two.ensures.value
+    subst (λ (z : Expanded). IfOk c.two.result (λ m. made_of m ≡ z)) e c.two.ensures.value
 
 pub make_rest-returns-in_ok-b-in-None-clause-limit : goal.make_rest-returns-in_ok-b-in-None-clause-limit
 make_rest-returns-in_ok-b-in-None-clause-limit t c =
@@ -198,7 +198,7 @@ make_rest-returns-in_ok-b-in-None-clause-limit t c =
     let x = made_of c.args.made in
     let none : None ≡ constant_shift c.in-Binary.op c.amount.result = sym c.in-None.is ∙ c.shift.ensures in
     let e = two_is v env c.args.expr.now c.deref.result.now c.deref-in-None.result.now c.in-Binary.op _ c.in-Binary.second x (made_of c.in_ok-b-in-None.b) c.op_of.result c.amount.result c.in-Binary.is c.deref.ensures c.deref-in-None.ensures c.amount.ensures none c.op_of.ensures c.in_ok-b-in-None.ensures.value in
-    subst (λ (z : Made). IfErr c.two.result (λ s. IsPast s z.equations)) e c.two.ensures.limit
+    subst (λ (z : Expanded). IfErr c.two.result (λ s. IsPast s z.equations)) e c.two.ensures.limit
 
 pub make_rest-returns-in_ok-b-in-Choose-clause-value : goal.make_rest-returns-in_ok-b-in-Choose-clause-value
 make_rest-returns-in_ok-b-in-Choose-clause-value t c =
@@ -207,7 +207,7 @@ make_rest-returns-in_ok-b-in-Choose-clause-value t c =
     let x = made_of c.args.made in
     let s = c.args.statics.now in
     let e = three_is v (visible_in c.args.items.now c.make-in-Choose.new.statics) env c.args.expr.now c.deref-in-Choose.result.now c.deref-in-Choose-2.result.now _ c.in-Choose.first c.in-Choose.second x (made_of c.in_ok-a-in-Choose.a) (made_of c.in_ok-b-in-Choose.b) c.in-Choose.is c.deref-in-Choose.ensures c.deref-in-Choose-2.ensures (visible_kept c.args.items.now s c.make-in-Choose.new.statics c.in_ok-a-in-Choose.ensures.names) c.in_ok-a-in-Choose.ensures.value c.in_ok-b-in-Choose.ensures.value in
-    subst (λ (z : Made). IfOk c.choose.result (λ m. made_of m ≡ z)) e c.choose.ensures.value
+    subst (λ (z : Expanded). IfOk c.choose.result (λ m. made_of m ≡ z)) e c.choose.ensures.value
 
 pub make_rest-returns-in_ok-b-in-Choose-clause-limit : goal.make_rest-returns-in_ok-b-in-Choose-clause-limit
 make_rest-returns-in_ok-b-in-Choose-clause-limit t c =
@@ -216,7 +216,7 @@ make_rest-returns-in_ok-b-in-Choose-clause-limit t c =
     let x = made_of c.args.made in
     let s = c.args.statics.now in
     let e = three_is v (visible_in c.args.items.now c.make-in-Choose.new.statics) env c.args.expr.now c.deref-in-Choose.result.now c.deref-in-Choose-2.result.now _ c.in-Choose.first c.in-Choose.second x (made_of c.in_ok-a-in-Choose.a) (made_of c.in_ok-b-in-Choose.b) c.in-Choose.is c.deref-in-Choose.ensures c.deref-in-Choose-2.ensures (visible_kept c.args.items.now s c.make-in-Choose.new.statics c.in_ok-a-in-Choose.ensures.names) c.in_ok-a-in-Choose.ensures.value c.in_ok-b-in-Choose.ensures.value in
-    subst (λ (z : Made). IfErr c.choose.result (λ s. IsPast s z.equations)) e c.choose.ensures.limit
+    subst (λ (z : Expanded). IfErr c.choose.result (λ s. IsPast s z.equations)) e c.choose.ensures.limit
 
 pub make_rest-returns-in_err-a-in-Choose-clause-limit : goal.make_rest-returns-in_err-a-in-Choose-clause-limit
 make_rest-returns-in_err-a-in-Choose-clause-limit t c =
@@ -309,7 +309,7 @@ run-returns-clause-value t c =
     let w = visible_in items c.make_stmts.new.statics in
     let body : progress_of c.in_ok-env.field-0 ≡ changes_of c.args.body.now v (progress_of c.args.begun) = c.in_ok-env.ensures.value in
     let same : w ≡ v = visible_kept items c.args.statics.now c.make_stmts.new.statics c.in_ok-env.ensures.names in
-    subst (λ (z : Made). IfOk c.make_assigned.result (λ m. made_of m ≡ z)) (λ i. assigned c.args.last.now.width c.args.last.now.expr.now (same i) (body i).streams (body i).equations) c.make_assigned.ensures.value
+    subst (λ (z : Expanded). IfOk c.make_assigned.result (λ m. made_of m ≡ z)) (λ i. assigned c.args.last.now.width c.args.last.now.expr.now (same i) (body i).streams (body i).equations) c.make_assigned.ensures.value
 
 pub call-call_item-requires : goal.call-call_item-requires
 call-call_item-requires t c =
@@ -343,7 +343,7 @@ make_rec-returns-clause-value t c =
     let kept = visible_kept items s c.make_body.new.statics c.in_ok-counted.ensures.names in
     let body = body_as v (visible_in items c.make_body.new.statics) name width e begun p at declared c.len-number.result (streams_in c.set.new.self) (streams_in c.set-2.new.self) (made_of c.in_ok-counted.counted) (made_of c.in_ok-made.made) (shapes_in c.cut-ledger.result) grown.more c.place_at-at.ensures refl c.in_ok-set.ensures.stands c.in_ok-counted.ensures.value length_is start c.in_ok-set-2.ensures.stands kept c.in_ok-made.ensures.value grown.is in
     let again = body-appends v (scene_appends items s c.requires) name p width e n begun in
-    let number_is : c.len-number.result ≡ n = length_is ∙ ap (λ (m : Made). length m.equations) counts in
+    let number_is : c.len-number.result ≡ n = length_is ∙ ap (λ (m : Expanded). length m.equations) counts in
     let one : streams_in c.set.new.self ≡ with_standing name p (Own 0) begun.streams = c.in_ok-set.ensures.stands ∙ (λ i. with_standing name (c.place_at-at.ensures i) (Own 0) begun.streams) in
     let two : streams_in c.set-2.new.self ≡ with_standing name p (Own n) begun.streams = c.in_ok-set-2.ensures.stands ∙ ((λ i. with_standing name (c.place_at-at.ensures i) (Own (number_is i)) (one i)) ∙ twice name p (Own 0) (Own n) begun.streams) in
     let other = visible_kept items s c.make_body-2.new.statics (names_on c.in_ok-counted.ensures.names c.in_ok-made.ensures.names) in
@@ -408,7 +408,7 @@ make_rec-returns-in_err-made-2-clause-limit t c =
     let kept = visible_kept items s c.make_body.new.statics c.in_ok-counted.ensures.names in
     let body = body_as v (visible_in items c.make_body.new.statics) name width e begun p at declared c.len-number.result (streams_in c.set.new.self) (streams_in c.set-2.new.self) (made_of c.in_ok-counted.counted) (made_of c.in_ok-made.made) (shapes_in c.cut-ledger.result) grown.more c.place_at-at.ensures refl c.in_ok-set.ensures.stands c.in_ok-counted.ensures.value length_is start c.in_ok-set-2.ensures.stands kept c.in_ok-made.ensures.value grown.is in
     let again = body-appends v (scene_appends items s c.requires) name p width e n begun in
-    let number_is : c.len-number.result ≡ n = length_is ∙ ap (λ (m : Made). length m.equations) counts in
+    let number_is : c.len-number.result ≡ n = length_is ∙ ap (λ (m : Expanded). length m.equations) counts in
     let one : streams_in c.set.new.self ≡ with_standing name p (Own 0) begun.streams = c.in_ok-set.ensures.stands ∙ (λ i. with_standing name (c.place_at-at.ensures i) (Own 0) begun.streams) in
     let two : streams_in c.set-2.new.self ≡ with_standing name p (Own n) begun.streams = c.in_ok-set-2.ensures.stands ∙ ((λ i. with_standing name (c.place_at-at.ensures i) (Own (number_is i)) (one i)) ∙ twice name p (Own 0) (Own n) begun.streams) in
     let other = visible_kept items s c.make_body-2.new.statics (names_on c.in_ok-counted.ensures.names c.in_ok-made.ensures.names) in
@@ -437,7 +437,7 @@ make_rec-returns-in_err-made-3-clause-limit t c =
     let kept = visible_kept items s c.make_body.new.statics c.in_ok-counted.ensures.names in
     let body = body_as v (visible_in items c.make_body.new.statics) name width e begun p at declared c.len-number.result (streams_in c.set.new.self) (streams_in c.set-2.new.self) (made_of c.in_ok-counted.counted) (made_of c.in_ok-made.made) (shapes_in c.cut-ledger.result) grown.more c.place_at-at.ensures refl c.in_ok-set.ensures.stands c.in_ok-counted.ensures.value length_is start c.in_ok-set-2.ensures.stands kept c.in_ok-made.ensures.value grown.is in
     let again = body-appends v (scene_appends items s c.requires) name p width e n begun in
-    let number_is : c.len-number.result ≡ n = length_is ∙ ap (λ (m : Made). length m.equations) counts in
+    let number_is : c.len-number.result ≡ n = length_is ∙ ap (λ (m : Expanded). length m.equations) counts in
     let one : streams_in c.set.new.self ≡ with_standing name p (Own 0) begun.streams = c.in_ok-set.ensures.stands ∙ (λ i. with_standing name (c.place_at-at.ensures i) (Own 0) begun.streams) in
     let two : streams_in c.set-2.new.self ≡ with_standing name p (Own n) begun.streams = c.in_ok-set-2.ensures.stands ∙ ((λ i. with_standing name (c.place_at-at.ensures i) (Own (number_is i)) (one i)) ∙ twice name p (Own 0) (Own n) begun.streams) in
     let other = visible_kept items s c.make_body-2.new.statics (names_on c.in_ok-counted.ensures.names c.in_ok-made.ensures.names) in
@@ -469,7 +469,7 @@ run-returns-clause-limit t c =
     let w = visible_in items c.make_stmts.new.statics in
     let body : progress_of c.in_ok-env.field-0 ≡ changes_of c.args.body.now v (progress_of c.args.begun) = c.in_ok-env.ensures.value in
     let same : w ≡ v = visible_kept items c.args.statics.now c.make_stmts.new.statics c.in_ok-env.ensures.names in
-    subst (λ (z : Made). IfErr c.make_assigned.result (λ s. IsPast s z.equations)) (λ i. assigned c.args.last.now.width c.args.last.now.expr.now (same i) (body i).streams (body i).equations) c.make_assigned.ensures.limit
+    subst (λ (z : Expanded). IfErr c.make_assigned.result (λ s. IsPast s z.equations)) (λ i. assigned c.args.last.now.width c.args.last.now.expr.now (same i) (body i).streams (body i).equations) c.make_assigned.ensures.limit
 
 pub call_item-returns-in_err-begun-in-Function-clause-limit : goal.call_item-returns-in_err-begun-in-Function-clause-limit
 call_item-returns-in_err-begun-in-Function-clause-limit t c =
@@ -551,22 +551,22 @@ make_stmt-returns-in-For-clause-limit t c =
 pub settle-returns-clause-value : goal.settle-returns-clause-value
 settle-returns-clause-value t c =
     let v = visible_in c.args.items.now c.args.statics.now in
-    let made_on : List EquationShape → Made = λ es. declared_at_operator (plan_of c.args.counted.now.body.expr.now).is_operator (lawful c.args.counted.now.body.width) ((plan_of c.args.counted.now.body.expr.now).making v (streams_in c.args.env.now) es) in
+    let made_on : List EquationShape → Expanded = λ es. declared_at_operator (plan_of c.args.counted.now.body.expr.now).is_operator (lawful c.args.counted.now.body.width) ((plan_of c.args.counted.now.body.expr.now).making v (streams_in c.args.env.now) es) in
     let es = c.args.made.ledger.equations.items in
     let cut_is = shapes_cut c.cut-ledger.result.equations.items es c.args.counted.now.first c.cut-ledger.ensures in
     let less : c.len.result < c.args.counted.now.number = omega (arith, c.if-counted-len.false) in
     let is : made_on (shapes_in c.cut-ledger.result) ≡ longer c.args.counted.now.number (made_on (take c.args.counted.now.first (shapes_in c.args.made.ledger))) (made_of c.args.made) = ap made_on cut_is ∙ sym (longer_counted c.args.counted.now.number c.len.result (made_on (take c.args.counted.now.first (shapes_of es))) es c.args.made.given less (omega arith)) in
-    subst (λ (x : Made). IfOk c.make_body.result (λ m. made_of m ≡ x)) is c.make_body.ensures.value
+    subst (λ (x : Expanded). IfOk c.make_body.result (λ m. made_of m ≡ x)) is c.make_body.ensures.value
 
 pub settle-returns-clause-limit : goal.settle-returns-clause-limit
 settle-returns-clause-limit t c =
     let v = visible_in c.args.items.now c.args.statics.now in
-    let made_on : List EquationShape → Made = λ es. declared_at_operator (plan_of c.args.counted.now.body.expr.now).is_operator (lawful c.args.counted.now.body.width) ((plan_of c.args.counted.now.body.expr.now).making v (streams_in c.args.env.now) es) in
+    let made_on : List EquationShape → Expanded = λ es. declared_at_operator (plan_of c.args.counted.now.body.expr.now).is_operator (lawful c.args.counted.now.body.width) ((plan_of c.args.counted.now.body.expr.now).making v (streams_in c.args.env.now) es) in
     let es = c.args.made.ledger.equations.items in
     let cut_is = shapes_cut c.cut-ledger.result.equations.items es c.args.counted.now.first c.cut-ledger.ensures in
     let less : c.len.result < c.args.counted.now.number = omega (arith, c.if-counted-len.false) in
     let is : made_on (shapes_in c.cut-ledger.result) ≡ longer c.args.counted.now.number (made_on (take c.args.counted.now.first (shapes_in c.args.made.ledger))) (made_of c.args.made) = ap made_on cut_is ∙ sym (longer_counted c.args.counted.now.number c.len.result (made_on (take c.args.counted.now.first (shapes_of es))) es c.args.made.given less (omega arith)) in
-    subst (λ (x : Made). IfErr c.make_body.result (λ s. IsPast s x.equations)) is c.make_body.ensures.limit
+    subst (λ (x : Expanded). IfErr c.make_body.result (λ s. IsPast s x.equations)) is c.make_body.ensures.limit
 
 pub call-returns-in-None-item-clause-value : goal.call-returns-in-None-item-clause-value
 call-returns-in-None-item-clause-value t c =
@@ -577,7 +577,7 @@ pub call-returns-in_err-made-in-Some-item-clause-limit : goal.call-returns-in_er
 call-returns-in_err-made-in-Some-item-clause-limit t c =
     let known = callee_known (known_in c.args.statics.now c.args.name.now) c.in-Some.callee c.in-Some.ensures.value in
     let is = called_is c.args.items.now c.args.statics.now c.enter-frame.new.self c.args.name.now c.in-Some.callee c.in-Some-item.item _ (all_of c.args.all) known c.in-Some-item.is c.enter-frame.ensures.inside c.enter-frame.ensures.known c.requires c.item_at.ensures in
-    let long = ap (λ (m : Made). length m.equations) is in
+    let long = ap (λ (m : Expanded). length m.equations) is in
     passed_on c.from_residual.result c.in_err-made-in-Some-item.field-0.0 _ _ c.from_residual.ensures.1 (omega (arith, long)) c.in_err-made-in-Some-item.ensures.limit
 
 pub make_rec-returns-clause-limit : goal.make_rec-returns-clause-limit

@@ -1,6 +1,6 @@
 use Rattle.std.proofs.Common.{◌≡◌, ◌∙◌, ◌++◌, [], ◌∷◌, None, ap}
 use Rattle.std.proofs.lemmas.Result.{IfOk-from_err}
-use Rattle.pr_expand_spec.specs.Making.{Made}
+use Rattle.pr_expand_spec.specs.Making.{Expanded}
 use Rattle.pr_expand_spec.specs.Expressions.{Visible, assigned}
 use Rattle.pr_expand_spec.specs.Statements.{named}
 use Rattle.pr_expand.specs.Code.{made_of, shapes_in, streams_in}
@@ -25,7 +25,7 @@ returns-clause-outputs c =
     let es = shapes_in c.args.world.progress.ledger in
     let seen = visible_inside c.args.items.now c.args.world.statics c.enter-frame.new.self c.args.number c.requires c.enter-frame.ensures.known c.enter-frame.ensures.inside in
     let made : made_of c.in_ok-made.made ≡ assigned c.args.value.now.width c.args.value.now.expr.now (visible_at c.args.items.now c.args.number) env es = c.in_ok-made.ensures.value ∙ ap (λ (v : Visible). assigned c.args.value.now.width c.args.value.now.expr.now v env es) seen in
-    c.in-Ok.ensures.items ∙ ap (λ (m : Made). c.args.world.outputs.items ++ m.given.operand ∷ []) made
+    c.in-Ok.ensures.items ∙ ap (λ (m : Expanded). c.args.world.outputs.items ++ m.given.operand ∷ []) made
 
 pub returns-in_err-made-clause-progress : goal.returns-in_err-made-clause-progress
 returns-in_err-made-clause-progress c = IfOk-from_err _ _ c.from_residual.ensures.0

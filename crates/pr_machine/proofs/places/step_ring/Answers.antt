@@ -6,7 +6,7 @@ use Rattle.pr_conf.specs.Configuration.{shape_of}
 use Rattle.pr_conf.specs.Through.{steps_of}
 use Rattle.pr_machine_refines.specs.Spots.{shows, stepped}
 use Rattle.pr_machine_refines.proofs.InPlace.{turn_more, all_more, turn_end, turn_kept}
-use Rattle.pr_machine.specs.declared.places.Place.TheVariants as V
+use Rattle.pr_machine.specs.declared.places.StripePlace.TheVariants as V
 use Rattle.pr_stripe.specs.Rows.{entering as row_if}
 use Rattle.pr_machine.specs.Places.{IsHere, seen}
 use Rattle.pr_machine.proofs.places.step_ring.Goals as goal

@@ -4,7 +4,7 @@ use Rattle.pr_conf.specs.Configuration.{shape_of}
 use Rattle.pr_conf.specs.Through.{steps_of}
 use Rattle.pr_machine_refines.specs.Spots.{shows, stepped}
 use Rattle.pr_machine_refines.proofs.InPlace.{IsTurn}
-use Rattle.pr_machine.specs.declared.places.Place.TheVariants as V
+use Rattle.pr_machine.specs.declared.places.StripePlace.TheVariants as V
 use Rattle.pr_stripe.specs.Rows.{entering as row_if}
 use Rattle.pr_machine.specs.Places.{AreHere, seen}
 use Rattle.pr_machine.proofs.places.step_ring.Given as goal

@@ -13,7 +13,7 @@ pub returns-clause-complete : goal.returns-clause-complete
 returns-clause-complete g c = λ files told shelf out. owed_steady (IsVerdict files (asked_by c.args.words.now)) _ _ _ _ c.reply_to-reply.result.answer (called_owed files (asked_by c.args.words.now) (call (g.S.Shelf.view c.args.shelf.now) (g.S.Shelf.view c.reply_to-reply.new.shelf) (g.K.Sink.view c.args.out.now) (g.K.Sink.view c.reply_to-reply.new.out)) c.args.bench.now c.reply_to-reply.new.bench c.reply_to-reply.result.answer told c.reply_to-reply.ensures.called) shelf out
 
 pub returns-clause-lines : goal.returns-clause-lines
-returns-clause-lines g c = λ files order j name target told is plan source. called_lines files (asked_by c.args.words.now) order j name target (call (g.S.Shelf.view c.args.shelf.now) (g.S.Shelf.view c.reply_to-reply.new.shelf) (g.K.Sink.view c.args.out.now) (g.K.Sink.view c.reply_to-reply.new.out)) c.args.bench.now c.reply_to-reply.new.bench c.reply_to-reply.result.answer told is plan source c.reply_to-reply.ensures.called
+returns-clause-lines g c = λ files order j name target told is request source. called_lines files (asked_by c.args.words.now) order j name target (call (g.S.Shelf.view c.args.shelf.now) (g.S.Shelf.view c.reply_to-reply.new.shelf) (g.K.Sink.view c.args.out.now) (g.K.Sink.view c.reply_to-reply.new.out)) c.args.bench.now c.reply_to-reply.new.bench c.reply_to-reply.result.answer told is request source c.reply_to-reply.ensures.called
 
 pub returns-clause-gained : goal.returns-clause-gained
 returns-clause-gained g c = λ files order told is. called_gained files (asked_by c.args.words.now) order (call (g.S.Shelf.view c.args.shelf.now) (g.S.Shelf.view c.reply_to-reply.new.shelf) (g.K.Sink.view c.args.out.now) (g.K.Sink.view c.reply_to-reply.new.out)) c.args.bench.now c.reply_to-reply.new.bench c.reply_to-reply.result.answer told is c.reply_to-reply.ensures.called

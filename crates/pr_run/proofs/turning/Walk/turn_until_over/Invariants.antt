@@ -1,7 +1,7 @@
 use lib.Dec.{eqb}
 use mathlib.Core.Bool.{not}
 use Rattle.std.proofs.Common.{◌≡◌, ◌+◌, ◌-◌, ◌≤◌, ◌^◌, drop, length}
-use Rattle.pr_control.specs.Counts.{drain}
+use Rattle.pr_control.specs.Drain.{drain}
 use Rattle.pr_samples.specs.Stall.{turns_left}
 use Rattle.pr_samples.specs.Feed.{widths_of}
 use Rattle.pr_machine.specs.Stands.{conf_of, stripes_of, time_of}

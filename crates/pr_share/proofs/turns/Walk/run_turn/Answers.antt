@@ -6,7 +6,7 @@ use Rattle.pr_conf.specs.Through.{output_widths}
 use Rattle.pr_run_script.specs.Script.{Run, free, fed, begun, turns}
 use Rattle.pr_run.proofs.NextSamples.{same_file}
 use Rattle.pr_share.specs.Turns.{stages_of}
-use Rattle.pr_share.proofs.Steps.{turn_begin, time_start, set_of, few_turns, given_setting, given_begins, turn_drained, turn_cycle, turn_over, turn_cut, gone_ended, cause_on, cause_as, kept_time, kept_stripes}
+use Rattle.pr_share.proofs.Steps.{turn_begin, time_start, set_of, few_turns, given_setting, given_begins, turn_written, turn_cycle, turn_over, turn_cut, gone_ended, cause_on, cause_as, kept_time, kept_stripes}
 use Rattle.pr_share.proofs.turns.Walk.run_turn.Goals as goal
 
 pub loop-init : goal.loop-init
@@ -52,11 +52,11 @@ returns-then-is_over-clause-turned g c = λ s b.
     let hv = (set_of s c.args.machine.now b.conf b.stripes).some in
     let runs : List (List ℕ) → Run (List ℕ) = λ xs. turns (stages_of s) s.stripes [] c.loop.counter (begun xs) in
     let on = c.feed_step-used.ensures.turning s runs (g.K.Sink.view c.loop.out).told hv (inv.on s b) in
-    let drained = turn_drained s (λ xs. fed (stages_of s) s.stripes free (runs xs)) c.feed_step-used.new.machine c.feed_step-used.new.feed (g.S.Shelf.view c.feed_step-used.new.shelf).told (g.K.Sink.view c.loop.out).told c.feed_step-used.result on
+    let written = turn_written s (λ xs. fed (stages_of s) s.stripes free (runs xs)) c.feed_step-used.new.machine c.feed_step-used.new.feed (g.S.Shelf.view c.feed_step-used.new.shelf).told (g.K.Sink.view c.loop.out).told c.feed_step-used.result on
     c.write_step.new.machine (g.K.Sink.view c.write_step.new.out).told hv (λ h shown. c.in-Ok.ensures.shown s h b.number_is shown) in
-    let gone = sym (c.is_over.ensures.test s drained.history drained.shown.stands) ∙ c.if-is_over.true in
-    turn_over s c.loop.counter c.write_step.new.machine c.feed_step-used.new.feed (g.S.Shelf.view c.feed_step-used.new.shelf).told (g.K.Sink.view c.write_step.new.out).told c.feed_step-used.result hv drained c.args.self.now.quota gone c.feed_step-used.ensures.quota
-    (c.feed_step-used.ensures.spent (gone_ended s c.feed_step-used.result.ended drained.history gone))
+    let gone = sym (c.is_over.ensures.test s written.history written.shown.stands) ∙ c.if-is_over.true in
+    turn_over s c.loop.counter c.write_step.new.machine c.feed_step-used.new.feed (g.S.Shelf.view c.feed_step-used.new.shelf).told (g.K.Sink.view c.write_step.new.out).told c.feed_step-used.result hv written c.args.self.now.quota gone c.feed_step-used.ensures.quota
+    (c.feed_step-used.ensures.spent (gone_ended s c.feed_step-used.result.ended written.history gone))
 
 pub cycle-turn-requires : goal.cycle-turn-requires
 cycle-turn-requires g c =
@@ -81,10 +81,10 @@ loop-preserved g c =
           (let hv = (set_of s c.args.machine.now b.conf b.stripes).some in
           let runs : List (List ℕ) → Run (List ℕ) = λ xs. turns (stages_of s) s.stripes [] c.loop.counter (begun xs) in
           let on = c.feed_step-used.ensures.turning s runs (g.K.Sink.view c.loop.out).told hv (inv.on s b) in
-          let drained = turn_drained s (λ xs. fed (stages_of s) s.stripes free (runs xs)) c.feed_step-used.new.machine c.feed_step-used.new.feed (g.S.Shelf.view c.feed_step-used.new.shelf).told (g.K.Sink.view c.loop.out).told c.feed_step-used.result on
+          let written = turn_written s (λ xs. fed (stages_of s) s.stripes free (runs xs)) c.feed_step-used.new.machine c.feed_step-used.new.feed (g.S.Shelf.view c.feed_step-used.new.shelf).told (g.K.Sink.view c.loop.out).told c.feed_step-used.result on
           c.write_step.new.machine (g.K.Sink.view c.write_step.new.out).told hv (λ h shown. c.in-Ok.ensures.shown s h b.number_is shown) in
-          turn_cycle s c.loop.counter c.write_step.new.machine c.feed_step-used.new.feed (g.S.Shelf.view c.feed_step-used.new.shelf).told (g.K.Sink.view c.write_step.new.out).told c.feed_step-used.result hv drained c.cycle-turn.new.self
-          (sym (c.is_over.ensures.test s drained.history drained.shown.stands) ∙ c.if-is_over.false) (c.cycle-turn.ensures.stands s.conf s.stripes drained.history drained.shown.stands));
+          turn_cycle s c.loop.counter c.write_step.new.machine c.feed_step-used.new.feed (g.S.Shelf.view c.feed_step-used.new.shelf).told (g.K.Sink.view c.write_step.new.out).told c.feed_step-used.result hv written c.cycle-turn.new.self
+          (sym (c.is_over.ensures.test s written.history written.shown.stands) ∙ c.if-is_over.false) (c.cycle-turn.ensures.stands s.conf s.stripes written.history written.shown.stands));
       count = c.feed_step-used.ensures.quota;
       spent = c.feed_step-used.ensures.spent;
       fault = c.feed_step-used.ensures.fault;

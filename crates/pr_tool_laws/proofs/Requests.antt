@@ -12,21 +12,21 @@ use Rattle.pr_tool_modes.specs.Jobs.{Job, job, Resumption, resumed}
 use Rattle.pr_tool_modes.specs.Programs.{inputs_of}
 use Rattle.pr_tool_modes.specs.Resumptions.{IsMoveVerdict}
 use Rattle.pr_tool_modes.specs.Samples.{samples_verdict, whole_file_verdict}
-use Rattle.pr_tool_modes.specs.Sources.{Source, File, Text, most_in}
+use Rattle.pr_tool_modes.specs.Sources.{ConfSource, File, Text, most_in}
 use Rattle.pr_tool_modes.specs.Stalls.{after_stall}
 use Rattle.pr_tool_modes.specs.Texts.{IsTextVerdict}
 use Rattle.pr_tool_words.specs.Lawful.{Order, Task, Run, Trace, Compile, Exec, Eval, Show, Gen, Migrate, Share, Checkpoint, Move, Extend}
-use Rattle.pr_tool.specs.Plans.{plan_for, target_of, resumption}
+use Rattle.pr_tool.specs.Requests.{request_for, target_of, resumption}
 use Rattle.pr_tool.specs.Words.{Asked}
-use Rattle.pr_tool.specs.Calls.{IsPlanVerdict, IsVerdict}
+use Rattle.pr_tool.specs.Calls.{IsRequestVerdict, IsVerdict}
 use Rattle.pr_tool.proofs.CallLemmas.{one_answer}
 use Rattle.pr_compile_verdicts.specs.Verdicts.{ExactlyOne}
 use Rattle.pr_tool_laws.specs.Bytes.{HaveBytes}
 use Rattle.pr_tool_laws.proofs.Sources.{Files, GoodSource, IsMarkOf, file_verdict, file_source, text_good, resumable_or, program_verdict}
 use Rattle.pr_tool_laws.proofs.Lists.{share_verdict}
 
--- ---- one kind of work
-text_verdict : (files : Files) (source : Source) → GoodSource files source → (a : Answer) × IsTextVerdict files source a
+-- ---- one kind of request
+text_verdict : (files : Files) (source : ConfSource) → GoodSource files source → (a : Answer) × IsTextVerdict files source a
 text_verdict files source (inl good) = (Answer.Ok, inr (refl, good))
 text_verdict files source (inr refused) = (refused.0, inl refused.1)
 
@@ -57,7 +57,7 @@ eval_verdict files first second = elim (program_verdict files first) [
 
 -- ---- every task
 module _ (files : Files) (bytes : HaveBytes files) (order : Order) where
-  task_verdict : (task : Task) → (a : Answer) × IsPlanVerdict files (plan_for order task) a
+  task_verdict : (task : Task) → (a : Answer) × IsRequestVerdict files (request_for order task) a
   task_verdict (Show configuration) = text_verdict files (File configuration) (file_source files bytes configuration)
   task_verdict (Migrate configuration) = text_verdict files (File configuration) (file_source files bytes configuration)
   task_verdict (Compile program) = text_verdict files (Text program (target_of order)) (text_good files program (target_of order))

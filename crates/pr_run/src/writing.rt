@@ -6,7 +6,7 @@ ghost use Rattle.pr_conf.specs.Configuration.{shape_of};
 ghost use Rattle.pr_conf.specs.Through.{output_widths};
 ghost use Rattle.pr_machine.specs.Stands.{History, conf_of, result_bytes_of, waiting_results, IsKept};
 ghost use Rattle.pr_run.specs.Setting.{Setting};
-ghost use Rattle.pr_run.specs.Turns.{HasDone, HasBegun, all_taken, drained};
+ghost use Rattle.pr_run.specs.Turns.{HasDone, HasBegun, all_taken, taken_unless};
 
 use pr_conf::Configuration;
 use pr_edge::{Sink, WriteFault};
@@ -57,7 +57,7 @@ fn write_one<const N: usize, const P: usize, K: Sink>(
 
 /// Takes all results that wait, and writes their lines.
 #[inline(always)]
-fn drain<const N: usize, const P: usize, K: Sink>(
+fn write_waiting<const N: usize, const P: usize, K: Sink>(
     machine: &mut Machine<N, P, Running>,
     out: &mut K,
     widths: &[u8],
@@ -84,7 +84,7 @@ fn drain<const N: usize, const P: usize, K: Sink>(
 
 /// Takes all results that wait and writes their lines, unless the output side is held.
 #[inline(always)]
-pub fn drain_step<const N: usize, const P: usize, K: Sink>(
+pub fn write_step<const N: usize, const P: usize, K: Sink>(
     machine: &mut Machine<N, P, Running>,
     out: &mut K,
     widths: &[u8],
@@ -94,9 +94,9 @@ pub fn drain_step<const N: usize, const P: usize, K: Sink>(
     requires widths { widths.now ≡ output_widths (conf_of machine.old) }
     requires bytes { length bytes.old ≡ 1024 }
     ensures done { (s : Setting) (h : History) → HasDone s machine.old (K.view out.old).told h
-        → OnOk result (HasDone s machine.new (K.view out.new).told (drained held s h)) }
+        → OnOk result (HasDone s machine.new (K.view out.new).told (taken_unless held s h)) }
     ensures begun { (s : Setting) (h : History) → HasDone s machine.old (K.view out.old).told h
-        → OnErr result (HasBegun s machine.new (K.view out.new).told (drained held s h)) }
+        → OnErr result (HasBegun s machine.new (K.view out.new).told (taken_unless held s h)) }
     ensures kept { IsKept machine.old machine.new }
     ensures cause { OnErr result (Rose (K.view out.old).faults (K.view out.new).faults) }
     ensures later { (K.view out.old).faults ≤ (K.view out.new).faults }
@@ -108,5 +108,5 @@ pub fn drain_step<const N: usize, const P: usize, K: Sink>(
         return Ok(());
     }
     let size = machine.result_bytes();
-    drain(machine, out, widths, &mut bytes[..size])
+    write_waiting(machine, out, widths, &mut bytes[..size])
 }

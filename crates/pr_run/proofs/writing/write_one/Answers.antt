@@ -8,7 +8,7 @@ use Rattle.pr_run.specs.Setting.{stages_of}
 use Rattle.pr_run.proofs.Bytes.{lawful_widths}
 use Rattle.pr_samples.proofs.ResultLemmas.{on_ok, on_err}
 use Rattle.pr_run.proofs.Lines.{done_take, begun_take, taken_bytes}
-use Rattle.pr_run.proofs.draining.write_one.Goals as goal
+use Rattle.pr_run.proofs.writing.write_one.Goals as goal
 
 pub put_result-requires-clause-widths : goal.put_result-requires-clause-widths
 put_result-requires-clause-widths g c =

@@ -3,7 +3,7 @@ use Rattle.pr_machine_account.specs.Account.{Take}
 use Rattle.pr_machine.specs.Stands.{History, waiting_results, IsKept}
 use Rattle.pr_run.specs.Setting.{Setting}
 use Rattle.pr_run.specs.Turns.{HasDone}
-use Rattle.pr_run.proofs.draining.drain.Given as goal
+use Rattle.pr_run.proofs.writing.write_waiting.Given as goal
 
 abbrev pub invariant-loop : goal.invariant-loop
 invariant-loop g l = record {

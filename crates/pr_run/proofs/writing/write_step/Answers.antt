@@ -2,7 +2,7 @@ use Rattle.std.proofs.Common.{◌≡◌, append-nil, arith}
 use Rattle.pr_machine_account.specs.Account.{account}
 use Rattle.pr_run_script.specs.Script.{waiting}
 use Rattle.pr_run.specs.Setting.{stages_of}
-use Rattle.pr_run.proofs.draining.drain_step.Goals as goal
+use Rattle.pr_run.proofs.writing.write_step.Goals as goal
 
 pub returns-then-waiting_out-eq0-clause-done : goal.returns-then-waiting_out-eq0-clause-done
 returns-then-waiting_out-eq0-clause-done g c = λ s h done.

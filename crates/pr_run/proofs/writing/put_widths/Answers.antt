@@ -2,7 +2,7 @@ use Rattle.std.proofs.Common.{map, arith, ◌∙◌}
 use Rattle.std.proofs.lemmas.List.{length-map, length-set}
 use Rattle.pr_conf.specs.Shape.{output_shape}
 use Rattle.pr_run.proofs.Bytes.{few_outputs, widths_step}
-use Rattle.pr_run.proofs.draining.put_widths.Goals as goal
+use Rattle.pr_run.proofs.writing.put_widths.Goals as goal
 
 pub loop-i-preserved : goal.loop-i-preserved
 loop-i-preserved g c =

@@ -1,19 +1,19 @@
-//! What is done for a command line.
+//! What a command line asks for.
 ghost use Rattle.std.specs.Prelude.{◌≡◌, false, option_map};
 ghost use Rattle.pr_tool_words.specs.Orders.{order_of};
 ghost use Rattle.pr_tool_modes.specs.Jobs.{job, stall_in, source_of, resumption_of};
 ghost use Rattle.pr_tool_modes.specs.Sources.{File, Text};
-ghost use Rattle.pr_tool.specs.Plans.{Texts, Runs, Folds, plan_of, plan_in};
+ghost use Rattle.pr_tool.specs.Requests.{Texts, Runs, Folds, request_of, request_in};
 
-use pr_tool_modes::{Form, Generation, Job, Resumption, Run, Source, Target};
+use pr_tool_modes::{ConfSource, Form, Generation, Job, Resumption, Run, Target};
 use pr_tool_share::Sharing;
 use pr_tool_words::{GenSize, Mode, Options, Words};
 
-/// What is done for a command line.
+/// What a command line asks for.
 #[derive(Clone, Copy, PartialEq, Eq, Debug)]
-pub enum Plan<'a> {
+pub enum Request<'a> {
     /// Write a configuration, as its file or its summary.
-    Texts { form: Form, source: Source<'a> },
+    Texts { form: Form, source: ConfSource<'a> },
     /// Run a configuration on samples.
     Runs(Job<'a>),
     /// Run a configuration on samples, and write the checkpoint after them.
@@ -41,27 +41,27 @@ fn target(options: &Options<'_>) -> Target
 }
 
 /// A configuration file.
-fn file(name: &str) -> Source<'_>
+fn file(name: &str) -> ConfSource<'_>
     ensures { source_of result ≡ File name.now }
 {
-    Source::File { name }
+    ConfSource::File { name }
 }
 
 /// The file of a program, with the options of a command line.
-fn program<'a>(options: &Options<'a>, name: &'a str) -> Source<'a>
+fn program<'a>(options: &Options<'a>, name: &'a str) -> ConfSource<'a>
     ensures { source_of result ≡ Text name.now (record { fabric = options.now.fabric; narrowed = options.now.narrow }) }
 {
-    Source::Program {
+    ConfSource::Program {
         name,
         target: target(options),
     }
 }
 
 /// A text of the configuration of a source.
-fn texts<'a>(form: Form, source: Source<'a>) -> Plan<'a>
-    ensures { plan_in result ≡ Texts form (source_of source.entry) }
+fn texts<'a>(form: Form, source: ConfSource<'a>) -> Request<'a>
+    ensures { request_in result ≡ Texts form (source_of source.entry) }
 {
-    Plan::Texts { form, source }
+    Request::Texts { form, source }
 }
 
 /// A run of a generated program, with the options of a command line.
@@ -109,23 +109,28 @@ fn resumption<'a>(options: &Options<'a>, checkpoint: &'a str, samples: &'a str) 
 }
 
 /// A run of a source on samples, with the options of a command line.
-fn runs<'a>(options: &Options<'a>, source: Source<'a>, samples: &'a str, log: bool) -> Plan<'a>
-    ensures { plan_in result ≡ Runs
+fn runs<'a>(
+    options: &Options<'a>,
+    source: ConfSource<'a>,
+    samples: &'a str,
+    log: bool,
+) -> Request<'a>
+    ensures { request_in result ≡ Runs
         (job (source_of source.entry) samples.now (option_map (λ s. s.now) options.now.stall) options.now.stripes log) }
 {
-    Plan::Runs(Job {
+    Request::Runs(Job {
         source,
         run: run_on(options, samples, log),
     })
 }
 
 /// A run of a source for the checkpoint after these samples, with the options of a command line.
-fn folds<'a>(options: &Options<'a>, source: Source<'a>, samples: &'a str) -> Plan<'a>
-    ensures { plan_in result ≡ Folds
+fn folds<'a>(options: &Options<'a>, source: ConfSource<'a>, samples: &'a str) -> Request<'a>
+    ensures { request_in result ≡ Folds
         (job (source_of source.entry) samples.now (option_map (λ s. s.now) options.now.stall) options.now.stripes
         false) }
 {
-    Plan::Folds(Job {
+    Request::Folds(Job {
         source,
         run: run_on(options, samples, false),
     })
@@ -143,8 +148,8 @@ fn sharing<'a>(options: &Options<'_>, list: &'a str) -> Sharing<'a>
 }
 
 /// What is done for a lawful command line.
-pub fn plan_of<'a>(words: &Words<'a>) -> Plan<'a>
-    ensures { plan_in result ≡ plan_of (order_of words.now) }
+pub fn request_of<'a>(words: &Words<'a>) -> Request<'a>
+    ensures { request_in result ≡ request_of (order_of words.now) }
 {
     let options = &words.options;
     match words.mode {
@@ -167,16 +172,16 @@ pub fn plan_of<'a>(words: &Words<'a>) -> Plan<'a>
             program: name,
             samples,
         } => folds(options, program(options, name), samples),
-        Mode::Eval { program, samples } => Plan::Evaluates { program, samples },
-        Mode::Gen { size } => Plan::Generates(generation(options, size)),
+        Mode::Eval { program, samples } => Request::Evaluates { program, samples },
+        Mode::Gen { size } => Request::Generates(generation(options, size)),
         Mode::Move {
             checkpoint,
             samples,
-        } => Plan::Moves(resumption(options, checkpoint, samples)),
+        } => Request::Moves(resumption(options, checkpoint, samples)),
         Mode::Extend {
             checkpoint,
             samples,
-        } => Plan::Extends(resumption(options, checkpoint, samples)),
-        Mode::Share { list } => Plan::Shares(sharing(options, list)),
+        } => Request::Extends(resumption(options, checkpoint, samples)),
+        Mode::Share { list } => Request::Shares(sharing(options, list)),
     }
 }

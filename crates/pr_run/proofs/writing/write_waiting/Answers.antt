@@ -9,7 +9,7 @@ use Rattle.pr_run_script.specs.Script.{waiting}
 use Rattle.pr_run.specs.Setting.{stages_of}
 use Rattle.pr_run.specs.Turns.{HasDone}
 use Rattle.pr_run.proofs.Lines.{takes_more, takes_front, begun_within, kept_on}
-use Rattle.pr_run.proofs.draining.drain.Goals as goal
+use Rattle.pr_run.proofs.writing.write_waiting.Goals as goal
 
 pub write_one-requires : goal.write_one-requires
 write_one-requires g c =
